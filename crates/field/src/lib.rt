@@ -1,0 +1,178 @@
+// The table of fields, the bitmap, and the test of a field's contents (document 01, "Message bytes", rules 4 to 8).
+ghost use mathlib.Core.Path.{_≡_};
+ghost use Rattle.field.specs.Table.{formats, indicators, among};
+ghost use Rattle.field.specs.Bitmap.{names, listed};
+ghost use Rattle.field.specs.Contents.{size, allowed, allPrintable, fault};
+
+// What a field holds: packed digits, printable bytes, or bytes of every value.
+pub enum Class {
+    Digits,
+    Printable,
+    Any,
+}
+
+// Whether the field's count stands before it, in one byte or in two.
+pub enum Prefix {
+    Absent,
+    One,
+    Two,
+}
+
+// A field's form: the count of its digits or bytes is low to high.
+pub struct Format {
+    pub number: u8,
+    pub class: Class,
+    pub prefix: Prefix,
+    pub low: u8,
+    pub high: u8,
+}
+
+// The fields of a message in ascending order.
+const FORMATS: [Format; 23] = [
+    Format { number: 2, class: Class::Digits, prefix: Prefix::One, low: 13, high: 19 },
+    Format { number: 3, class: Class::Digits, prefix: Prefix::Absent, low: 6, high: 6 },
+    Format { number: 4, class: Class::Digits, prefix: Prefix::Absent, low: 12, high: 12 },
+    Format { number: 11, class: Class::Digits, prefix: Prefix::Absent, low: 6, high: 6 },
+    Format { number: 12, class: Class::Digits, prefix: Prefix::Absent, low: 6, high: 6 },
+    Format { number: 13, class: Class::Digits, prefix: Prefix::Absent, low: 4, high: 4 },
+    Format { number: 14, class: Class::Digits, prefix: Prefix::Absent, low: 4, high: 4 },
+    Format { number: 15, class: Class::Digits, prefix: Prefix::Absent, low: 4, high: 4 },
+    Format { number: 22, class: Class::Digits, prefix: Prefix::Absent, low: 3, high: 3 },
+    Format { number: 25, class: Class::Digits, prefix: Prefix::Absent, low: 2, high: 2 },
+    Format { number: 32, class: Class::Digits, prefix: Prefix::One, low: 1, high: 11 },
+    Format { number: 37, class: Class::Printable, prefix: Prefix::Absent, low: 12, high: 12 },
+    Format { number: 38, class: Class::Printable, prefix: Prefix::Absent, low: 6, high: 6 },
+    Format { number: 39, class: Class::Printable, prefix: Prefix::Absent, low: 2, high: 2 },
+    Format { number: 41, class: Class::Printable, prefix: Prefix::Absent, low: 8, high: 8 },
+    Format { number: 42, class: Class::Printable, prefix: Prefix::Absent, low: 15, high: 15 },
+    Format { number: 44, class: Class::Any, prefix: Prefix::One, low: 0, high: 25 },
+    Format { number: 48, class: Class::Digits, prefix: Prefix::Two, low: 62, high: 62 },
+    Format { number: 49, class: Class::Printable, prefix: Prefix::Absent, low: 3, high: 3 },
+    Format { number: 60, class: Class::Digits, prefix: Prefix::Two, low: 11, high: 11 },
+    Format { number: 61, class: Class::Digits, prefix: Prefix::Two, low: 16, high: 16 },
+    Format { number: 63, class: Class::Any, prefix: Prefix::Two, low: 3, high: 63 },
+    Format { number: 64, class: Class::Any, prefix: Prefix::Absent, low: 8, high: 8 },
+];
+
+pub fn table() -> [Format; 23]
+    ensures { λ r. ⌜ r ≡ formats ⌝ }
+{
+    FORMATS
+}
+
+fn wide(x: u8) -> usize
+    ensures { λ r. ⌜ r ≡ x ⌝ }
+{
+    x as usize
+}
+
+// The types of document 01.
+const INDICATORS: [u16; 12] = [
+    0x0100, 0x0110, 0x0200, 0x0210, 0x0220, 0x0230, 0x0320, 0x0330, 0x0400, 0x0410, 0x0500, 0x0510,
+];
+
+// Rule 4: whether a message type indicator is listed.
+pub fn listed_indicator(x: u16) -> bool
+    ensures { λ r. ⌜ r ≡ among x indicators ⌝ }
+{
+    let list = INDICATORS;
+    let mut i = 0;
+    while i < 12 {
+        if list[i] == x {
+            return true;
+        }
+        i += 1;
+    }
+    false
+}
+
+// Whether a bitmap names field n; field 1 is the top bit of the first byte.
+pub fn named(bm: &[u8; 8], n: u8) -> bool
+    ensures { λ r. ⌜ r ≡ names (now (bm .entry)) n ⌝ }
+{
+    let s: &[u8] = bm;
+    if n == 0 {
+        return false;
+    }
+    if 64 < n {
+        return false;
+    }
+    let i = wide(n) - 1;
+    let k = 7 - i % 8;
+    (s[i / 8] >> k) % 2 == 1
+}
+
+// The bits of each bitmap byte that stand for no field of the table.
+const UNLISTED: [u8; 8] = [0x8F, 0xC1, 0xFB, 0x7E, 0xF1, 0x2E, 0x7F, 0xE4];
+
+// Rule 5: whether a bitmap names only fields of the table.
+pub fn all_listed(bm: &[u8; 8]) -> bool
+    ensures { λ r. ⌜ r ≡ listed (now (bm .entry)) ⌝ }
+{
+    let unlisted = UNLISTED;
+    let mut j = 0;
+    while j < 8 {
+        if bm[j] & unlisted[j] != 0 {
+            return false;
+        }
+        j += 1;
+    }
+    true
+}
+
+// The bytes that n digits or bytes take.
+pub fn size_of(class: Class, n: u8) -> usize
+    ensures { λ r. ⌜ r ≡ size class n ⌝ }
+{
+    match class {
+        Class::Digits => (wide(n) + 1) / 2,
+        Class::Printable => wide(n),
+        Class::Any => wide(n),
+    }
+}
+
+// Rule 7: whether a field may have n digits or bytes.
+pub fn is_allowed(f: Format, n: usize) -> bool
+    ensures { λ r. ⌜ r ≡ allowed f n ⌝ }
+{
+    (wide(f.low) <= n) & (n <= wide(f.high))
+}
+
+// Rule 8: whether each byte is 20 to 7E.
+fn all_printable(s: &[u8]) -> bool
+    ensures { λ r. ⌜ r ≡ allPrintable (now (s .entry)) ⌝ }
+{
+    let mut i = 0;
+    while i < s.len() {
+        let b = s[i];
+        if b < 0x20 {
+            return false;
+        }
+        if 0x7E < b {
+            return false;
+        }
+        i += 1;
+    }
+    true
+}
+
+// What contents b of n digits or bytes are refused for: 6, 8, or 0 for nothing.
+pub fn fault_of(class: Class, n: u8, b: &[u8]) -> u8
+    ensures { λ r. ⌜ r ≡ fault class n (now (b .entry)) ⌝ }
+{
+    match class {
+        Class::Digits => {
+            if digits::is_packed(b, wide(n)) {
+                return 0;
+            }
+            6
+        }
+        Class::Printable => {
+            if all_printable(b) {
+                return 0;
+            }
+            8
+        }
+        Class::Any => 0,
+    }
+}

@@ -1,0 +1,115 @@
+-- `reading::read` meets its contract.
+use mathlib.Core.Path.{sym, _∙_}
+use borrow.Author.Needs.{needs}
+use borrow.Author.Tests.{lt-ltb, le-ltb}
+use native.Mathlib.Omega.{arith}
+use Rattle.reading.specs.Reading.{readMessage}
+use Rattle.digits.proofs.Lists.{tail-part}
+use Rattle.reading.proofs.Fields.{bitmap-copied}
+use Rattle.reading.proofs.read.Statement.{statement}
+use Rattle.reading.proofs.read.Tie as tie
+
+refusal-requires : tie.Need-refusal-requires
+refusal-requires c κs = search needs
+
+returns : tie.Need-returns
+unfolding readMessage
+returns c = rw (c .refusal .ensures, lt-ltb _ _ (c .before .if1 .taken))
+
+shared-slice-read-wide : tie.Need-shared-slice-read-wide
+shared-slice-read-wide c = search needs
+
+wide-requires : tie.Need-wide-requires
+wide-requires c κs = search needs
+
+mul-indicator : tie.Need-mul-indicator
+mul-indicator c = omega (arith, c .before .shared-slice-known2 .given 0)
+
+shared-slice-read-wide-2 : tie.Need-shared-slice-read-wide-2
+shared-slice-read-wide-2 c = search needs
+
+wide-requires-2 : tie.Need-wide-requires-2
+wide-requires-2 c κs = search needs
+
+add-indicator : tie.Need-add-indicator
+add-indicator c = omega (arith, c .before .before .before .shared-slice-known2 .given 0, c .before .shared-slice-known3 .given 1)
+
+listed-indicator-requires : tie.Need-listed-indicator-requires
+listed-indicator-requires c κs = search needs
+
+sub-copy : tie.Need-sub-copy
+sub-copy c = search needs
+
+part-copy-start : tie.Need-part-copy-start
+part-copy-start c = search needs
+
+part-copy-end : tie.Need-part-copy-end
+part-copy-end c = search needs
+
+slice-aggregate-copy : tie.Need-slice-aggregate-copy
+slice-aggregate-copy c = search needs
+
+copy-requires : tie.Need-copy-requires
+copy-requires c κs = search needs
+
+all-listed-requires : tie.Need-all-listed-requires
+all-listed-requires c κs = search needs
+
+sub-read-fields : tie.Need-sub-read-fields
+sub-read-fields c = search needs
+
+part-read-fields-start : tie.Need-part-read-fields-start
+part-read-fields-start c = search needs
+
+part-read-fields-end : tie.Need-part-read-fields-end
+part-read-fields-end c = search needs
+
+read-fields-requires : tie.Need-read-fields-requires
+read-fields-requires c κs = search needs
+
+returns-2 : tie.Need-returns-2
+unfolding readMessage
+returns-2 c = rw (le-ltb _ _ (c .before .before .before .before .before .before .before .before .before .before .before .before .before .before .before .if1 .left), ← c .before .before .before .before .before .before .before .before .before .before .before .before .before .wide .ensures, ← c .before .before .before .before .before .before .before .before .before .before .before .wide2 .ensures, sym (c .before .before .before .before .before .before .before .before .before .before .listed-indicator .ensures) ∙ c .before .before .before .before .before .before .before .before .before .if2 .taken, ← bitmap-copied _ _ (c .before .before .before .before .before .before .before .before .before .before .before .before .before .before .before .if1 .left) (c .before .before .before .before .before .before .copy .ensures .1), sym (c .before .before .before .all-listed .ensures) ∙ c .before .before .if3 .taken) (c .read-fields .ensures ∙ rw tail-part)
+
+refusal-requires-2 : tie.Need-refusal-requires-2
+refusal-requires-2 c κs = search needs
+
+returns-3 : tie.Need-returns-3
+unfolding readMessage
+returns-3 c = rw (c .refusal2 .ensures, le-ltb _ _ (c .before .before .before .before .before .before .before .before .before .before .before .before .before .before .if1 .left), ← c .before .before .before .before .before .before .before .before .before .before .before .before .wide .ensures, ← c .before .before .before .before .before .before .before .before .before .before .wide2 .ensures, sym (c .before .before .before .before .before .before .before .before .before .listed-indicator .ensures) ∙ c .before .before .before .before .before .before .before .before .if2 .taken, ← bitmap-copied _ _ (c .before .before .before .before .before .before .before .before .before .before .before .before .before .before .if1 .left) (c .before .before .before .before .before .copy .ensures .1), sym (c .before .before .all-listed .ensures) ∙ c .before .if3 .left)
+
+refusal-requires-3 : tie.Need-refusal-requires-3
+refusal-requires-3 c κs = search needs
+
+returns-4 : tie.Need-returns-4
+unfolding readMessage
+returns-4 c = rw (c .refusal3 .ensures, le-ltb _ _ (c .before .before .before .before .before .before .before .if1 .left), ← c .before .before .before .before .before .wide .ensures, ← c .before .before .before .wide2 .ensures, sym (c .before .before .listed-indicator .ensures) ∙ c .before .if2 .left)
+
+pub read-spec : {M : Type 1} → statement M
+read-spec =
+    tie.close
+    (tie.spec
+    refusal-requires
+    returns
+    shared-slice-read-wide
+    wide-requires
+    mul-indicator
+    shared-slice-read-wide-2
+    wide-requires-2
+    add-indicator
+    listed-indicator-requires
+    sub-copy
+    part-copy-start
+    part-copy-end
+    slice-aggregate-copy
+    copy-requires
+    all-listed-requires
+    sub-read-fields
+    part-read-fields-start
+    part-read-fields-end
+    read-fields-requires
+    returns-2
+    refusal-requires-2
+    returns-3
+    refusal-requires-3
+    returns-4)

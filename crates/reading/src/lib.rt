@@ -1,0 +1,88 @@
+// Reading a message (document 01, rules 3 to 9).
+use message::Message;
+use span::Span;
+
+ghost use mathlib.Core.Path.{_≡_};
+ghost use Rattle.field.specs.Table.{formats};
+ghost use Rattle.reading.specs.Reading.{refused, assembled, readFields, readMessage};
+
+// A message was read, or the bytes are refused by a number of document 01.
+pub enum Outcome {
+    Read,
+    Refused(u8),
+}
+
+// The outcome, and the message where one was read.
+pub struct Reading {
+    pub outcome: Outcome,
+    pub message: Message,
+}
+
+fn refusal(e: u8) -> Reading
+    ensures { λ r. ⌜ r ≡ refused e ⌝ }
+{
+    let message = Message::new();
+    Reading { outcome: Outcome::Refused(e), message: message }
+}
+
+// The message of a type, a bitmap and the fields in s.
+fn read_fields(indicator: u16, bitmap: [u8; 8], s: &[u8]) -> Reading
+    ensures { λ r. ⌜ r ≡ assembled indicator bitmap (readFields formats bitmap (now (s .entry))) ⌝ }
+{
+    let table = field::table();
+    let mut counts = [0u8; 23];
+    let mut contents = [0u8; 227];
+    let mut at = 0;
+    let mut to = 0;
+    let mut k = 0;
+    while k < 23 {
+        let f = table[k];
+        let class = f.class;
+        let t = span::span_of(f, &bitmap, &s[at..]);
+        match t {
+            Span::Refused(e) => {
+                return refusal(e);
+            }
+            Span::Held { count, skip, size } => {
+                let from = at + skip;
+                let end = from + size;
+                let past = to + size;
+                bytes::copy(&s[from..end], &mut contents[to..past]);
+                counts[k] = count;
+                at = end;
+            }
+        }
+        to += field::size_of(class, f.high);
+        k += 1;
+    }
+    if at < s.len() {
+        return refusal(9);
+    }
+    let message = Message { indicator: indicator, bitmap: bitmap, counts: counts, contents: contents };
+    Reading { outcome: Outcome::Read, message: message }
+}
+
+fn wide(x: u8) -> u16
+    ensures { λ r. ⌜ r ≡ x ⌝ }
+{
+    x as u16
+}
+
+// Reads a message from bytes of any length.
+pub fn read(s: &[u8]) -> Reading
+    ensures { λ r. ⌜ r ≡ readMessage (now (s .entry)) ⌝ }
+{
+    if s.len() < 10 {
+        return refusal(3);
+    }
+    let indicator = wide(s[0]) * 256 + wide(s[1]);
+    if field::listed_indicator(indicator) {
+        let mut bitmap = [0u8; 8];
+        bytes::copy(&s[2..10], &mut bitmap);
+        if field::all_listed(&bitmap) {
+            return read_fields(indicator, bitmap, &s[10..]);
+        }
+        return refusal(5);
+    }
+    refusal(4)
+}

@@ -1,0 +1,3 @@
+-- Laws of one field, for the proofs of this crate and of those above it.
+pub mod Held
+pub mod Bytes

@@ -1,0 +1,47 @@
+-- One field on the wire: document 01, "Why a call is turned down", "length before contents, 3, 6, 7, 8 at the first fault".
+use mathlib.Core.List.{List, _++_}
+use mathlib.Core.Bool.{cond}
+use Prim.Native.Nat.{ℕ, _*_}
+use lib.Dec.{ltb, eqb}
+use lib.ListN.{length, take, drop}
+use Rattle.digits.specs.Digits.{pack, unpack, isPacked}
+use Rattle.digits.specs.Numbers.{value, digitsOf}
+use Rattle.field.specs.Bitmap.{names}
+use Rattle.field.specs.Contents.{size, skip, allowed, fault}
+use Rattle.field.specs.declared.Prefix.{Prefix}
+use Rattle.field.specs.declared.Prefix.the-variants.{Absent, One, Two}
+use Rattle.field.specs.declared.Format.{Format}
+use Rattle.span.specs.declared.Span.{Span}
+use Rattle.span.specs.declared.Span.the-variants.{Held, Refused}
+
+-- the count that the length bytes h say; with no length the field has only one count
+abbrev pub countIn : Prefix → ℕ → List ℕ → ℕ
+countIn Absent high h = high
+countIn One high h = value (unpack 2 h)
+countIn Two high h = value (unpack 4 h)
+
+-- the contents of n digits or bytes at the front of s
+unfoldable pub contentsAt : Format → ℕ → List ℕ → Span
+contentsAt f n s =
+    cond (allowed f n)
+      (cond (ltb (length s) (size (f .class) n)) (Refused 3)
+        (cond (eqb (fault (f .class) n (take (size (f .class) n) s)) 0)
+          (Held n (skip (f .prefix)) (size (f .class) n))
+          (Refused (fault (f .class) n (take (size (f .class) n) s)))))
+      (Refused 7)
+
+-- the field at the front of s, length before contents: 3, 6, 7, then 3, 6, 8
+unfoldable pub spanAt : Format → List ℕ → Span
+spanAt f s =
+    cond (ltb (length s) (skip (f .prefix))) (Refused 3)
+      (cond (isPacked (2 * skip (f .prefix)) (take (skip (f .prefix)) s))
+        (contentsAt f (countIn (f .prefix) (f .high) (take (skip (f .prefix)) s)) (drop (skip (f .prefix)) s))
+        (Refused 6))
+
+-- a field that the bitmap does not name takes no bytes
+unfoldable pub span : Format → List ℕ → List ℕ → Span
+span f bm s = cond (names bm (f .number)) (spanAt f s) (Held 0 0 0)
+
+-- a field's bytes: its count, packed to the right, then its contents
+unfoldable pub fieldBytes : Format → ℕ → List ℕ → List ℕ
+fieldBytes f n b = pack (digitsOf (2 * skip (f .prefix)) n) ++ b
