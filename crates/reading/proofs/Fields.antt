@@ -18,7 +18,8 @@ use Rattle.span.specs.Span.{span}
 use Rattle.span.specs.declared.Span.{Span}
 use Rattle.span.specs.declared.Span.the-variants.{Held, Refused}
 use Rattle.span.proofs.Held.{Fits, span-fits}
-use Rattle.reading.specs.Reading.{Fields, bad, good, prepend, padded, afterSpan, readFields, bitmapOf}
+use Rattle.message.specs.Build.{padded}
+use Rattle.reading.specs.Reading.{Fields, bad, good, prepend, afterSpan, readFields, bitmapOf}
 
 -- the places of the fields of a table
 abbrev pub rooms : List Format → ℕ

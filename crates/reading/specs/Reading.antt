@@ -1,9 +1,9 @@
 -- Document 01, "Message bytes" and rules 3 to 9: type, bitmap, then fields ascending.
 use mathlib.Core.List.{List, [], _∷_, _++_}
 use mathlib.Core.Bool.{cond}
-use Prim.Native.Nat.{ℕ, _+_, _*_, _-_}
+use Prim.Native.Nat.{ℕ, _+_, _*_}
 use lib.Dec.{ltb, eqb}
-use lib.ListN.{length, getD, take, drop, replicate}
+use lib.ListN.{length, getD, take, drop}
 use Rattle.field.specs.Table.{among, indicators, formats}
 use Rattle.field.specs.Bitmap.{listed}
 use Rattle.field.specs.Contents.{room}
@@ -12,6 +12,7 @@ use Rattle.span.specs.Span.{span}
 use Rattle.span.specs.declared.Span.{Span}
 use Rattle.span.specs.declared.Span.the-variants.{Held, Refused}
 use Rattle.message.specs.Message.{empty}
+use Rattle.message.specs.Build.{padded}
 use Rattle.message.specs.declared.Message.{Message}
 use Rattle.reading.specs.declared.Outcome.{Outcome}
 use Rattle.reading.specs.declared.Outcome.the-variants.{Read, Refused as Not}
@@ -25,10 +26,6 @@ pub data Fields : Type 0 where
 abbrev pub prepend : List ℕ → List ℕ → Fields → Fields
 prepend cs bs (bad e) = bad e
 prepend cs bs (good cs′ bs′) = good (cs ++ cs′) (bs ++ bs′)
-
--- b, filled up with zeros to n bytes
-abbrev pub padded : ℕ → List ℕ → List ℕ
-padded n b = b ++ replicate (n - length b) 0
 
 abbrev pub afterSpan : Format → List ℕ → (List ℕ → Fields) → Span → Fields
 afterSpan f s next (Refused e) = bad e

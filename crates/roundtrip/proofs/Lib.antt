@@ -1,0 +1,3 @@
+-- Proofs of the theorems of specs/Theorems.antt.
+pub mod Fields
+pub mod Messages

@@ -1,0 +1,72 @@
+-- Document 01, "Read and write a message": writing is judged by 1 (the message buffer alone), then 4 to 8 in the reading's order.
+use mathlib.Core.Path.{_≡_}
+use mathlib.Core.List.{List, [], _∷_, _++_}
+use mathlib.Core.Bool.{cond}
+use Prim.Native.Nat.{ℕ, _/_, _%_}
+use lib.Dec.{ltb, eqb}
+use lib.ListN.{length, getD, take, drop}
+use Rattle.field.specs.Table.{among, indicators, formats}
+use Rattle.field.specs.Bitmap.{names, listed}
+use Rattle.field.specs.Contents.{size, room, allowed, fault}
+use Rattle.field.specs.declared.Format.{Format}
+use Rattle.span.specs.Span.{fieldBytes}
+use Rattle.message.specs.Message.{largest}
+use Rattle.message.specs.declared.Message.{Message}
+use Rattle.writing.specs.declared.Writing.{Writing}
+use Rattle.writing.specs.declared.Writing.the-variants.{Written, Refused}
+
+-- what a field of n digits or bytes, with bs at its place, is refused for: length before contents; 0 for nothing
+unfoldable pub fieldFault : Format → List ℕ → ℕ → List ℕ → ℕ
+fieldFault f bm n bs =
+    cond (names bm (f .number)) (cond (allowed f n) (fault (f .class) n (take (size (f .class) n) bs)) 7) 0
+
+-- the first fault of the fields of a table, ascending
+unfoldable pub fieldsFault : List Format → List ℕ → List ℕ → List ℕ → ℕ
+fieldsFault [] bm cs bs = 0
+fieldsFault (f ∷ fs) bm cs bs =
+    cond (eqb (fieldFault f bm (getD cs 0 0) bs) 0)
+      (fieldsFault fs bm (drop 1 cs) (drop (room f) bs))
+      (fieldFault f bm (getD cs 0 0) bs)
+
+-- the bytes of a field, none where the bitmap does not name it
+unfoldable pub namedBytes : Format → List ℕ → ℕ → List ℕ → List ℕ
+namedBytes f bm n bs = cond (names bm (f .number)) (fieldBytes f n (take (size (f .class) n) bs)) []
+
+unfoldable pub fieldsBytes : List Format → List ℕ → List ℕ → List ℕ → List ℕ
+fieldsBytes [] bm cs bs = []
+fieldsBytes (f ∷ fs) bm cs bs = namedBytes f bm (getD cs 0 0) bs ++ fieldsBytes fs bm (drop 1 cs) (drop (room f) bs)
+
+-- type, bitmap, then fields ascending
+abbrev pub head : Message → List ℕ
+head m = m .indicator / 256 ∷ m .indicator % 256 ∷ m .bitmap
+
+unfoldable pub messageBytes : Message → List ℕ
+messageBytes m = head m ++ fieldsBytes formats (m .bitmap) (m .counts) (m .contents)
+
+-- 0, or the number that a message is refused by, 4 to 8
+unfoldable pub messageFault : Message → ℕ
+messageFault m =
+    cond (among (m .indicator) indicators)
+      (cond (listed (m .bitmap)) (fieldsFault formats (m .bitmap) (m .counts) (m .contents)) 5)
+      4
+
+-- the answer of a call with the message buffer after it
+pub record Result : Type 0 where
+  pub outcome : Writing
+  pub buffer : List ℕ
+
+abbrev pub written : Writing → List ℕ → Result
+written r o = record { outcome = r; buffer = o }
+
+-- bytes past a written message stay; a refusal leaves the buffer
+unfoldable pub writeMessage : Message → List ℕ → Result
+writeMessage m o =
+    cond (ltb (length o) largest) (written (Refused 1) o)
+      (cond (eqb (messageFault m) 0)
+        (written (Written (length (messageBytes m))) (messageBytes m ++ drop (length (messageBytes m)) o))
+        (written (Refused (messageFault m)) o))
+
+-- o′ is o with bs, n bytes, at its front
+pub record Put (bs o : List ℕ) (n : ℕ) (o′ : List ℕ) : Type 0 where
+  pub count : n ≡ length bs
+  pub bytes : o′ ≡ bs ++ drop n o
