@@ -19,16 +19,8 @@ use Rattle.span.specs.declared.Span.{Span}
 use Rattle.span.specs.declared.Span.the-variants.{Held, Refused}
 use Rattle.span.proofs.Held.{Fits, span-fits}
 use Rattle.message.specs.Build.{padded}
+use Rattle.message.proofs.Places.{rooms, rooms-formats}
 use Rattle.reading.specs.Reading.{Fields, bad, good, prepend, afterSpan, readFields, bitmapOf}
-
--- the places of the fields of a table
-abbrev pub rooms : List Format → ℕ
-rooms [] = 0
-rooms (f ∷ fs) = room f + rooms fs
-
-pub rooms-formats : rooms formats ≡ 227
-unfolding formats
-rooms-formats = refl
 
 -- the fields before k are read: their counts and contents stand at the front, and zeros after the contents
 pub record ReadTo (bm s : List ℕ) (k at to : ℕ) (cs bs : List ℕ) : Type 0 where

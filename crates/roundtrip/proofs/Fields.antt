@@ -20,7 +20,7 @@ use Rattle.span.proofs.Bytes.{wellFormed, length-field, drop-prefix, span-back,
 use Rattle.message.specs.Message.{Field, fieldIn}
 use Rattle.message.specs.Build.{padded}
 use Rattle.reading.specs.Reading.{Fields, bad, good, prepend, afterSpan, readFields}
-use Rattle.reading.proofs.Fields.{rooms}
+use Rattle.message.proofs.Places.{rooms}
 use Rattle.writing.specs.Writing.{fieldFault, fieldsFault, namedBytes, fieldsBytes}
 use Rattle.writing.proofs.Faults.{field-sound, fields-sound}
 

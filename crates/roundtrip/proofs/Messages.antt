@@ -17,7 +17,7 @@ use Rattle.message.specs.declared.Message.{Message}
 use Rattle.reading.specs.Reading.{Fields, bad, good, readFields, refused, assembled, indicatorOf, bitmapOf, readMessage}
 use Rattle.reading.specs.declared.Reading.{Reading}
 use Rattle.reading.specs.declared.Outcome.the-variants.{Read, Refused as Not}
-use Rattle.reading.proofs.Fields.{rooms, rooms-formats}
+use Rattle.message.proofs.Places.{rooms, rooms-formats}
 use Rattle.writing.specs.Writing.{Result, fieldsFault, fieldsBytes, messageBytes, messageFault, written, writeMessage}
 use Rattle.writing.specs.declared.Writing.the-variants.{Written, Refused}
 use Rattle.writing.proofs.Faults.{Writable, fault-inversion}

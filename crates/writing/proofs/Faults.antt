@@ -15,7 +15,7 @@ use Rattle.field.specs.declared.Format.{Format}
 use Rattle.field.proofs.Formats.{drop-formats}
 use Rattle.message.specs.declared.Message.{Message}
 use Rattle.writing.specs.Writing.{fieldFault, fieldsFault, messageFault}
-use Rattle.writing.proofs.Places.{At, Place, place-none, place-part, place-more, first-count}
+use Rattle.message.proofs.Places.{At, Place, place-none, place-part, place-more, first-count}
 
 -- a choice that gives 0, where its other side does not
 chosen : (b : Bool) (x y : ℕ) → (b ≡ false → y ≡ 0 → ⊥) → cond b x y ≡ 0 → (b ≡ true) × (x ≡ 0)

@@ -1,5 +1,4 @@
 -- Laws of writing, for the proofs of this crate and of those above it.
-pub mod Places
 pub mod Counts
 pub mod Faults
 pub mod Putting

@@ -20,7 +20,7 @@ use Rattle.span.proofs.Bytes.{length-field}
 use Rattle.message.specs.Message.{largest, Shaped}
 use Rattle.message.specs.declared.Message.{Message}
 use Rattle.writing.specs.Writing.{fieldFault, fieldsFault, namedBytes, fieldsBytes, messageBytes, messageFault, Put}
-use Rattle.writing.proofs.Places.{At, Place, place-none, place-part, place-more, first-count}
+use Rattle.message.proofs.Places.{At, Place, place-none, place-part, place-more, first-count}
 use Rattle.writing.proofs.Counts.{set-two}
 use Rattle.writing.proofs.Faults.{field-sound, fields-sound, fault-inversion}
 

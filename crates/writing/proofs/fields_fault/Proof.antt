@@ -2,7 +2,7 @@
 use Prim.Native.Nat.{_-_}
 use borrow.Author.Needs.{needs}
 use native.Mathlib.Omega.{arith}
-use Rattle.writing.proofs.Places.{at-place, place-room, place-fits}
+use Rattle.message.proofs.Places.{at-place, place-room, place-fits}
 use Rattle.writing.proofs.Faults.{Faultless, faultless-none, faultless-more, faultless-stop, faultless-done}
 use Rattle.writing.proofs.fields_fault.Statement.{statement}
 use Rattle.writing.proofs.fields_fault.Tie as tie

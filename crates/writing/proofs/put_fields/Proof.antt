@@ -3,7 +3,7 @@ use mathlib.Core.Path.{refl}
 use Prim.Native.Nat.{_-_}
 use borrow.Author.Needs.{needs}
 use native.Mathlib.Omega.{arith}
-use Rattle.writing.proofs.Places.{at-place, place-room, place-fits}
+use Rattle.message.proofs.Places.{at-place, place-room, place-fits}
 use Rattle.writing.proofs.Putting.{Putting, putting-none, putting-sound, putting-room, putting-more, putting-done}
 use Rattle.writing.proofs.put_fields.Statement.{statement}
 use Rattle.writing.proofs.put_fields.Tie as tie

@@ -29,7 +29,7 @@ abbrev pub rooms : List Format → ℕ
 rooms [] = 0
 rooms (f ∷ fs) = room f + rooms fs
 
-rooms-formats : rooms formats ≡ 227
+pub rooms-formats : rooms formats ≡ 227
 unfolding formats
 rooms-formats = refl
 

@@ -1,0 +1,2 @@
+-- Laws of messages by value, for the crates above.
+pub mod Places
