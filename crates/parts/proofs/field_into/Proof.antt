@@ -1,0 +1,76 @@
+-- `parts::field_into` meets its contract.
+use mathlib.Core.Path.{_≡_, refl, sym, _∙_}
+use borrow.Author.Needs.{needs}
+use borrow.Author.Tests.{eq-eqb, ne-eqb}
+use native.Mathlib.Omega.{arith}
+use lib.ListN.{length}
+use denote.Ref.{now}
+use Rattle.parts.specs.Parts.{copies}
+use Rattle.parts.proofs.Places.{copies-is, copied}
+use Rattle.parts.proofs.field_into.Statement.{statement}
+use Rattle.parts.proofs.field_into.Tie as tie
+
+named-requires : tie.Need-named-requires
+named-requires c κs = search needs
+
+bounds-of-requires : tie.Need-bounds-of-requires
+bounds-of-requires c κs = search needs
+
+sub-if2 : tie.Need-sub-if2
+sub-if2 c = search needs
+
+sub-copy : tie.Need-sub-copy
+sub-copy c = search needs
+
+part-copy-start : tie.Need-part-copy-start
+part-copy-start c = search needs
+
+part-copy-end : tie.Need-part-copy-end
+part-copy-end c =
+    let l : length (c .before .before .before .before .before .before .before .before .before .args .m .contents) ≡ 227 = search needs in
+    omega arith
+
+copy-requires : tie.Need-copy-requires
+copy-requires c κs = search needs
+
+same-length : tie.Need-same-length
+same-length c = search needs
+
+returns : tie.Need-returns
+returns c =
+    let start = c .before .before .before .before .before .before .before .before .before .before .before .before .before .before in
+    let l : length (start .args .m .contents) ≡ 227 = search needs in
+    let found = c .before .before .before .before .before .before .before in
+    let b = found .bounds-of .ensures in
+    let h = c .before .before .before .before .before .before .if2 .taken in
+    let named = sym (found .before .before .named .ensures) ∙ found .before .if1 .taken in
+    let q = copies-is b (length (now (start .args .out))) l named ∙ eq-eqb _ _ h in
+    (sym q, rw q (copied b _ l h (c .before .before .copy .ensures .1)))
+
+returns-2 : tie.Need-returns-2
+returns-2 c =
+    let start = c .before .before .before .before .before .before .before .before in
+    let l : length (start .args .m .contents) ≡ 227 = search needs in
+    let named = sym (c .before .before .before .named .ensures) ∙ c .before .before .if1 .taken in
+    let q = copies-is (c .before .bounds-of .ensures) (length (now (start .args .out))) l named ∙ ne-eqb _ _ (c .if2 .left) in
+    (sym q, rw q)
+
+returns-3 : tie.Need-returns-3
+unfolding copies
+returns-3 c = rw (sym (c .before .named .ensures) ∙ c .if1 .left) (refl, refl)
+
+pub field-into-spec : {M : Type 1} → statement M
+field-into-spec =
+    tie.close
+    (tie.spec
+    named-requires
+    bounds-of-requires
+    sub-if2
+    sub-copy
+    part-copy-start
+    part-copy-end
+    copy-requires
+    same-length
+    returns
+    returns-2
+    returns-3)

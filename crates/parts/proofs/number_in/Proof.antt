@@ -1,0 +1,94 @@
+-- `parts::number_in` meets its contract.
+use mathlib.Core.Path.{_≡_, sym, _∙_}
+use borrow.Author.Needs.{needs}
+use native.Mathlib.Omega.{arith}
+use lib.ListN.{length}
+use lib.Seq.{length-take-le}
+use Rattle.parts.specs.Parts.{numberIn}
+use Rattle.parts.proofs.Places.{front-there, number-short, number-read}
+use Rattle.parts.proofs.number_in.Statement.{statement}
+use Rattle.parts.proofs.number_in.Tie as tie
+
+named-requires : tie.Need-named-requires
+named-requires c κs = search needs
+
+bounds-of-requires : tie.Need-bounds-of-requires
+bounds-of-requires c κs = search needs
+
+returns : tie.Need-returns
+returns c = sym (number-short (c .before .before .bounds-of .ensures) _ _ (omega arith))
+
+returns-2 : tie.Need-returns-2
+returns-2 c = sym (number-short (c .before .before .before .before .bounds-of .ensures) _ _ (omega arith))
+
+add-past : tie.Need-add-past
+add-past c = search needs
+
+sub-unpack-into : tie.Need-sub-unpack-into
+sub-unpack-into c = search needs
+
+part-unpack-into-start : tie.Need-part-unpack-into-start
+part-unpack-into-start c = search needs
+
+part-unpack-into-end : tie.Need-part-unpack-into-end
+part-unpack-into-end c =
+    let l : length (c .before .before .before .before .before .before .before .before .before .before .before .args .m .contents) ≡ 227 = search needs in
+    omega arith
+
+array-borrow-prefix-ds : tie.Need-array-borrow-prefix-ds
+array-borrow-prefix-ds c = omega (arith, c .before .before .before .before .before .before .bounds-of .ensures .count-small)
+
+slice-aggregate-unpack-into : tie.Need-slice-aggregate-unpack-into
+slice-aggregate-unpack-into c =
+    sym (length-take-le _ _ (omega (arith, c .before .before .before .before .before .before .before .bounds-of .ensures .count-small)))
+
+unpack-into-requires : tie.Need-unpack-into-requires
+unpack-into-requires c κs = search needs
+
+sub-number-of : tie.Need-sub-number-of
+sub-number-of c = search needs
+
+part-number-of-start : tie.Need-part-number-of-start
+part-number-of-start c = search needs
+
+part-number-of-end : tie.Need-part-number-of-end
+part-number-of-end c =
+    let back = c .before .before .unpack-into in
+    front-there _ (back .last .1 .0) (back .kept .1 .0)
+    (omega (arith, c .before .before .before .before .before .before .before .before .before .before .bounds-of .ensures .count-small))
+
+number-of-requires : tie.Need-number-of-requires
+number-of-requires c κs = search needs
+
+returns-3 : tie.Need-returns-3
+returns-3 c =
+    let found = c .before .before .before .before .before .before .before .before .before .before .before .before in
+    let named = sym (found .before .before .named .ensures) ∙ found .before .if1 .taken in
+    let unpacked = c .before .before .before .before .unpack-into .ensures in
+    number-read (found .bounds-of .ensures) _ _ _ named (omega arith) unpacked (c .number-of .ensures)
+
+returns-4 : tie.Need-returns-4
+unfolding numberIn
+returns-4 c = rw (sym (c .before .named .ensures) ∙ c .if1 .left)
+
+pub number-in-spec : {M : Type 1} → statement M
+number-in-spec =
+    tie.close
+    (tie.spec
+    named-requires
+    bounds-of-requires
+    returns
+    returns-2
+    add-past
+    sub-unpack-into
+    part-unpack-into-start
+    part-unpack-into-end
+    array-borrow-prefix-ds
+    slice-aggregate-unpack-into
+    unpack-into-requires
+    sub-number-of
+    part-number-of-start
+    part-number-of-end
+    number-of-requires
+    returns-3
+    returns-4)

@@ -1,0 +1,261 @@
+// What a caller takes from a message: a field's bytes, and the parts of fields 11, 48, 60 and 61.
+use digits::Number;
+use field::Class;
+use message::Message;
+
+ghost use mathlib.Core.Path.{_≡_};
+ghost use mathlib.Core.Bool.{cond};
+ghost use Prim.Native.Nat.{_<_};
+ghost use lib.ListN.{length};
+ghost use Rattle.field.specs.Table.{formats};
+ghost use Rattle.message.specs.Message.{fieldOf};
+ghost use Rattle.parts.specs.Parts.{sameBytes, matches, copies, numberIn, placeOf, partOf, asTrace, asBatch};
+ghost use Rattle.parts.specs.Located.{located, Bounded, Small};
+
+// A trace number, six digits.
+pub struct Trace(pub u32);
+
+// A batch number, six digits.
+pub struct Batch(pub u32);
+
+pub enum FoundTrace {
+    TraceIs(Trace),
+    NoTrace,
+}
+
+pub enum FoundBatch {
+    BatchIs(Batch),
+    NoBatch,
+}
+
+// A part of a field that is a number.
+pub enum Part {
+    Trace,
+    DebitAmount,
+    DebitCount,
+    CreditAmount,
+    CreditCount,
+    Reconciliation,
+    Kind,
+    Batch,
+    Management,
+    OriginalBatch,
+    OriginalTrace,
+    OriginalDate,
+}
+
+// The field, the first digit and the number of digits of a part.
+pub struct Place {
+    pub number: u8,
+    pub from: usize,
+    pub count: usize,
+}
+
+fn at(number: u8, from: usize, count: usize) -> Place
+    ensures { λ r. ⌜ r ≡ record { number = number; from = from; count = count } ⌝ }
+{
+    Place { number: number, from: from, count: count }
+}
+
+pub fn place_of(p: Part) -> Place
+    ensures { λ r. ⌜ r ≡ placeOf p ⌝ }
+{
+    match p {
+        Part::Trace => at(11, 0, 6),
+        Part::DebitAmount => at(48, 0, 12),
+        Part::DebitCount => at(48, 12, 3),
+        Part::CreditAmount => at(48, 15, 12),
+        Part::CreditCount => at(48, 27, 3),
+        Part::Reconciliation => at(48, 30, 1),
+        Part::Kind => at(60, 0, 2),
+        Part::Batch => at(60, 2, 6),
+        Part::Management => at(60, 8, 3),
+        Part::OriginalBatch => at(61, 0, 6),
+        Part::OriginalTrace => at(61, 6, 6),
+        Part::OriginalDate => at(61, 12, 4),
+    }
+}
+
+fn wide(x: u8) -> usize
+    ensures { λ r. ⌜ (r ≡ x) × (r < 256) ⌝ }
+{
+    x as usize
+}
+
+fn same_bytes(a: &[u8], b: &[u8]) -> bool
+    ensures { λ r. ⌜ r ≡ sameBytes (now (a .entry)) (now (b .entry)) ⌝ }
+{
+    if a.len() != b.len() {
+        return false;
+    }
+    let mut i = 0;
+    while i < a.len() {
+        if a[i] != b[i] {
+            return false;
+        }
+        i += 1;
+    }
+    true
+}
+
+// The row of field n in the table, where its contents stand, and what they hold.
+enum Located {
+    Found { row: usize, from: usize, class: Class },
+    Missing,
+}
+
+fn locate(n: u8) -> Located
+    ensures { λ r. ⌜ r ≡ located formats n 0 0 ⌝ }
+{
+    let table = field::table();
+    let mut from = 0;
+    let mut k = 0;
+    while k < 23 {
+        let f = table[k];
+        let class = f.class;
+        if f.number == n {
+            return Located::Found { row: k, from: from, class: class };
+        }
+        from += field::size_of(class, f.high);
+        k += 1;
+    }
+    Located::Missing
+}
+
+// A field's count of digits or bytes, and where its contents begin and end in the message.
+struct Bounds {
+    count: usize,
+    from: usize,
+    end: usize,
+}
+
+fn bounds_of(m: Message, n: u8) -> Bounds
+    ensures { λ r. ⌜ Bounded m n (r .count) (r .from) (r .end) ⌝ }
+{
+    let counts = m.counts;
+    match locate(n) {
+        Located::Found { row, from, class } => {
+            let held = counts[row];
+            let count = wide(held);
+            let end = from + field::size_of(class, held);
+            if 227 < end {
+                return Bounds { count: count, from: from, end: 227 };
+            }
+            Bounds { count: count, from: from, end: end }
+        }
+        Located::Missing => Bounds { count: 0, from: 0, end: 0 },
+    }
+}
+
+// Whether a message names field n and the field holds these bytes.
+pub fn field_matches(m: Message, n: u8, b: &[u8]) -> bool
+    ensures { λ r. ⌜ r ≡ matches m n (now (b .entry)) ⌝ }
+{
+    let bitmap = m.bitmap;
+    let contents = m.contents;
+    if field::named(&bitmap, n) {
+        let at = bounds_of(m, n);
+        let from = at.from;
+        let end = at.end;
+        return same_bytes(&contents[from..end], b);
+    }
+    false
+}
+
+// Copies the bytes of field n, which must fill out; else out stays.
+pub fn field_into(m: Message, n: u8, out: &mut [u8]) -> bool
+    ensures { λ r. ⌜ (r ≡ copies m n (length (now (out .entry)))) × (now (out .exit) ≡ cond (copies m n (length (now (out .entry)))) (fieldOf m n .bytes) (now (out .entry))) ⌝ }
+{
+    let bitmap = m.bitmap;
+    let contents = m.contents;
+    if field::named(&bitmap, n) {
+        let at = bounds_of(m, n);
+        let from = at.from;
+        let end = at.end;
+        if out.len() == end - from {
+            bytes::copy(&contents[from..end], out);
+            return true;
+        }
+    }
+    false
+}
+
+// The number that count digits of field n say, from one on.
+pub fn number_in(m: Message, n: u8, from: usize, count: usize) -> Number
+    ensures { λ r. ⌜ r ≡ numberIn m n from count ⌝ }
+{
+    let bitmap = m.bitmap;
+    let contents = m.contents;
+    if field::named(&bitmap, n) {
+        let at = bounds_of(m, n);
+        if at.count < from {
+            return Number::Not;
+        }
+        if at.count - from < count {
+            return Number::Not;
+        }
+        let start = at.from;
+        let end = at.end;
+        let past = from + count;
+        let mut ds = [0u8; 255];
+        digits::unpack_into(&contents[start..end], &mut ds[..past]);
+        return digits::number_of(&ds[from..past]);
+    }
+    Number::Not
+}
+
+// The number that a part says.
+pub fn part_of(m: Message, p: Part) -> Number
+    ensures { λ r. ⌜ r ≡ partOf m p ⌝ }
+{
+    let at = place_of(p);
+    number_in(m, at.number, at.from, at.count)
+}
+
+fn trace_from(x: Number) -> FoundTrace
+    requires { ⌜ Small x ⌝ }
+    ensures { λ r. ⌜ r ≡ asTrace x ⌝ }
+{
+    match x {
+        Number::Is(v) => FoundTrace::TraceIs(Trace(v as u32)),
+        Number::Not => FoundTrace::NoTrace,
+    }
+}
+
+fn batch_from(x: Number) -> FoundBatch
+    requires { ⌜ Small x ⌝ }
+    ensures { λ r. ⌜ r ≡ asBatch x ⌝ }
+{
+    match x {
+        Number::Is(v) => FoundBatch::BatchIs(Batch(v as u32)),
+        Number::Not => FoundBatch::NoBatch,
+    }
+}
+
+// Field 11.
+pub fn trace_of(m: Message) -> FoundTrace
+    ensures { λ r. ⌜ r ≡ asTrace (partOf m Part.Trace) ⌝ }
+{
+    trace_from(part_of(m, Part::Trace))
+}
+
+// Field 61's trace.
+pub fn original_trace_of(m: Message) -> FoundTrace
+    ensures { λ r. ⌜ r ≡ asTrace (partOf m Part.OriginalTrace) ⌝ }
+{
+    trace_from(part_of(m, Part::OriginalTrace))
+}
+
+// Field 60's batch.
+pub fn batch_of(m: Message) -> FoundBatch
+    ensures { λ r. ⌜ r ≡ asBatch (partOf m Part.Batch) ⌝ }
+{
+    batch_from(part_of(m, Part::Batch))
+}
+
+// Field 61's batch.
+pub fn original_batch_of(m: Message) -> FoundBatch
+    ensures { λ r. ⌜ r ≡ asBatch (partOf m Part.OriginalBatch) ⌝ }
+{
+    batch_from(part_of(m, Part::OriginalBatch))
+}
