@@ -49,8 +49,8 @@ field-located (f ∷ fs) n row from cs bs = go (eqb (f .number) n) (field-locate
   where
     go : (t : Bool) → fieldIn fs (drop (row + 1) cs) (drop (from + room f) bs) n ≡ heldAt (located fs n (row + 1) (from + room f)) cs bs
         → cond t (record { count = getD (drop row cs) 0 0; bytes = take (size (f .class) (getD (drop row cs) 0 0)) (drop from bs) })
-            (fieldIn fs (drop 1 (drop row cs)) (drop (room f) (drop from bs)) n)
-          ≡ heldAt (cond t (Found row from (f .class)) (located fs n (row + 1) (from + room f))) cs bs
+        (fieldIn fs (drop 1 (drop row cs)) (drop (room f) (drop from bs)) n)
+        ≡ heldAt (cond t (Found row from (f .class)) (located fs n (row + 1) (from + room f))) cs bs
     go true r = let z : row + 0 ≡ row = omega arith in rw (getD-drop row cs 0 0, z)
     go false r = rw (drop-drop 1 row cs, drop-drop (room f) from bs) r
 
@@ -122,14 +122,14 @@ pub bounded-found : (m : Message) (n : ℕ) {row from count end k : ℕ} {class 
     → k ≡ size class (getD (m .counts) row 0) → end ≡ min 227 (from + k) → Bounded m n count from end
 bounded-found m n {row} {from} {end = end} {k} {class} e q s l z b =
     let f : fieldOf m n ≡ heldAt (Found row from class) (m .counts) (m .contents) =
-          field-located formats n 0 0 (m .counts) (m .contents) ∙ rw e in
+    field-located formats n 0 0 (m .counts) (m .contents) ∙ rw e in
     let w = found-within n e in
     record {
       count-is = rw f q;
       count-small = s;
       ordered = omega arith;
       within = omega arith;
-      bytes-are = cut from k end (m .contents) l b ∙ rw (f, z)
+      bytes-are = cut from k end (m .contents) l b ∙ rw (f, z);
     }
 
 pub bounded-missing : (m : Message) (n : ℕ) → located formats n 0 0 ≡ Missing → Bounded m n 0 0 0
@@ -175,7 +175,7 @@ module _ {m : Message} {n count from end : ℕ} (b : Bounded m n count from end)
   -- all of out is written
   pub copied : (out : List ℕ) {e : List ℕ} → length (m .contents) ≡ 227 → length out ≡ end - from
       → e ≡ take (length (take (end - from) (drop from (m .contents)))) (take (end - from) (drop from (m .contents)))
-            ++ drop (length (take (end - from) (drop from (m .contents)))) out
+      ++ drop (length (take (end - from) (drop from (m .contents)))) out
       → e ≡ fieldOf m n .bytes
   copied out l w q =
       q ∙ rw (b .bytes-are, bytes-length l, ← w)

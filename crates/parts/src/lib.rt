@@ -2,7 +2,6 @@
 use digits::Number;
 use field::Class;
 use message::Message;
-
 ghost use mathlib.Core.Path.{_≡_};
 ghost use mathlib.Core.Bool.{cond};
 ghost use Prim.Native.Nat.{_<_};
@@ -54,7 +53,11 @@ pub struct Place {
 fn at(number: u8, from: usize, count: usize) -> Place
     ensures { λ r. ⌜ r ≡ record { number = number; from = from; count = count } ⌝ }
 {
-    Place { number: number, from: from, count: count }
+    Place {
+        number: number,
+        from: from,
+        count: count,
+    }
 }
 
 pub fn place_of(p: Part) -> Place
@@ -100,7 +103,11 @@ fn same_bytes(a: &[u8], b: &[u8]) -> bool
 
 // The row of field n in the table, where its contents stand, and what they hold.
 enum Located {
-    Found { row: usize, from: usize, class: Class },
+    Found {
+        row: usize,
+        from: usize,
+        class: Class,
+    },
     Missing,
 }
 
@@ -114,7 +121,11 @@ fn locate(n: u8) -> Located
         let f = table[k];
         let class = f.class;
         if f.number == n {
-            return Located::Found { row: k, from: from, class: class };
+            return Located::Found {
+                row: k,
+                from: from,
+                class: class,
+            };
         }
         from += field::size_of(class, f.high);
         k += 1;
@@ -139,11 +150,23 @@ fn bounds_of(m: Message, n: u8) -> Bounds
             let count = wide(held);
             let end = from + field::size_of(class, held);
             if 227 < end {
-                return Bounds { count: count, from: from, end: 227 };
+                return Bounds {
+                    count: count,
+                    from: from,
+                    end: 227,
+                };
             }
-            Bounds { count: count, from: from, end: end }
+            Bounds {
+                count: count,
+                from: from,
+                end: end,
+            }
         }
-        Located::Missing => Bounds { count: 0, from: 0, end: 0 },
+        Located::Missing => Bounds {
+            count: 0,
+            from: 0,
+            end: 0,
+        },
     }
 }
 

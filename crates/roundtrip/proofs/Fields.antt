@@ -50,21 +50,24 @@ in-length f bm n bs e l z = length-take-le (size (f .class) n) bs (omega (arith,
 turn-back : (f : Format) (bm : List ℕ) (n : ℕ) (bs rest : List ℕ) (next : List ℕ → Fields)
     → wellFormed f ≡ true → room f ≤ length bs → fieldFault f bm n bs ≡ 0
     → afterSpan f (namedBytes f bm n bs ++ rest) next (span f bm (namedBytes f bm n bs ++ rest))
-      ≡ prepend (cond (names bm (f .number)) n 0 ∷ []) (padded (room f) (keptBytes f bm n bs)) (next rest)
+    ≡ prepend (cond (names bm (f .number)) n 0 ∷ []) (padded (room f) (keptBytes f bm n bs)) (next rest)
 unfolding span namedBytes
 turn-back f bm n bs rest next w l z = go (names bm (f .number)) refl
   where
     go : (k : Bool) → names bm (f .number) ≡ k
         → afterSpan f (cond k (fieldBytes f n (take (size (f .class) n) bs)) [] ++ rest) next
-            (cond k (spanAt f (cond k (fieldBytes f n (take (size (f .class) n) bs)) [] ++ rest)) (Held 0 0 0))
-          ≡ prepend (cond k n 0 ∷ []) (padded (room f) (cond k (take (size (f .class) n) bs) [])) (next rest)
+        (cond k (spanAt f (cond k (fieldBytes f n (take (size (f .class) n) bs)) [] ++ rest)) (Held 0 0 0))
+        ≡ prepend (cond k n 0 ∷ []) (padded (room f) (cond k (take (size (f .class) n) bs) [])) (next rest)
     go true e =
         let y = field-sound f bm n bs e z in
         let lb : length (take (size (f .class) n) bs) ≡ size (f .class) n = in-length f bm n bs e l z in
         let lf : length (fieldBytes f n (take (size (f .class) n) bs)) ≡ skip (f .prefix) + size (f .class) n = length-field f n (take (size (f .class) n) bs) ∙ rw lb in
-        rw (span-back f n (take (size (f .class) n) bs) rest w (y .allows) lb (y .no-fault), drop-prefix f n (take (size (f .class) n) bs) rest,
+        rw (
+          span-back f n (take (size (f .class) n) bs) rest w (y .allows) lb (y .no-fault),
+          drop-prefix f n (take (size (f .class) n) bs) rest,
           take-at (take (size (f .class) n) bs) rest (size (f .class) n) lb,
-          drop-at (fieldBytes f n (take (size (f .class) n) bs)) rest (skip (f .prefix) + size (f .class) n) lf)
+          drop-at (fieldBytes f n (take (size (f .class) n) bs)) rest (skip (f .prefix) + size (f .class) n) lf,
+        )
     go false e = refl
 
 -- fields that are written read back
@@ -99,8 +102,8 @@ kept-length f bm n bs l z = go (names bm (f .number)) refl
 -- a field that the bitmap names is kept whole
 kept-field : (f : Format) (bm : List ℕ) (n : ℕ) (bs rest : List ℕ) → names bm (f .number) ≡ true → room f ≤ length bs → fieldFault f bm n bs ≡ 0
     → _≡_ {A = Field}
-        (record { count = cond (names bm (f .number)) n 0; bytes = take (size (f .class) (cond (names bm (f .number)) n 0)) (padded (room f) (keptBytes f bm n bs) ++ rest) })
-        (record { count = n; bytes = take (size (f .class) n) bs })
+    (record { count = cond (names bm (f .number)) n 0; bytes = take (size (f .class) (cond (names bm (f .number)) n 0)) (padded (room f) (keptBytes f bm n bs) ++ rest) })
+    (record { count = n; bytes = take (size (f .class) n) bs })
 kept-field f bm n bs rest e l z = rw (e, in-place (room f) (take (size (f .class) n) bs) rest (size (f .class) n) (in-length f bm n bs e l z))
 
 pub kept-fields : (fs : List Format) (bm cs bs : List ℕ) → rooms fs ≤ length bs → fieldsFault fs bm cs bs ≡ 0
@@ -113,8 +116,10 @@ kept-fields (f ∷ fs) bm cs bs l z n e =
   where
     b : List ℕ
     b = keptBytes f bm (getD cs 0 0) bs
+
     rest : List ℕ
     rest = keptContents fs bm (drop 1 cs) (drop (room f) bs)
+
     go : fieldFault f bm (getD cs 0 0) bs ≡ 0 → fieldIn fs (keptCounts fs bm (drop 1 cs)) rest n ≡ fieldIn fs (drop 1 cs) (drop (room f) bs) n
         → Dec (f .number ≡ n) → fieldIn (f ∷ fs) (keptCounts (f ∷ fs) bm cs) (keptContents (f ∷ fs) bm cs bs) n ≡ fieldIn (f ∷ fs) cs bs n
     go y ih (yes q) = rw (eq-eqb (f .number) n q) (kept-field f bm (getD cs 0 0) bs rest (rw q e) (omega arith) y)
@@ -145,7 +150,7 @@ taken f bm s n p z q = go (names bm (f .number)) refl q
         record {
           fits = rw lb (size-bound f n (h .allows));
           sound = λ rest. rw (e, h .allows, in-place (room f) b rest (size (f .class) n) lb) (h .no-fault);
-          bytes = λ rest. rw (e, in-place (room f) b rest (size (f .class) n) lb) (held-bytes h)
+          bytes = λ rest. rw (e, in-place (room f) b rest (size (f .class) n) lb) (held-bytes h);
         }
     go false e q =
         let pe : 0 ≡ p = cc in
@@ -167,7 +172,7 @@ again-more f fs bm s cs bs n p z t a =
       counts-length = ap suc (a .counts-length);
       contents-length = length-append (padded (room f) b) bs ∙ rw (length-padded (room f) b (t .fits), a .contents-length);
       sound = rw (t .sound bs, d, a .sound);
-      bytes = rw (t .bytes bs, d, a .bytes) (take-append-drop (p + z) s)
+      bytes = rw (t .bytes bs, d, a .bytes) (take-append-drop (p + z) s);
     }
 
 none-again : (bm s cs bs : List ℕ) → Dec (length s ≡ 0) → cond (eqb (length s) 0) (good [] []) (bad 9) ≡ good cs bs → Again [] bm s cs bs

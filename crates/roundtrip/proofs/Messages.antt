@@ -49,9 +49,10 @@ is-written m o k = short (ltb (length o) largest) refl
         let c : length (messageBytes m) ≡ k = cc in
         record { no-fault = eqb-true (messageFault m) 0 e; count = sym c; buffer = rw (t, e, c) }
     room false e t q = absurd (refused-written q)
+
     short : (b : Bool) → ltb (length o) largest ≡ b
         → (cond b (written (Refused 1) o)
-            (cond (eqb (messageFault m) 0) (written (Written (length (messageBytes m))) (messageBytes m ++ drop (length (messageBytes m)) o)) (written (Refused (messageFault m)) o))) .outcome ≡ Written k
+        (cond (eqb (messageFault m) 0) (written (Written (length (messageBytes m))) (messageBytes m ++ drop (length (messageBytes m)) o)) (written (Refused (messageFault m)) o))) .outcome ≡ Written k
         → IsWritten m o k
     short true e q = absurd (refused-written q)
     short false e q = room (eqb (messageFault m) 0) refl e q
@@ -63,7 +64,7 @@ kept m =
       indicator = m .indicator;
       bitmap = m .bitmap;
       counts = keptCounts formats (m .bitmap) (m .counts);
-      contents = keptContents formats (m .bitmap) (m .counts) (m .contents)
+      contents = keptContents formats (m .bitmap) (m .counts) (m .contents);
     }
 
 bytes-read : (m : Message) → Shaped m → messageFault m ≡ 0 → readMessage (messageBytes m) ≡ record { outcome = Read; message = kept m }
@@ -86,7 +87,7 @@ kept-reads m s z =
       outcome = refl;
       indicator = refl;
       bitmap = refl;
-      fields = kept-fields formats (m .bitmap) (m .counts) (m .contents) (omega (arith, rooms-formats, s .contents-length)) (fault-inversion m z .no-fault)
+      fields = kept-fields formats (m .bitmap) (m .counts) (m .contents) (omega (arith, rooms-formats, s .contents-length)) (fault-inversion m z .no-fault);
     }
 
 pub written-reads-back : WrittenReadsBack
@@ -143,7 +144,7 @@ is-read s q =
       indicator-listed = b .0;
       fields-listed = c .0;
       again = fields-again formats (bitmapOf s) (drop 10 s) (g .0) (g .1) (g .2);
-      message = message-read s (g .0) (g .1) (a .0) (b .0) (c .0) (g .2)
+      message = message-read s (g .0) (g .1) (a .0) (b .0) (c .0) (g .2);
     }
 
 -- ten bytes and the rest

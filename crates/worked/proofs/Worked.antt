@@ -11,5 +11,5 @@ use Rattle.worked.specs.Worked.{Worked}
 
 pub worked : Worked
 unfolding half packedByte pack isPacked halfAllowed formats indicators bit names listedAt listed allowed allPrintable fieldBytes
-  fieldFault fieldsFault namedBytes fieldsBytes messageBytes messageFault writeMessage
+    fieldFault fieldsFault namedBytes fieldsBytes messageBytes messageFault writeMessage
 worked = record { a = refl; b = refl; c = refl; d = refl; d-fields = refl; e = refl; longest = refl }

@@ -2,7 +2,6 @@
 use field::Format;
 use field::Prefix;
 use message::Message;
-
 ghost use mathlib.Core.Path.{_≡_};
 ghost use mathlib.Core.Bool.{true};
 ghost use Prim.Native.Nat.{_+_, _*_, _/_, _%_, _≤_};
