@@ -49,7 +49,7 @@ read-none bm s =
       counts-length = refl;
       contents-length = refl;
       zeros = rw rooms-formats;
-      eq = sym (prepend-nil (readFields formats bm s))
+      eq = sym (prepend-nil (readFields formats bm s));
     }
 
 drop-turn : (k : ℕ) (d : Format) → k < 23 → drop k formats ≡ getD formats k d ∷ drop (suc k) formats
@@ -81,7 +81,7 @@ read-more {bm} {s} {k} {at} {to} {cs} {bs} d n p z bs′ r h e w =
     let front : List ℕ = take to bs ++ (b ++ fz) in
     let w′ : bs′ ≡ front ++ lz = w ∙ rw (zs, ← append-assoc b fz lz) (sym (append-assoc (take to bs) (b ++ fz) lz)) in
     let lf : length front ≡ to + room f =
-          length-append (take to bs) (b ++ fz) ∙ rw (length-append, lt, lb, length-replicate) (omega (arith, t .placed)) in
+    length-append (take to bs) (b ++ fz) ∙ rw (length-append, lt, lb, length-replicate) (omega (arith, t .placed)) in
     let pad : padded (room f) b ≡ b ++ fz = rw lb in
     let sum : at + (p + z) ≡ at + p + z = omega arith in
     record {
@@ -92,7 +92,7 @@ read-more {bm} {s} {k} {at} {to} {cs} {bs} d n p z bs′ r h e w =
       contents-length = rw w′ (length-append front lz ∙ rw (lf, length-replicate) (omega arith));
       zeros = rw (w′, add-one) (drop-at front lz (to + room f) lf);
       eq = r .eq ∙ rw (drop-turn k d h, e, pad, drop-drop (p + z) at s, sum, w′, take-at front lz (to + room f) lf, add-one, take-suc-set cs k n (omega arith))
-            (prepend-twice (take k cs) (take to bs) (n ∷ []) (b ++ fz) (readFields (drop (suc k) formats) bm (drop (at + p + z) s)))
+          (prepend-twice (take k cs) (take to bs) (n ∷ []) (b ++ fz) (readFields (drop (suc k) formats) bm (drop (at + p + z) s)));
     }
 
 -- what the span of a field in the table says of the places that the code computes
@@ -121,7 +121,7 @@ copy-fits {s} {f} {at} {to} {p} {z} bs y l =
 pub read-next : {bm s cs bs : List ℕ} {k at to n p z : ℕ} {fs : List Format} {t : Span} (d : Format) (w : ℕ) (e : List ℕ) → fs ≡ formats
     → t ≡ span (getD fs k d) bm (take (length s - at) (drop at s)) → t ≡ Held n p z → ReadTo bm s k at to cs bs → k < 23
     → e ≡ take (length (take (at + p + z - (at + p)) (drop (at + p) s))) (take (at + p + z - (at + p)) (drop (at + p) s))
-          ++ drop (length (take (at + p + z - (at + p)) (drop (at + p) s))) (take (to + z - to) (drop to bs))
+    ++ drop (length (take (at + p + z - (at + p)) (drop (at + p) s))) (take (to + z - to) (drop to bs))
     → w ≡ room (getD fs k d)
     → ReadTo bm s (k + 1) (at + p + z) (to + w) (set cs k n) (take to bs ++ (e ++ drop (to + z - to) (drop to bs)))
 read-next {bm} {s} {cs} {bs} {k} {at} {to} {n} {p} {z} {fs} {t} d w e eq q g r h c v =

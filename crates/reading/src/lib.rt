@@ -1,7 +1,6 @@
 // Reading a message (document 01, rules 3 to 9).
 use message::Message;
 use span::Span;
-
 ghost use mathlib.Core.Path.{_≡_};
 ghost use Rattle.field.specs.Table.{formats};
 ghost use Rattle.reading.specs.Reading.{refused, assembled, readFields, readMessage};
@@ -22,7 +21,10 @@ fn refusal(e: u8) -> Reading
     ensures { λ r. ⌜ r ≡ refused e ⌝ }
 {
     let message = Message::new();
-    Reading { outcome: Outcome::Refused(e), message: message }
+    Reading {
+        outcome: Outcome::Refused(e),
+        message: message,
+    }
 }
 
 // The message of a type, a bitmap and the fields in s.
@@ -58,8 +60,16 @@ fn read_fields(indicator: u16, bitmap: [u8; 8], s: &[u8]) -> Reading
     if at < s.len() {
         return refusal(9);
     }
-    let message = Message { indicator: indicator, bitmap: bitmap, counts: counts, contents: contents };
-    Reading { outcome: Outcome::Read, message: message }
+    let message = Message {
+        indicator: indicator,
+        bitmap: bitmap,
+        counts: counts,
+        contents: contents,
+    };
+    Reading {
+        outcome: Outcome::Read,
+        message: message,
+    }
 }
 
 fn wide(x: u8) -> u16

@@ -92,10 +92,19 @@ module _ (f : Format) (n : ℕ) (b rest : List ℕ) where
       let lf : length (fieldBytes f n b ++ rest) ≡ k + length b + length rest = length-append (fieldBytes f n b) rest ∙ rw length-field in
       let lr : length (b ++ rest) ≡ length b + length rest = length-append b rest in
       let c : countIn (f .prefix) (f .high) (prefixOf k n) ≡ n =
-            count-back (f .prefix) (f .low) (f .high) n w (allowed-bounds f n a .0) (allowed-bounds f n a .1) in
+      count-back (f .prefix) (f .low) (f .high) n w (allowed-bounds f n a .0) (allowed-bounds f n a .1) in
       let tb : take z (b ++ rest) ≡ b = take-at b rest z l in
-      rw (le-ltb (length (fieldBytes f n b ++ rest)) k (omega arith), take-prefix, prefix-packed k n, drop-prefix, c, a,
-        le-ltb (length (b ++ rest)) z (omega arith), tb, x)
+      rw (
+        le-ltb (length (fieldBytes f n b ++ rest)) k (omega arith),
+        take-prefix,
+        prefix-packed k n,
+        drop-prefix,
+        c,
+        a,
+        le-ltb (length (b ++ rest)) z (omega arith),
+        tb,
+        x,
+      )
 
 -- a field that is found is written as the same bytes
 pub held-bytes : {f : Format} {s : List ℕ} {n p z : ℕ} → IsHeld f s n p z → fieldBytes f n (take z (drop p s)) ≡ take (p + z) s

@@ -63,7 +63,7 @@ span-held f s {n} {p} {z} q =
       count = mn;
       allows = rw mn at (c .0);
       fits = omega (arith, length-drop k s);
-      no-fault = rw (← zw, ← pk, ← mn) x0
+      no-fault = rw (← zw, ← pk, ← mn) x0;
     }
 
 pub size-bound : (f : Format) (n : ℕ) → allowed f n ≡ true → size (f .class) n ≤ room f

@@ -1,7 +1,6 @@
 // One field at the front of some bytes (document 01, rules 3, 6, 7 and 8).
 use field::Format;
 use field::Prefix;
-
 ghost use mathlib.Core.Path.{_≡_};
 ghost use Prim.Native.Nat.{_+_, _*_};
 ghost use Rattle.field.specs.Contents.{skip};
@@ -65,7 +64,11 @@ fn contents_at(f: Format, n: usize, s: &[u8]) -> Span
         }
         let e = field::fault_of(class, count, &s[..size]);
         if e == 0 {
-            return Span::Held { count: count, skip: skip_of(prefix), size: size };
+            return Span::Held {
+                count: count,
+                skip: skip_of(prefix),
+                size: size,
+            };
         }
         return Span::Refused(e);
     }
@@ -95,5 +98,9 @@ pub fn span_of(f: Format, bm: &[u8; 8], s: &[u8]) -> Span
     if field::named(bm, f.number) {
         return span_at(f, s);
     }
-    Span::Held { count: 0, skip: 0, size: 0 }
+    Span::Held {
+        count: 0,
+        skip: 0,
+        size: 0,
+    }
 }

@@ -1,0 +1,36 @@
+-- `lines::put_decimal` meets its contract.
+use borrow.Author.Needs.{needs}
+use native.Mathlib.Omega.{arith}
+use Rattle.lines.proofs.put_decimal.Statement.{statement}
+use Rattle.lines.proofs.put_decimal.Tie as tie
+use Rattle.lines.proofs.Buffer.{decimal-is}
+use Rattle.lines.specs.Buffer.{decimal}
+
+decimal-requires : tie.Need-decimal-requires
+decimal-requires c κs = search needs
+
+array-share-prefix-text : tie.Need-array-share-prefix-text
+array-share-prefix-text c = search needs
+
+slice-aggregate-put : tie.Need-slice-aggregate-put
+slice-aggregate-put c = search needs
+
+put-requires : tie.Need-put-requires
+put-requires c κs = search needs
+
+same-length : tie.Need-same-length
+same-length c = search needs
+
+returns : tie.Need-returns
+returns c = rw (← decimal-is (c .before .before .before .before .before .decimal .result) (c .before .before .before .before .before .before .before .before .args .x) (omega arith) (c .before .before .before .before .before .decimal .ensures .1 .0), ← c .before .before .before .before .before .decimal .ensures .1 .1) (c .before .before .put .ensures)
+
+pub put-decimal-spec : {M : Type 1} → statement M
+put-decimal-spec =
+    tie.close
+    (tie.spec
+    decimal-requires
+    array-share-prefix-text
+    slice-aggregate-put
+    put-requires
+    same-length
+    returns)

@@ -1,0 +1,4 @@
+pub mod Hexadecimal
+pub mod Outcome
+pub mod Buffer
+pub mod Lines
