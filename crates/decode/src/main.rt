@@ -16,22 +16,7 @@ struct Place {
 }
 
 fn complain(number: u64, reason: &[u8]) {
-    io::write_all(
-        STDOUT_FILENO,
-        &[
-            b'e',
-            b'r',
-            b'r',
-            b'o',
-            b'r',
-            b' ',
-            b'l',
-            b'i',
-            b'n',
-            b'e',
-            b' ',
-        ],
-    );
+    io::write_all(STDOUT_FILENO, b"error line ");
     io::print_decimal(STDOUT_FILENO, number);
     io::write_all(STDOUT_FILENO, reason);
 }
