@@ -5,6 +5,7 @@ use lines::Hex;
 use reading::Outcome;
 ghost use Prim.Native.Nat.{_≤_};
 ghost use lib.ListN.{length};
+ghost use Rattle.io.specs.Counts.{Counts};
 
 // The most characters of a line.
 const LONGEST: usize = 4096;
@@ -15,20 +16,27 @@ struct Place {
     len: usize,
 }
 
+fn put_words(before: &[u8], number: u64, after: &[u8], out: &mut [u8]) -> usize
+    ensures { λ r. ⌜ Counts r (now (out .exit)) ⌝ }
+{
+    let mut at = lines::put(before, out);
+    at += lines::put_decimal(number, &mut out[at..]);
+    at + lines::put(after, &mut out[at..])
+}
+
+// Writes words, a number and words in one piece.
+fn say(before: &[u8], number: u64, after: &[u8]) {
+    let mut text = [0u8; 64];
+    let n = put_words(before, number, after, &mut text);
+    io::write_all(STDOUT_FILENO, &text[..n]);
+}
+
 fn complain(number: u64, reason: &[u8]) {
-    io::write_all(STDOUT_FILENO, b"error line ");
-    io::print_decimal(STDOUT_FILENO, number);
-    io::write_all(STDOUT_FILENO, reason);
+    say(b"error line ", number, reason);
 }
 
 fn complain_of_length(number: u64) {
     complain(number, b" longer than 4096 bytes\n");
-}
-
-fn refuse(e: u8) {
-    io::write_all(STDOUT_FILENO, b"refused ");
-    io::print_decimal(STDOUT_FILENO, e as u64);
-    io::write_all(STDOUT_FILENO, b"\n");
 }
 
 // What a message of these bytes holds, or why it is refused.
@@ -37,7 +45,7 @@ fn show(s: &[u8]) {
     let outcome = r.outcome;
     match outcome {
         Outcome::Refused(e) => {
-            refuse(e);
+            say(b"refused ", e as u64, b"\n");
         }
         Outcome::Read => {
             let mut text = [0u8; 12500];

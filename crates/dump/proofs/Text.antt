@@ -1,12 +1,12 @@
 -- Laws of the text of a field.
-use mathlib.Core.Path.{_≡_, refl, sym, ap, _∙_}
+use mathlib.Core.Path.{_≡_, refl, sym, _∙_}
 use mathlib.Core.List.{List, [], _∷_, _++_}
 use mathlib.Core.Bool.{Bool, true, false, cond, _||_}
-use Prim.Native.Nat.{ℕ, zero, suc, _+_, _-_, _*_, _≤_, _<_}
+use Prim.Native.Nat.{ℕ, suc, _+_, _-_, _*_, _≤_, _<_}
 use native.Mathlib.Omega.{arith}
 use lib.Dec.{leb, ltb}
 use lib.ListN.{length, getD, take, drop, set, length-append, length-set, length-drop, drop-of-length-le}
-use lib.Seq.{drop-drop, drop-cons, length-take-le, take-set-le, take-suc-set, getD-set-same}
+use lib.Seq.{ext-getD, drop-drop, drop-cons, length-take-le, take-set-le, take-suc-set, getD-set-same}
 use borrow.Author.Tests.{le-leb, lt-leb}
 use borrow.Rule.Slice.PartMut.{midOf, putMid, same-len-mid}
 use Rattle.digits.specs.Lists.{tabulate}
@@ -43,6 +43,16 @@ pub length-digits : (card : Bool) (n : ℕ) (b : List ℕ) → length (contentsT
 unfolding cardText digitsText
 length-digits true n b = length-tabulate _ _
 length-digits false n b = length-tabulate _ _
+
+-- the text of a card number says nothing of the digits between the first six and the last four
+pub card-hides : (n : ℕ) (b b′ : List ℕ) → ((i : ℕ) → i < n → stands n i ≡ true → half b i ≡ half b′ i) → cardText n b ≡ cardText n b′
+card-hides n b b′ h =
+    ext-getD 0 (cardText n b) (cardText n b′) (length-digits true n b ∙ sym (length-digits true n b′))
+    (λ i l. let k : i < n = rw (length-digits true n b) at l in go i k (stands n i) refl)
+  where
+    go : (i : ℕ) → i < n → (t : Bool) → stands n i ≡ t → getD (cardText n b) i 0 ≡ getD (cardText n b′) i 0
+    go i k true e = sym (card-shown n b i k e) ∙ rw (h i k e) (card-shown n b′ i k e)
+    go i k false e = sym (card-hidden n b i k e) ∙ card-hidden n b′ i k e
 
 -- a loop that stores each character has stored the text
 pub digits-stored : (card : Bool) (n : ℕ) (b : List ℕ)

@@ -2,16 +2,17 @@
 use mathlib.Core.Path.{_≡_, refl, sym, ap, _∙_}
 use mathlib.Core.List.{List, [], _∷_, _++_, append-assoc, append-nil}
 use mathlib.Core.Bool.{Bool, true, false, cond}
-use Prim.Native.Nat.{ℕ, zero, suc, _+_, _-_, _*_, _/_, _%_, _^_, _≤_, _<_}
+use Prim.Native.Nat.{ℕ, zero, suc, _+_, _-_, _/_, _%_, _^_, _≤_, _<_}
 use native.Mathlib.Omega.{arith}
 use native.Mathlib.Nat.{not-suc-le-zero, one-le-pow, pow-le-pow-right}
 use native.Mathlib.Decide.{decLt}
-use lib.Dec.{leb, ltb}
+use lib.Dec.{ltb}
 use lib.ListN.{length, take, drop, length-append, length-drop}
 use lib.Seq.{take-at, drop-at, drop-drop, drop-length, take-length, length-take-le}
 use borrow.Author.Tests.{le-leb, lt-leb, lt-ltb, le-ltb}
 use borrow.Rule.Slice.PartMut.{putMid}
 use Rattle.digits.proofs.Lists.{tail-part, put-tail}
+use Rattle.io.specs.Counts.{Counts}
 use Rattle.io.specs.Digits.{digits, glyph, Fewest}
 use Rattle.lines.specs.Buffer.{Put, fitting, decimalOf, decimal}
 
@@ -30,6 +31,12 @@ put-none o e = rw e (record { bound = omega arith; count = refl; stored = refl }
 
 pub put-length : {text o l : List ℕ} {r : ℕ} → Put text o r l → length l ≡ length o
 put-length {text} {o} {l} {r} p = ap length (p .stored) ∙ rw (length-append, length-drop) (omega (arith, p .count))
+
+-- a text lies within the buffer
+pub put-counts : {text o l : List ℕ} {r : ℕ} → Put text o r l → Counts r l
+put-counts {l = l} {r = r} p =
+    let h : r ≤ length l = omega (arith, p .bound, put-length p) in
+    (h, sym (length-take-le r l h))
 
 -- what is left of the buffer after a text
 pub put-room : {text o l : List ℕ} {r : ℕ} (k : ℕ) → Put text o r l → r + k ≤ length o → k ≤ length (take (length l - r) (drop r l))

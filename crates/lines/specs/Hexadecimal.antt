@@ -1,9 +1,9 @@
 -- Bytes as hexadecimal digits, of either case when they are read and capitals when they are written.
-use mathlib.Core.List.{List, _++_}
+use mathlib.Core.List.{List}
 use mathlib.Core.Bool.{Bool, cond, _&&_}
 use Prim.Native.Nat.{ℕ, _+_, _-_, _*_, _/_, _%_}
 use lib.Dec.{leb, ltb, eqb}
-use lib.ListN.{length, getD, drop}
+use lib.ListN.{length, getD}
 use Rattle.digits.specs.Lists.{tabulate, all}
 
 -- the value of a hexadecimal digit, or 16 for another character

@@ -1,12 +1,8 @@
 -- `decode::show` meets its contract.
-use mathlib.Core.Path.{sym}
 use borrow.Author.Needs.{needs}
-use native.Mathlib.Omega.{arith}
 use Rattle.decode.proofs.show.Statement.{statement}
 use Rattle.decode.proofs.show.Tie as tie
-use lib.Seq.{length-take-le}
-use lib.ListN.{length}
-use Prim.Native.Nat.{_≤_}
+use Rattle.lines.proofs.Buffer.{put-counts}
 
 read-requires : tie.Need-read-requires
 read-requires c κs = search needs
@@ -14,8 +10,17 @@ read-requires c κs = search needs
 enum-known-outcome : tie.Need-enum-known-outcome
 enum-known-outcome c = search needs
 
-refuse-requires : tie.Need-refuse-requires
-refuse-requires c κs = search needs
+slice-aggregate-say : tie.Need-slice-aggregate-say
+slice-aggregate-say c = search needs
+
+cast-say : tie.Need-cast-say
+cast-say c = search needs
+
+slice-aggregate-say-2 : tie.Need-slice-aggregate-say-2
+slice-aggregate-say-2 c = search needs
+
+say-requires : tie.Need-say-requires
+say-requires c κs = search needs
 
 enum-told : tie.Need-enum-told
 enum-told c = search needs
@@ -30,7 +35,7 @@ array-share-prefix-text : tie.Need-array-share-prefix-text
 array-share-prefix-text c = search needs
 
 slice-aggregate-write-all : tie.Need-slice-aggregate-write-all
-slice-aggregate-write-all c = let h : c .before .before .message-text .result ≤ length (c .before .before .message-text .last .1 .1 .0) = omega (arith, c .before .before .message-text .ensures .bound, c .before .before .message-text .kept .1 .1 .0) in sym (length-take-le _ _ h)
+slice-aggregate-write-all c = put-counts (c .before .before .message-text .ensures) .1
 
 write-all-requires : tie.Need-write-all-requires
 write-all-requires c κs = search needs
@@ -47,7 +52,10 @@ show-spec =
     (tie.spec
     read-requires
     enum-known-outcome
-    refuse-requires
+    slice-aggregate-say
+    cast-say
+    slice-aggregate-say-2
+    say-requires
     enum-told
     slice-aggregate-message-text
     message-text-requires
