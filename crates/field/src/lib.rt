@@ -139,7 +139,7 @@ pub fn is_allowed(f: Format, n: usize) -> bool
 }
 
 // Rule 8: whether each byte is 20 to 7E.
-fn all_printable(s: &[u8]) -> bool
+pub fn all_printable(s: &[u8]) -> bool
     ensures { λ r. ⌜ r ≡ allPrintable (now (s .entry)) ⌝ }
 {
     let mut i = 0;

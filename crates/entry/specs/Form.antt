@@ -1,0 +1,54 @@
+-- Document 01, rule 2: what an entry must hold, by itself.
+use mathlib.Core.Bool.{Bool, not, _&&_, _||_}
+use mathlib.Core.List.{List}
+use Prim.Native.Nat.{ℕ}
+use lib.Dec.{leb, eqb}
+use lib.ListN.{take, drop}
+use Rattle.digits.specs.Digits.{bytesFor, isPacked}
+use Rattle.field.specs.Contents.{allPrintable}
+use Rattle.kinds.specs.Kinds.{isKind, isDue, isVoidable}
+use Rattle.entry.specs.Entry.{allZero}
+use Rattle.entry.specs.declared.Entry.{Entry}
+
+-- x lies between two bounds, both included
+unfoldable pub within : ℕ → ℕ → ℕ → Bool
+within low x high = leb low x && leb x high
+
+-- 13 to 19 packed digits, zero filled
+unfoldable pub cardInForm : ℕ → List ℕ → Bool
+cardInForm n card = within 13 n 19 && isPacked n (take (bytesFor n) card) && allZero (drop (bytesFor n) card)
+
+-- a value out of its range or form; a date may be any four digits
+unfoldable pub inForm : Entry → Bool
+inForm e =
+    isKind (e .kind)
+    && leb (e .voided) 1
+    && leb (e .mark) 4
+    && within 1 (e .trace .0) 999999
+    && within 1 (e .amount) 9999999999
+    && cardInForm (e .digits) (e .card)
+    && isPacked 4 (e .date)
+    && allPrintable (e .authorisation)
+    && allPrintable (e .reference)
+    && allZero (e .reserved)
+
+-- a voided mark on a kind other than 20 or 22
+unfoldable pub keepsVoided : Entry → Bool
+keepsVoided e = eqb (e .voided) 0 || isVoidable (e .kind)
+
+-- a mark or resend other than 0 outside the upload or on an entry not due
+unfoldable pub keepsUnmarked : Bool → Entry → Bool
+keepsUnmarked uploading e = (uploading && isDue (e .kind)) || (eqb (e .mark) 0 && eqb (e .resends) 0)
+
+-- a resend at mark 0 or above L
+unfoldable pub keepsResends : ℕ → Entry → Bool
+keepsResends l e = leb (e .resends) l && (not (eqb (e .mark) 0) || eqb (e .resends) 0)
+
+-- a mark 1 already resent L times and not awaited
+unfoldable pub keepsSilent : ℕ → Bool → Entry → Bool
+keepsSilent l awaited e = not (eqb (e .mark) 1 && eqb (e .resends) l) || awaited
+
+-- all of these, for an entry that is the awaited item or is not
+unfoldable pub fits : ℕ → Bool → Bool → Entry → Bool
+fits l uploading awaited e =
+    inForm e && keepsVoided e && keepsUnmarked uploading e && keepsResends l e && keepsSilent l awaited e

@@ -1,0 +1,192 @@
+// An entry of the journal: its bytes and its values (document 01, "State and journal").
+use parts::Trace;
+ghost use mathlib.Core.Path.{_≡_};
+ghost use mathlib.Core.List.{_++_};
+ghost use Prim.Native.Nat.{_+_, _≤_};
+ghost use lib.ListN.{length, take, drop};
+ghost use Rattle.packed.specs.Packed.{packedNumber};
+ghost use Rattle.entry.specs.Entry.{decode, encode, part, allZero, blank};
+ghost use Rattle.entry.specs.Form.{within, cardInForm, inForm, keepsVoided, keepsUnmarked, keepsResends, keepsSilent, fits};
+
+// The values of an entry; card and date are packed digits.
+pub struct Entry {
+    pub kind: u8,
+    pub voided: u8,
+    pub mark: u8,
+    pub resends: u8,
+    pub trace: Trace,
+    pub amount: u64,
+    pub digits: u8,
+    pub card: [u8; 10],
+    pub date: [u8; 2],
+    pub authorisation: [u8; 6],
+    pub reference: [u8; 12],
+    pub reserved: [u8; 4],
+}
+
+impl Entry {
+    // The bytes of an entry.
+    pub const SIZE: usize = 48;
+}
+
+fn trace_in(s: &[u8]) -> Trace
+    requires { ⌜ length (now s) ≡ 48 ⌝ }
+    ensures { λ r. ⌜ r ≡ record { 0 = packedNumber 6 (part 4 3 (now (s .entry))) } ⌝ }
+{
+    Trace(packed::number_in(&s[4..7]) as u32)
+}
+
+// The values that 48 bytes hold.
+pub fn entry_of(b: &[u8; 48]) -> Entry
+    ensures { λ r. ⌜ r ≡ decode (now (b .entry)) ⌝ }
+{
+    let s: &[u8] = b;
+    let mut card = [0u8; 10];
+    let mut date = [0u8; 2];
+    let mut authorisation = [0u8; 6];
+    let mut reference = [0u8; 12];
+    let mut reserved = [0u8; 4];
+    bytes::copy(&s[14..24], &mut card);
+    bytes::copy(&s[24..26], &mut date);
+    bytes::copy(&s[26..32], &mut authorisation);
+    bytes::copy(&s[32..44], &mut reference);
+    bytes::copy(&s[44..48], &mut reserved);
+    let trace = trace_in(s);
+    Entry {
+        kind: s[0],
+        voided: s[1],
+        mark: s[2],
+        resends: s[3],
+        trace: trace,
+        amount: packed::number_in(&s[7..13]),
+        digits: s[13],
+        card: card,
+        date: date,
+        authorisation: authorisation,
+        reference: reference,
+        reserved: reserved,
+    }
+}
+
+// Copies s into out from an offset on.
+fn put(s: &[u8], at: usize, out: &mut [u8])
+    requires { ⌜ at + length (now s) ≤ length (now out) ⌝ }
+    ensures { λ _. ⌜ now (out .exit) ≡ take at (now (out .entry)) ++ (now (s .entry) ++ drop (at + length (now (s .entry))) (now (out .entry))) ⌝ }
+{
+    let end = at + s.len();
+    bytes::copy(s, &mut out[at..end]);
+}
+
+// The 48 bytes that hold an entry's values.
+pub fn bytes_of(e: Entry) -> [u8; 48]
+    ensures { λ r. ⌜ r ≡ encode e ⌝ }
+{
+    let trace = e.trace;
+    let card = e.card;
+    let date = e.date;
+    let authorisation = e.authorisation;
+    let reference = e.reference;
+    let reserved = e.reserved;
+    let marks = [e.kind, e.voided, e.mark, e.resends];
+    let digits = [e.digits];
+    let mut number = [0u8; 3];
+    let mut amount = [0u8; 6];
+    packed::put_number(trace.0 as u64, &mut number);
+    packed::put_number(e.amount, &mut amount);
+    let mut b = [0u8; 48];
+    put(&marks, 0, &mut b);
+    put(&number, 4, &mut b);
+    put(&amount, 7, &mut b);
+    put(&digits, 13, &mut b);
+    put(&card, 14, &mut b);
+    put(&date, 24, &mut b);
+    put(&authorisation, 26, &mut b);
+    put(&reference, 32, &mut b);
+    put(&reserved, 44, &mut b);
+    b
+}
+
+fn is_within(low: u64, x: u64, high: u64) -> bool
+    ensures { λ r. ⌜ r ≡ within low x high ⌝ }
+{
+    (low <= x) & (x <= high)
+}
+
+fn is_zero(s: &[u8]) -> bool
+    ensures { λ r. ⌜ r ≡ allZero (now (s .entry)) ⌝ }
+{
+    let mut i = 0;
+    while i < s.len() {
+        if s[i] != 0 {
+            return false;
+        }
+        i += 1;
+    }
+    true
+}
+
+fn is_card(n: u8, card: &[u8]) -> bool
+    requires { ⌜ length (now card) ≡ 10 ⌝ }
+    ensures { λ r. ⌜ r ≡ cardInForm n (now (card .entry)) ⌝ }
+{
+    if is_within(13, n as u64, 19) {
+        let count = n as usize;
+        let size = (count + 1) / 2;
+        return digits::is_packed(&card[..size], count) & is_zero(&card[size..]);
+    }
+    false
+}
+
+// Whether each value is in its range and form.
+pub fn is_in_form(e: Entry) -> bool
+    ensures { λ r. ⌜ r ≡ inForm e ⌝ }
+{
+    let trace = e.trace;
+    let card = e.card;
+    let date = e.date;
+    let authorisation = e.authorisation;
+    let reference = e.reference;
+    let reserved = e.reserved;
+    kinds::is_kind(e.kind)
+        & (e.voided <= 1)
+        & (e.mark <= 4)
+        & is_within(1, trace.0 as u64, 999999)
+        & is_within(1, e.amount, 9999999999)
+        & is_card(e.digits, &card)
+        & digits::is_packed(&date, 4)
+        & field::all_printable(&authorisation)
+        & field::all_printable(&reference)
+        & is_zero(&reserved)
+}
+
+// Whether an entry keeps the clauses of rule 2 that are about it alone.
+pub fn fits(e: Entry, sendings: u8, uploading: bool, awaited: bool) -> bool
+    ensures { λ r. ⌜ r ≡ fits sendings uploading awaited e ⌝ }
+{
+    is_in_form(e)
+        & ((e.voided == 0) | kinds::is_voidable(e.kind))
+        & ((uploading & kinds::is_due(e.kind)) | ((e.mark == 0) & (e.resends == 0)))
+        & ((e.resends <= sendings) & (!(e.mark == 0) | (e.resends == 0)))
+        & (!((e.mark == 1) & (e.resends == sendings)) | awaited)
+}
+
+// The values of 48 zeros, which stand for no entry.
+pub fn blank() -> Entry
+    ensures { λ r. ⌜ r ≡ blank ⌝ }
+{
+    let none = Trace(0);
+    Entry {
+        kind: 0,
+        voided: 0,
+        mark: 0,
+        resends: 0,
+        trace: none,
+        amount: 0,
+        digits: 0,
+        card: [0u8; 10],
+        date: [0u8; 2],
+        authorisation: [0u8; 6],
+        reference: [0u8; 12],
+        reserved: [0u8; 4],
+    }
+}

@@ -1,0 +1,103 @@
+// The kinds of card request, which are the numbers of field 60.1 (document 01, "Kinds").
+ghost use mathlib.Core.Path.{_≡_};
+ghost use Rattle.kinds.specs.Kinds.{isKind, indicatorOf, processingOf, conditionOf, sideOf, isDue, takesOriginal, originalKind, isVoidable};
+
+// The side of the settlement that a kind's amount stands on.
+pub enum Side {
+    Debit,
+    Credit,
+    Neither,
+}
+
+pub fn is_kind(kind: u8) -> bool
+    ensures { λ r. ⌜ r ≡ isKind kind ⌝ }
+{
+    match kind {
+        10..=11 => true,
+        20..=23 => true,
+        25 => true,
+        _ => false,
+    }
+}
+
+// The type of a request.
+pub fn indicator_of(kind: u8) -> u16
+    ensures { λ r. ⌜ r ≡ indicatorOf kind ⌝ }
+{
+    match kind {
+        10..=11 => 0x0100,
+        20..=23 => 0x0200,
+        _ => 0x0220,
+    }
+}
+
+// Field 3.
+pub fn processing_of(kind: u8) -> u32
+    ensures { λ r. ⌜ r ≡ processingOf kind ⌝ }
+{
+    match kind {
+        10 => 30000,
+        20 => 0,
+        22 => 0,
+        _ => 200000,
+    }
+}
+
+// Field 25.
+pub fn condition_of(kind: u8) -> u8
+    ensures { λ r. ⌜ r ≡ conditionOf kind ⌝ }
+{
+    match kind {
+        10..=11 => 6,
+        20..=21 => 6,
+        _ => 0,
+    }
+}
+
+pub fn side_of(kind: u8) -> Side
+    ensures { λ r. ⌜ r ≡ sideOf kind ⌝ }
+{
+    match kind {
+        20 => Side::Debit,
+        21 => Side::Credit,
+        22 => Side::Debit,
+        23 => Side::Credit,
+        25 => Side::Credit,
+        _ => Side::Neither,
+    }
+}
+
+// Whether an entry of this kind is uploaded.
+pub fn is_due(kind: u8) -> bool
+    ensures { λ r. ⌜ r ≡ isDue kind ⌝ }
+{
+    match side_of(kind) {
+        Side::Debit => true,
+        Side::Credit => true,
+        Side::Neither => false,
+    }
+}
+
+// Whether a request of this kind takes card and amount from an entry of the journal.
+pub fn takes_original(kind: u8) -> bool
+    ensures { λ r. ⌜ r ≡ takesOriginal kind ⌝ }
+{
+    (kind == 21) | (kind == 23)
+}
+
+// The kind of that entry.
+pub fn original_kind(kind: u8) -> u8
+    ensures { λ r. ⌜ r ≡ originalKind kind ⌝ }
+{
+    if kind == 23 {
+        return 22;
+    }
+    20
+}
+
+// Whether an entry of this kind may be voided.
+pub fn is_voidable(kind: u8) -> bool
+    ensures { λ r. ⌜ r ≡ isVoidable kind ⌝ }
+{
+    (kind == 20) | (kind == 22)
+}

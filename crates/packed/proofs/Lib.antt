@@ -1,0 +1,2 @@
+-- Laws of packed numbers, for other crates to cite.
+pub mod Packed
