@@ -1,0 +1,2 @@
+-- Laws of the entry of an approval, for other crates to cite.
+pub mod Approval

@@ -1,0 +1,46 @@
+// The entry of an approval (document 01, "State and journal" and "Calls").
+use entry::Entry;
+use message::Message;
+use state::Card;
+use state::Request;
+ghost use mathlib.Core.Path.{_≡_};
+ghost use Rattle.approval.specs.Approval.{zeroFilled, fieldOr, approvedEntry};
+
+fn zero_filled(card: Card) -> [u8; 10]
+    ensures { λ r. ⌜ r ≡ zeroFilled card ⌝ }
+{
+    let n = card.length as usize;
+    let mut ds = [0u8; 275];
+    let mut out = [0u8; 10];
+    digits::digits_into(card.number, &mut ds[..n]);
+    digits::pack_into(&ds[..20], &mut out);
+    out
+}
+
+// The entry that a good answer to a request makes.
+pub fn approved_entry(q: Request, m: Message) -> Entry
+    ensures { λ r. ⌜ r ≡ approvedEntry q m ⌝ }
+{
+    let card = q.card;
+    let trace = q.trace;
+    let mut date = [0u8; 2];
+    let mut authorisation = [0x20u8; 6];
+    let mut reference = [0u8; 12];
+    parts::field_into(m, 13, &mut date);
+    parts::field_into(m, 38, &mut authorisation);
+    parts::field_into(m, 37, &mut reference);
+    Entry {
+        kind: q.kind,
+        voided: 0,
+        mark: 0,
+        resends: 0,
+        trace: trace,
+        amount: q.amount,
+        digits: card.length,
+        card: zero_filled(card),
+        date: date,
+        authorisation: authorisation,
+        reference: reference,
+        reserved: [0u8; 4],
+    }
+}

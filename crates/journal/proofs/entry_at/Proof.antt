@@ -1,0 +1,56 @@
+-- `journal::entry_at` meets its contract.
+use mathlib.Core.Path.{sym, _∙_}
+use borrow.Author.Needs.{needs}
+use native.Mathlib.Omega.{arith}
+use denote.Ref.{now}
+use Rattle.journal.proofs.Entries.{entry-there, entry-beyond, entry-short}
+use Rattle.journal.proofs.entry_at.Statement.{statement}
+use Rattle.journal.proofs.entry_at.Tie as tie
+
+wide-requires : tie.Need-wide-requires
+wide-requires c κs = search needs
+
+mul-at : tie.Need-mul-at
+mul-at c = search needs
+
+blank-requires : tie.Need-blank-requires
+blank-requires c κs = search needs
+
+returns : tie.Need-returns
+returns c =
+    let a = c .before .before .before .before .args in
+    c .blank .ensures ∙ sym (entry-beyond (a .n) (a .i) (now (a .journal)) (omega arith))
+
+add-if2 : tie.Need-add-if2
+add-if2 c = search needs
+
+blank-requires-2 : tie.Need-blank-requires-2
+blank-requires-2 c κs = search needs
+
+returns-2 : tie.Need-returns-2
+returns-2 c =
+    let a = c .before .before .before .before .before .args in
+    c .blank2 .ensures ∙ sym (entry-short (a .n) (a .i) (now (a .journal)) (omega arith))
+
+load-requires : tie.Need-load-requires
+load-requires c κs = search needs
+
+returns-3 : tie.Need-returns-3
+returns-3 c =
+    let a = c .before .before .before .before .before .args in
+    rw (c .before .before .before .wide .ensures .0) at (c .load .ensures)
+    ∙ sym (entry-there (a .n) (a .i) (now (a .journal)) (omega arith) (omega arith))
+
+pub entry-at-spec : {M : Type 1} → statement M
+entry-at-spec =
+    tie.close
+    (tie.spec
+    wide-requires
+    mul-at
+    blank-requires
+    returns
+    add-if2
+    blank-requires-2
+    returns-2
+    load-requires
+    returns-3)

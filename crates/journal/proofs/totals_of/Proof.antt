@@ -1,0 +1,62 @@
+-- `journal::totals_of` meets its contract.
+use borrow.Author.Needs.{needs}
+use native.Mathlib.Omega.{arith}
+use Prim.Native.Nat.{_-_}
+use Rattle.journal.proofs.Steps.{Summing, summing-none, summing-room, summing-more, summing-short, summing-done}
+use Rattle.journal.proofs.totals_of.Statement.{statement}
+use Rattle.journal.proofs.totals_of.Tie as tie
+
+abbrev Inv-loop : tie.InvT-loop
+Inv-loop journal n sums₀ i₀ at₀ sums i at = Summing n journal i at sums
+
+abbrev μ-loop : tie.MeasureT-loop
+μ-loop journal n sums₀ i₀ at₀ sums i at = n - i
+
+loop-holds : tie.Need-loop-holds Inv-loop μ-loop
+loop-holds c = summing-none
+
+sub-if1 : tie.Need-sub-if1 Inv-loop μ-loop
+sub-if1 c = search needs
+
+returns : tie.Need-returns Inv-loop μ-loop
+returns c = summing-short (c .before .before .loop .inv) (c .if1 .taken)
+
+load-requires : tie.Need-load-requires Inv-loop μ-loop
+load-requires c κs = omega arith
+
+plus-requires : tie.Need-plus-requires Inv-loop μ-loop
+plus-requires c κs = rw (c .load .ensures) (summing-room (c .before .before .before .loop .inv) (omega arith))
+
+add-at : tie.Need-add-at Inv-loop μ-loop
+add-at c = search needs
+
+add-i : tie.Need-add-i Inv-loop μ-loop
+add-i c = search needs
+
+loop-less : tie.Need-loop-less Inv-loop μ-loop
+loop-less c = search needs
+
+loop-again : tie.Need-loop-again Inv-loop μ-loop
+loop-again c =
+    let turn = c .before .before .before in
+    rw (c .plus .ensures, c .before .load .ensures) (summing-more (turn .before .loop .inv) (turn .loop-test .taken) (omega arith))
+
+returns-2 : tie.Need-returns-2 Inv-loop μ-loop
+returns-2 c = summing-done (c .before .loop .inv) (c .loop-test .left)
+
+pub totals-of-spec : {M : Type 1} → statement M
+totals-of-spec =
+    tie.close
+    (tie.spec
+    Inv-loop
+    μ-loop
+    loop-holds
+    sub-if1
+    returns
+    load-requires
+    plus-requires
+    add-at
+    add-i
+    loop-less
+    loop-again
+    returns-2)

@@ -1,0 +1,199 @@
+-- What leaves: the fields of a request and of a reversal are held, so that the message is theirs, and is written.
+use mathlib.Core.Path.{_≡_, refl}
+use mathlib.Core.List.{List, [], _∷_, _++_}
+use mathlib.Core.Bool.{Bool, true, false, cond, _||_, and-eq-true-iff}
+use Prim.Native.Nat.{ℕ, _+_, _≤_}
+use lib.Dec.{eqb}
+use lib.ListN.{length, drop, replicate, length-append}
+use borrow.Author.Tests.{le-leb, le-ltb}
+use Rattle.digits.specs.Numbers.{digitsOf}
+use Rattle.digits.proofs.Numbers.{length-digitsOf, digitsOf-digits}
+use Rattle.field.specs.Table.{among, indicators, formats}
+use Rattle.field.specs.Contents.{allowed, allPrintable}
+use Rattle.message.specs.Build.{Item, digits, bytes, messageOf}
+use Rattle.message.specs.Message.{largest}
+use Rattle.parts.specs.declared.Batch.{Batch}
+use Rattle.kinds.specs.Kinds.{indicatorOf, processingOf, conditionOf, takesOriginal}
+use Rattle.state.specs.declared.Request.{Request}
+use Rattle.state.specs.declared.Reason.{Reason}
+use Rattle.state.specs.declared.Reason.the-variants.{Silence, BadMac}
+use Rattle.state.specs.declared.Reversal.{Reversal}
+use Rattle.state.specs.declared.Settings.{Settings}
+use Rattle.writing.specs.Writing.{messageBytes, written, writeMessage}
+use Rattle.writing.specs.declared.Writing.the-variants.{Written}
+use Rattle.compose.specs.Compose.{mayHold, allHeld, withAll}
+use Rattle.compose.proofs.Items.{takes, isDigits, digits-held, number-held, printable-held, bytes-held}
+use Rattle.compose.proofs.Composed.{all-composed}
+use Rattle.compose.proofs.Sound.{sound}
+use Rattle.outgoing.specs.declared.Original.{Original}
+use Rattle.outgoing.specs.Outgoing.{field60, field61, cardFields, originalFields, requestFields, reasonCode, reversalFields, requestMessage, reversalMessage}
+use Rattle.outgoing.specs.Leaving.{CardHeld, OriginalHeld}
+use Rattle.outgoing.proofs.Pieces.{digits-append}
+
+pub held-append : (xs ys : List Item) → allHeld xs ≡ true → allHeld ys ≡ true → allHeld (xs ++ ys) ≡ true
+held-append [] ys a b = b
+held-append (x ∷ xs) ys a b =
+    let t = and-eq-true-iff (mayHold formats x) (allHeld xs) .0 a in
+    rw (t .0, held-append xs ys (t .1) b)
+
+-- a card number, and a fixed field's digits or bytes, are as many as the table allows
+card-taken : (k : ℕ) → 13 ≤ k → k ≤ 19 → takes isDigits formats 2 k ≡ true
+unfolding formats allowed
+card-taken k l h = rw (le-leb 13 k l, le-leb k 19 h)
+
+processing-held : (x : ℕ) → mayHold formats (digits 3 (digitsOf 6 x)) ≡ true
+unfolding formats allowed
+processing-held x = number-held 3 6 x refl
+
+amount-held : (x : ℕ) → mayHold formats (digits 4 (digitsOf 12 x)) ≡ true
+unfolding formats allowed
+amount-held x = number-held 4 12 x refl
+
+trace-held : (x : ℕ) → mayHold formats (digits 11 (digitsOf 6 x)) ≡ true
+unfolding formats allowed
+trace-held x = number-held 11 6 x refl
+
+entry-held : (x : ℕ) → mayHold formats (digits 22 (digitsOf 3 x)) ≡ true
+unfolding formats allowed
+entry-held x = number-held 22 3 x refl
+
+condition-held : (x : ℕ) → mayHold formats (digits 25 (digitsOf 2 x)) ≡ true
+unfolding formats allowed
+condition-held x = number-held 25 2 x refl
+
+reference-held : (b : List ℕ) → length b ≡ 12 → allPrintable b ≡ true → mayHold formats (bytes 37 b) ≡ true
+unfolding formats allowed
+reference-held b l p = printable-held 37 b (rw l) p
+
+authorisation-held : (b : List ℕ) → length b ≡ 6 → allPrintable b ≡ true → mayHold formats (bytes 38 b) ≡ true
+unfolding formats allowed
+authorisation-held b l p = printable-held 38 b (rw l) p
+
+reason-held : (b : List ℕ) → length b ≡ 2 → allPrintable b ≡ true → mayHold formats (bytes 39 b) ≡ true
+unfolding formats allowed
+reason-held b l p = printable-held 39 b (rw l) p
+
+terminal-held : (b : List ℕ) → length b ≡ 8 → allPrintable b ≡ true → mayHold formats (bytes 41 b) ≡ true
+unfolding formats allowed
+terminal-held b l p = printable-held 41 b (rw l) p
+
+merchant-held : (b : List ℕ) → length b ≡ 15 → allPrintable b ≡ true → mayHold formats (bytes 42 b) ≡ true
+unfolding formats allowed
+merchant-held b l p = printable-held 42 b (rw l) p
+
+currency-held : (b : List ℕ) → length b ≡ 3 → allPrintable b ≡ true → mayHold formats (bytes 49 b) ≡ true
+unfolding formats allowed
+currency-held b l p = printable-held 49 b (rw l) p
+
+mac-held : mayHold formats (bytes 64 (replicate 8 0)) ≡ true
+unfolding formats allowed
+mac-held = bytes-held 64 (replicate 8 0) refl
+
+-- three numbers, one after another
+joined : (n p q r x y w : ℕ) → takes isDigits formats n (p + (q + r)) ≡ true → mayHold formats (digits n (digitsOf p x ++ (digitsOf q y ++ digitsOf r w))) ≡ true
+joined n p q r x y w h =
+    digits-held n (digitsOf p x ++ (digitsOf q y ++ digitsOf r w)) (simp (length-append, length-digitsOf) h)
+    (digits-append (digitsOf p x) (digitsOf q y ++ digitsOf r w) (digitsOf-digits p x)
+    (digits-append (digitsOf q y) (digitsOf r w) (digitsOf-digits q y) (digitsOf-digits r w)))
+
+field60-held : (kind : ℕ) (batch : Batch) (code : ℕ) → mayHold formats (digits 60 (field60 kind batch code)) ≡ true
+unfolding formats allowed
+field60-held kind batch code = joined 60 2 6 3 kind (batch .0) code refl
+
+field61-held : (o : Original) → mayHold formats (digits 61 (field61 o)) ≡ true
+unfolding formats allowed
+field61-held o = joined 61 6 6 4 (o .batch .0) (o .trace .0) (o .date) refl
+
+-- the currency and the reasons are printable
+currency-printable : allPrintable (0x31 ∷ 0x35 ∷ 0x36 ∷ []) ≡ true
+unfolding allPrintable
+currency-printable = refl
+
+reason-printable : (r : Reason) → allPrintable (reasonCode r) ≡ true
+unfolding allPrintable
+reason-printable Silence = refl
+reason-printable BadMac = refl
+
+reason-length : (r : Reason) → length (reasonCode r) ≡ 2
+reason-length Silence = refl
+reason-length BadMac = refl
+
+module _ (x : Settings) (batch : Batch) (q : Request) (h : CardHeld x q) where
+  card-held : allHeld (cardFields x batch q) ≡ true
+  card-held =
+      rw (
+        number-held 2 (q .card .length) (q .card .number) (card-taken (q .card .length) (h .card-low) (h .card-high)),
+        processing-held (processingOf (q .kind)),
+        amount-held (q .amount),
+        trace-held (q .trace .0),
+        entry-held 12,
+        condition-held (conditionOf (q .kind)),
+        terminal-held (x .terminal) (h .terminal-length) (h .terminal-printable),
+        merchant-held (x .merchant) (h .merchant-length) (h .merchant-printable),
+        currency-held (0x31 ∷ 0x35 ∷ 0x36 ∷ []) refl currency-printable,
+        field60-held (q .kind) batch 0,
+        mac-held
+      )
+
+original-held : (kind : ℕ) (o : Original) → OriginalHeld kind o → allHeld (originalFields kind o) ≡ true
+original-held kind o h =
+    go (takesOriginal kind) (eqb kind 25) (eqb kind 11 || eqb kind 20) (h .reference-printable) (h .authorisation-printable)
+  where
+    reference : allPrintable (o .reference) ≡ true → mayHold formats (bytes 37 (o .reference)) ≡ true
+    reference p = reference-held (o .reference) (h .reference-length) p
+
+    authorisation : allPrintable (o .authorisation) ≡ true → mayHold formats (bytes 38 (o .authorisation)) ≡ true
+    authorisation p = authorisation-held (o .authorisation) (h .authorisation-length) p
+
+    go : (a b c : Bool) → ((a || b) ≡ true → allPrintable (o .reference) ≡ true) → ((a || c) ≡ true → allPrintable (o .authorisation) ≡ true)
+        → allHeld (cond a
+        (bytes 37 (o .reference) ∷ bytes 38 (o .authorisation) ∷ digits 61 (field61 o) ∷ [])
+        (cond b
+        (bytes 37 (o .reference) ∷ digits 61 (field61 o) ∷ [])
+        (cond c (bytes 38 (o .authorisation) ∷ digits 61 (field61 o) ∷ []) []))) ≡ true
+    go true b c r s = rw (reference (r refl), authorisation (s refl), field61-held o)
+    go false true c r s = rw (reference (r refl), field61-held o)
+    go false false true r s = rw (authorisation (s refl), field61-held o)
+    go false false false r s = refl
+
+module _ (x : Settings) (batch : Batch) (q : Request) (o : Original) (h : CardHeld x q) (g : OriginalHeld (q .kind) o) where
+  pub request-held : allHeld (requestFields x batch q o) ≡ true
+  request-held =
+      held-append (cardFields x batch q) (originalFields (q .kind) o) (card-held x batch q h) (original-held (q .kind) o g)
+
+  -- what `request_message` gives
+  pub request-is : withAll (requestFields x batch q o) (messageOf (indicatorOf (q .kind)) []) ≡ requestMessage x batch q o
+  unfolding requestMessage
+  request-is = all-composed (indicatorOf (q .kind)) (requestFields x batch q o) request-held
+
+module _ (x : Settings) (batch : Batch) (v : Reversal) (h : CardHeld x (v .request)) where
+  pub reversal-held : allHeld (reversalFields x batch v) ≡ true
+  reversal-held =
+      held-append (cardFields x batch (v .request)) (bytes 39 (reasonCode (v .reason)) ∷ []) (card-held x batch (v .request) h)
+      (rw (reason-held (reasonCode (v .reason)) (reason-length (v .reason)) (reason-printable (v .reason))))
+
+  -- what `reversal_message` gives
+  pub reversal-is : withAll (reversalFields x batch v) (messageOf 0x0400 []) ≡ reversalMessage x batch v
+  unfolding reversalMessage
+  reversal-is = all-composed 0x0400 (reversalFields x batch v) reversal-held
+
+-- the types that leave are listed
+pub request-listed : (kind : ℕ) → among (indicatorOf kind) indicators ≡ true
+unfolding indicatorOf indicators
+request-listed kind = go (among kind (10 ∷ 11 ∷ [])) (among kind (20 ∷ 21 ∷ 22 ∷ 23 ∷ []))
+  where
+    go : (a b : Bool) → among (cond a 0x0100 (cond b 0x0200 0x0220)) indicators ≡ true
+    go true b = refl
+    go false true = refl
+    go false false = refl
+
+pub reversal-listed : among 0x0400 indicators ≡ true
+unfolding indicators
+reversal-listed = refl
+
+-- a message of held fields and a listed type is written
+pub written-is : (i : ℕ) (xs : List Item) (o : List ℕ) → among i indicators ≡ true → allHeld xs ≡ true → largest ≤ length o
+    → writeMessage (messageOf i xs) o
+    ≡ written (Written (length (messageBytes (messageOf i xs)))) (messageBytes (messageOf i xs) ++ drop (length (messageBytes (messageOf i xs))) o)
+unfolding writeMessage
+written-is i xs o l h r = rw (le-ltb (length o) largest r, sound i xs l h)

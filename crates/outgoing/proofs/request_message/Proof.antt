@@ -1,0 +1,39 @@
+-- `outgoing::request_message` meets its contract.
+use mathlib.Core.Path.{sym, _∙_}
+use borrow.Author.Needs.{needs}
+use mathlib.Core.List.{[]}
+use Rattle.message.specs.Build.{messageOf}
+use Rattle.kinds.specs.Kinds.{indicatorOf}
+use Rattle.compose.proofs.Composed.{all-append}
+use Rattle.outgoing.specs.Outgoing.{cardFields, originalFields}
+use Rattle.outgoing.proofs.request_message.Statement.{statement}
+use Rattle.outgoing.proofs.request_message.Tie as tie
+
+indicator-of-requires : tie.Need-indicator-of-requires
+indicator-of-requires c κs = search needs
+
+typed-requires : tie.Need-typed-requires
+typed-requires c κs = search needs
+
+with-original-fields-requires : tie.Need-with-original-fields-requires
+with-original-fields-requires c κs = search needs
+
+with-card-fields-requires : tie.Need-with-card-fields-requires
+with-card-fields-requires c κs = search needs
+
+returns : tie.Need-returns
+returns c =
+    let a = c .before .before .before .before .args in
+    c .with-card-fields .ensures
+    ∙ rw (c .before .with-original-fields .ensures, c .before .before .typed .ensures, c .before .before .before .indicator-of .ensures)
+    (sym (all-append (cardFields (a .x) (a .batch) (a .q)) (originalFields (a .q .kind) (a .o)) (messageOf (indicatorOf (a .q .kind)) [])))
+
+pub request-message-spec : {M : Type 1} → statement M
+request-message-spec =
+    tie.close
+    (tie.spec
+    indicator-of-requires
+    typed-requires
+    with-original-fields-requires
+    with-card-fields-requires
+    returns)

@@ -1,0 +1,23 @@
+-- `outgoing::reversal_message` meets its contract.
+use mathlib.Core.Path.{_∙_}
+use borrow.Author.Needs.{needs}
+use Rattle.outgoing.proofs.reversal_message.Statement.{statement}
+use Rattle.outgoing.proofs.reversal_message.Tie as tie
+
+typed-requires : tie.Need-typed-requires
+typed-requires c κs = search needs
+
+with-reason-requires : tie.Need-with-reason-requires
+with-reason-requires c κs = search needs
+
+with-card-fields-requires : tie.Need-with-card-fields-requires
+with-card-fields-requires c κs = search needs
+
+returns : tie.Need-returns
+returns c =
+    c .with-card-fields .ensures
+    ∙ rw (c .before .with-reason .ensures, c .before .before .typed .ensures)
+
+pub reversal-message-spec : {M : Type 1} → statement M
+reversal-message-spec =
+    tie.close (tie.spec typed-requires with-reason-requires with-card-fields-requires returns)

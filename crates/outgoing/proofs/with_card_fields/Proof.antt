@@ -1,0 +1,96 @@
+-- `outgoing::with_card_fields` meets its contract.
+use borrow.Author.Needs.{needs}
+use Rattle.outgoing.proofs.with_card_fields.Statement.{statement}
+use Rattle.outgoing.proofs.with_card_fields.Tie as tie
+
+slice-aggregate-with-bytes : tie.Need-slice-aggregate-with-bytes
+slice-aggregate-with-bytes c = search needs
+
+with-bytes-requires : tie.Need-with-bytes-requires
+with-bytes-requires c κs = search needs
+
+with-field60-requires : tie.Need-with-field60-requires
+with-field60-requires c κs = search needs
+
+slice-aggregate-with-bytes-2 : tie.Need-slice-aggregate-with-bytes-2
+slice-aggregate-with-bytes-2 c = search needs
+
+with-bytes-requires-2 : tie.Need-with-bytes-requires-2
+with-bytes-requires-2 c κs = search needs
+
+slice-aggregate-with-bytes-3 : tie.Need-slice-aggregate-with-bytes-3
+slice-aggregate-with-bytes-3 c =
+    let g = c .before .before .before .before .before .before .before .before .before .before .good .1 .0 in search needs
+
+with-bytes-requires-3 : tie.Need-with-bytes-requires-3
+with-bytes-requires-3 c κs = search needs
+
+slice-aggregate-with-bytes-4 : tie.Need-slice-aggregate-with-bytes-4
+slice-aggregate-with-bytes-4 c =
+    let g = c .before .before .before .before .before .before .before .before .before .before .before .before .good .1 .0 in search needs
+
+with-bytes-requires-4 : tie.Need-with-bytes-requires-4
+with-bytes-requires-4 c κs = search needs
+
+condition-of-requires : tie.Need-condition-of-requires
+condition-of-requires c κs = search needs
+
+cast-with-number : tie.Need-cast-with-number
+cast-with-number c = search needs
+
+with-number-requires : tie.Need-with-number-requires
+with-number-requires c κs = search needs
+
+with-number-requires-2 : tie.Need-with-number-requires-2
+with-number-requires-2 c κs = search needs
+
+cast-with-number-2 : tie.Need-cast-with-number-2
+cast-with-number-2 c = search needs
+
+with-number-requires-3 : tie.Need-with-number-requires-3
+with-number-requires-3 c κs = search needs
+
+with-number-requires-4 : tie.Need-with-number-requires-4
+with-number-requires-4 c κs = search needs
+
+processing-of-requires : tie.Need-processing-of-requires
+processing-of-requires c κs = search needs
+
+cast-with-number-3 : tie.Need-cast-with-number-3
+cast-with-number-3 c = search needs
+
+with-number-requires-5 : tie.Need-with-number-requires-5
+with-number-requires-5 c κs = search needs
+
+with-number-requires-6 : tie.Need-with-number-requires-6
+with-number-requires-6 c κs = search needs
+
+returns : tie.Need-returns
+returns c =
+    rw (c .with-number6 .ensures, c .before .with-number5 .ensures, c .before .before .processing-of .ensures, c .before .before .before .with-number4 .ensures, c .before .before .before .before .with-number3 .ensures, c .before .before .before .before .before .before .with-number2 .ensures, c .before .before .before .before .before .before .before .with-number .ensures, c .before .before .before .before .before .before .before .before .condition-of .ensures, c .before .before .before .before .before .before .before .before .before .with-bytes4 .ensures, c .before .before .before .before .before .before .before .before .before .before .before .with-bytes3 .ensures, c .before .before .before .before .before .before .before .before .before .before .before .before .before .with-bytes2 .ensures, c .before .before .before .before .before .before .before .before .before .before .before .before .before .before .before .with-field60 .ensures, c .before .before .before .before .before .before .before .before .before .before .before .before .before .before .before .before .with-bytes .ensures)
+
+pub with-card-fields-spec : {M : Type 1} → statement M
+with-card-fields-spec =
+    tie.close
+    (tie.spec
+    slice-aggregate-with-bytes
+    with-bytes-requires
+    with-field60-requires
+    slice-aggregate-with-bytes-2
+    with-bytes-requires-2
+    slice-aggregate-with-bytes-3
+    with-bytes-requires-3
+    slice-aggregate-with-bytes-4
+    with-bytes-requires-4
+    condition-of-requires
+    cast-with-number
+    with-number-requires
+    with-number-requires-2
+    cast-with-number-2
+    with-number-requires-3
+    with-number-requires-4
+    processing-of-requires
+    cast-with-number-3
+    with-number-requires-5
+    with-number-requires-6
+    returns)

@@ -1,0 +1,76 @@
+-- `outgoing::with_original_fields` meets its contract.
+use mathlib.Core.Path.{sym, _∙_}
+use borrow.Author.Needs.{needs}
+use borrow.Author.Tests.{eq-eqb, ne-eqb}
+use Rattle.outgoing.proofs.with_original_fields.Statement.{statement}
+use Rattle.outgoing.proofs.with_original_fields.Tie as tie
+
+takes-original-requires : tie.Need-takes-original-requires
+takes-original-requires c κs = search needs
+
+with-field61-requires : tie.Need-with-field61-requires
+with-field61-requires c κs = search needs
+
+slice-aggregate-with-bytes : tie.Need-slice-aggregate-with-bytes
+slice-aggregate-with-bytes c = search needs
+
+with-bytes-requires : tie.Need-with-bytes-requires
+with-bytes-requires c κs = search needs
+
+slice-aggregate-with-bytes-2 : tie.Need-slice-aggregate-with-bytes-2
+slice-aggregate-with-bytes-2 c =
+    let g = c .before .before .before .before .before .before .before .before .good .1 .1 .0 in search needs
+
+with-bytes-requires-2 : tie.Need-with-bytes-requires-2
+with-bytes-requires-2 c κs = search needs
+
+returns : tie.Need-returns
+returns c = rw (sym (c .before .before .before .before .before .before .takes-original .ensures) ∙ c .before .before .before .before .before .if1 .taken, c .with-bytes2 .ensures, c .before .before .with-bytes .ensures, c .before .before .before .before .with-field61 .ensures)
+
+with-field61-requires-2 : tie.Need-with-field61-requires-2
+with-field61-requires-2 c κs = search needs
+
+slice-aggregate-with-bytes-3 : tie.Need-slice-aggregate-with-bytes-3
+slice-aggregate-with-bytes-3 c = search needs
+
+with-bytes-requires-3 : tie.Need-with-bytes-requires-3
+with-bytes-requires-3 c κs = search needs
+
+returns-2 : tie.Need-returns-2
+returns-2 c = rw (sym (c .before .before .before .before .before .takes-original .ensures) ∙ c .before .before .before .before .if1 .left, eq-eqb _ _ (c .before .before .before .if2 .taken), c .with-bytes3 .ensures, c .before .before .with-field612 .ensures)
+
+with-field61-requires-3 : tie.Need-with-field61-requires-3
+with-field61-requires-3 c κs = search needs
+
+slice-aggregate-with-bytes-4 : tie.Need-slice-aggregate-with-bytes-4
+slice-aggregate-with-bytes-4 c = search needs
+
+with-bytes-requires-4 : tie.Need-with-bytes-requires-4
+with-bytes-requires-4 c κs = search needs
+
+returns-3 : tie.Need-returns-3
+returns-3 c = rw (sym (c .before .before .before .before .before .before .takes-original .ensures) ∙ c .before .before .before .before .before .if1 .left, ne-eqb _ _ (c .before .before .before .before .if2 .left), c .before .before .before .if3 .taken, c .with-bytes4 .ensures, c .before .before .with-field613 .ensures)
+
+returns-4 : tie.Need-returns-4
+returns-4 c = rw (sym (c .before .before .before .takes-original .ensures) ∙ c .before .before .if1 .left, ne-eqb _ _ (c .before .if2 .left), c .if3 .left)
+
+pub with-original-fields-spec : {M : Type 1} → statement M
+with-original-fields-spec =
+    tie.close
+    (tie.spec
+    takes-original-requires
+    with-field61-requires
+    slice-aggregate-with-bytes
+    with-bytes-requires
+    slice-aggregate-with-bytes-2
+    with-bytes-requires-2
+    returns
+    with-field61-requires-2
+    slice-aggregate-with-bytes-3
+    with-bytes-requires-3
+    returns-2
+    with-field61-requires-3
+    slice-aggregate-with-bytes-4
+    with-bytes-requires-4
+    returns-3
+    returns-4)

@@ -1,0 +1,41 @@
+-- `outgoing::with_reason` meets its contract.
+use borrow.Author.Needs.{needs}
+use Rattle.outgoing.proofs.with_reason.Statement.{statement}
+use Rattle.outgoing.proofs.with_reason.Tie as tie
+
+enum-told : tie.Need-enum-told
+enum-told c = search needs
+
+slice-aggregate-with-bytes : tie.Need-slice-aggregate-with-bytes
+slice-aggregate-with-bytes c = search needs
+
+with-bytes-requires : tie.Need-with-bytes-requires
+with-bytes-requires c κs = search needs
+
+enum-told-2 : tie.Need-enum-told-2
+enum-told-2 c = search needs
+
+slice-aggregate-with-bytes-2 : tie.Need-slice-aggregate-with-bytes-2
+slice-aggregate-with-bytes-2 c = search needs
+
+with-bytes-requires-2 : tie.Need-with-bytes-requires-2
+with-bytes-requires-2 c κs = search needs
+
+returns : tie.Need-returns
+returns c = rw (c .before .before .enum-told .given .1) (c .with-bytes .ensures)
+
+returns-2 : tie.Need-returns-2
+returns-2 c = rw (c .before .before .enum-told2 .given .1) (c .with-bytes2 .ensures)
+
+pub with-reason-spec : {M : Type 1} → statement M
+with-reason-spec =
+    tie.close
+    (tie.spec
+    enum-told
+    slice-aggregate-with-bytes
+    with-bytes-requires
+    enum-told-2
+    slice-aggregate-with-bytes-2
+    with-bytes-requires-2
+    returns
+    returns-2)

@@ -1,0 +1,76 @@
+-- Document 01, "Kinds" and "Calls": the fields of the messages that leave.
+use mathlib.Core.List.{List, [], _∷_, _++_}
+use mathlib.Core.Bool.{cond, _||_}
+use Prim.Native.Nat.{ℕ}
+use lib.Dec.{eqb}
+use lib.ListN.{replicate}
+use Rattle.digits.specs.Numbers.{digitsOf}
+use Rattle.message.specs.Build.{Item, digits, bytes, messageOf}
+use Rattle.message.specs.declared.Message.{Message}
+use Rattle.parts.specs.declared.Batch.{Batch}
+use Rattle.writing.specs.declared.Writing.{Writing}
+use Rattle.writing.specs.declared.Writing.the-variants.{Written, Refused}
+use Rattle.kinds.specs.Kinds.{indicatorOf, processingOf, conditionOf, takesOriginal}
+use Rattle.state.specs.declared.Request.{Request}
+use Rattle.state.specs.declared.Reason.{Reason}
+use Rattle.state.specs.declared.Reason.the-variants.{Silence, BadMac}
+use Rattle.state.specs.declared.Reversal.{Reversal}
+use Rattle.state.specs.declared.Settings.{Settings}
+use Rattle.outgoing.specs.declared.Original.{Original}
+
+-- field 60 is kind (2), batch (6), management code (3)
+abbrev pub field60 : ℕ → Batch → ℕ → List ℕ
+field60 kind batch code = digitsOf 2 kind ++ (digitsOf 6 (batch .0) ++ digitsOf 3 code)
+
+-- field 61 is original batch (6), trace (6), date MMDD (4)
+abbrev pub field61 : Original → List ℕ
+field61 o = digitsOf 6 (o .batch .0) ++ (digitsOf 6 (o .trace .0) ++ digitsOf 4 (o .date))
+
+-- every card request holds 2, 3, 4, 11, 22, 25, 41, 42, 49, 60, 64; field 22 is 012, the currency 156, the management code 000;
+-- field 64 leaves as eight zero bytes
+abbrev pub cardFields : Settings → Batch → Request → List Item
+cardFields x batch q =
+    digits 2 (digitsOf (q .card .length) (q .card .number))
+    ∷ digits 3 (digitsOf 6 (processingOf (q .kind)))
+    ∷ digits 4 (digitsOf 12 (q .amount))
+    ∷ digits 11 (digitsOf 6 (q .trace .0))
+    ∷ digits 22 (digitsOf 3 12)
+    ∷ digits 25 (digitsOf 2 (conditionOf (q .kind)))
+    ∷ bytes 41 (x .terminal)
+    ∷ bytes 42 (x .merchant)
+    ∷ bytes 49 (0x31 ∷ 0x35 ∷ 0x36 ∷ [])
+    ∷ digits 60 (field60 (q .kind) batch 0)
+    ∷ bytes 64 (replicate 8 0)
+    ∷ []
+
+-- kinds 21 and 23 add 37, 38 and 61; kind 25 adds 37 and 61; kinds 11 and 20 add 38 and 61
+abbrev pub originalFields : ℕ → Original → List Item
+originalFields kind o =
+    cond (takesOriginal kind)
+      (bytes 37 (o .reference) ∷ bytes 38 (o .authorisation) ∷ digits 61 (field61 o) ∷ [])
+      (cond (eqb kind 25)
+        (bytes 37 (o .reference) ∷ digits 61 (field61 o) ∷ [])
+        (cond (eqb kind 11 || eqb kind 20) (bytes 38 (o .authorisation) ∷ digits 61 (field61 o) ∷ []) []))
+
+abbrev pub requestFields : Settings → Batch → Request → Original → List Item
+requestFields x batch q o = cardFields x batch q ++ originalFields (q .kind) o
+
+-- field 39 of a reversal: 98 for silence, A0 for a bad MAC
+abbrev pub reasonCode : Reason → List ℕ
+reasonCode Silence = 0x39 ∷ 0x38 ∷ []
+reasonCode BadMac = 0x41 ∷ 0x30 ∷ []
+
+-- the reversal is 0400 with the request's fields other than 37, 38, 61, plus 39 = reason
+abbrev pub reversalFields : Settings → Batch → Reversal → List Item
+reversalFields x batch v = cardFields x batch (v .request) ++ (bytes 39 (reasonCode (v .reason)) ∷ [])
+
+unfoldable pub requestMessage : Settings → Batch → Request → Original → Message
+requestMessage x batch q o = messageOf (indicatorOf (q .kind)) (requestFields x batch q o)
+
+unfoldable pub reversalMessage : Settings → Batch → Reversal → Message
+reversalMessage x batch v = messageOf 0x0400 (reversalFields x batch v)
+
+-- the length of what was written
+abbrev pub lengthOf : Writing → ℕ
+lengthOf (Written n) = n
+lengthOf (Refused e) = 0

@@ -1,0 +1,135 @@
+// The messages that leave (document 01, "Kinds" and "Calls").
+use message::Message;
+use parts::Batch;
+use parts::Trace;
+use state::Reason;
+use state::Request;
+use state::Reversal;
+use state::Settings;
+use writing::Writing;
+ghost use mathlib.Core.Path.{_≡_};
+ghost use mathlib.Core.List.{[]};
+ghost use Rattle.message.specs.Build.{digits, bytes, messageOf};
+ghost use Rattle.kinds.specs.Kinds.{indicatorOf};
+ghost use Rattle.writing.specs.Writing.{writeMessage};
+ghost use Rattle.compose.specs.Compose.{withItem, withAll};
+ghost use Rattle.outgoing.specs.Outgoing.{field60, field61, cardFields, originalFields, requestFields, reasonCode, reversalFields, lengthOf};
+
+// What a request says of an earlier one: an entry of the journal, or what the desk keyed.
+pub struct Original {
+    pub batch: Batch,
+    pub trace: Trace,
+    pub date: u16,
+    pub authorisation: [u8; 6],
+    pub reference: [u8; 12],
+}
+
+fn with_field60(m: Message, kind: u8, batch: Batch, code: u64) -> Message
+    ensures { λ r. ⌜ r ≡ withItem (digits 60 (field60 kind batch code)) m ⌝ }
+{
+    let mut ds = [0u8; 11];
+    digits::digits_into(kind as u64, &mut ds[..2]);
+    digits::digits_into(batch.0 as u64, &mut ds[2..8]);
+    digits::digits_into(code, &mut ds[8..]);
+    compose::with_digits(m, 60, &ds)
+}
+
+fn with_field61(m: Message, o: Original) -> Message
+    ensures { λ r. ⌜ r ≡ withItem (digits 61 (field61 o)) m ⌝ }
+{
+    let batch = o.batch;
+    let trace = o.trace;
+    let mut ds = [0u8; 16];
+    digits::digits_into(batch.0 as u64, &mut ds[..6]);
+    digits::digits_into(trace.0 as u64, &mut ds[6..12]);
+    digits::digits_into(o.date as u64, &mut ds[12..]);
+    compose::with_digits(m, 61, &ds)
+}
+
+// The fields of every card request, from the last to the first.
+fn with_card_fields(m: Message, x: Settings, batch: Batch, q: Request) -> Message
+    ensures { λ r. ⌜ r ≡ withAll (cardFields x batch q) m ⌝ }
+{
+    let terminal = x.terminal;
+    let merchant = x.merchant;
+    let card = q.card;
+    let trace = q.trace;
+    let mac = [0u8; 8];
+    let currency = [0x31u8, 0x35, 0x36];
+    let m64 = compose::with_bytes(m, 64, &mac);
+    let m60 = with_field60(m64, q.kind, batch, 0);
+    let m49 = compose::with_bytes(m60, 49, &currency);
+    let m42 = compose::with_bytes(m49, 42, &merchant);
+    let m41 = compose::with_bytes(m42, 41, &terminal);
+    let m25 = compose::with_number(m41, 25, 2, kinds::condition_of(q.kind) as u64);
+    let m22 = compose::with_number(m25, 22, 3, 12);
+    let m11 = compose::with_number(m22, 11, 6, trace.0 as u64);
+    let m4 = compose::with_number(m11, 4, 12, q.amount);
+    let m3 = compose::with_number(m4, 3, 6, kinds::processing_of(q.kind) as u64);
+    compose::with_number(m3, 2, card.length, card.number)
+}
+
+// What a request names of an earlier one.
+fn with_original_fields(m: Message, kind: u8, o: Original) -> Message
+    ensures { λ r. ⌜ r ≡ withAll (originalFields kind o) m ⌝ }
+{
+    let authorisation = o.authorisation;
+    let reference = o.reference;
+    if kinds::takes_original(kind) {
+        let m61 = with_field61(m, o);
+        let m38 = compose::with_bytes(m61, 38, &authorisation);
+        return compose::with_bytes(m38, 37, &reference);
+    }
+    if kind == 25 {
+        let m61 = with_field61(m, o);
+        return compose::with_bytes(m61, 37, &reference);
+    }
+    if (kind == 11) | (kind == 20) {
+        let m61 = with_field61(m, o);
+        return compose::with_bytes(m61, 38, &authorisation);
+    }
+    m
+}
+
+// A card request.
+pub fn request_message(x: Settings, batch: Batch, q: Request, o: Original) -> Message
+    ensures { λ r. ⌜ r ≡ withAll (requestFields x batch q o) (messageOf (indicatorOf (q .kind)) []) ⌝ }
+{
+    let m = compose::typed(kinds::indicator_of(q.kind));
+    with_card_fields(with_original_fields(m, q.kind, o), x, batch, q)
+}
+
+fn with_reason(m: Message, reason: Reason) -> Message
+    ensures { λ r. ⌜ r ≡ withItem (bytes 39 (reasonCode reason)) m ⌝ }
+{
+    match reason {
+        Reason::Silence => {
+            let code = [0x39u8, 0x38];
+            compose::with_bytes(m, 39, &code)
+        }
+        Reason::BadMac => {
+            let code = [0x41u8, 0x30];
+            compose::with_bytes(m, 39, &code)
+        }
+    }
+}
+
+// A reversal.
+pub fn reversal_message(x: Settings, batch: Batch, v: Reversal) -> Message
+    ensures { λ r. ⌜ r ≡ withAll (reversalFields x batch v) (messageOf 0x0400 []) ⌝ }
+{
+    let reason = v.reason;
+    let q = v.request;
+    let m = compose::typed(0x0400);
+    with_card_fields(with_reason(m, reason), x, batch, q)
+}
+
+// Writes a message that leaves, and gives its length; 0 where it is not written.
+pub fn put_message(m: Message, message: &mut [u8]) -> usize
+    ensures { λ r. ⌜ (r ≡ lengthOf (writeMessage m (now (message .entry)) .outcome)) × (now (message .exit) ≡ writeMessage m (now (message .entry)) .buffer) ⌝ }
+{
+    match writing::write(m, message) {
+        Writing::Written(n) => n,
+        Writing::Refused(_) => 0,
+    }
+}

@@ -1,0 +1,159 @@
+-- Laws of the tests of rule 2, for the functions that equal them.
+use mathlib.Core.Path.{_≡_, refl, sym, ap, _∙_}
+use mathlib.Core.List.{List, [], _∷_}
+use mathlib.Core.Bool.{Bool, true, false, not, _&&_, true≢false}
+use Prim.Native.Nat.{ℕ, zero, suc, _+_, _-_, _*_, _^_, _≤_, _<_}
+use native.Mathlib.Omega.{arith}
+use lib.Dec.{leb, ltb, eqb}
+use lib.ListN.{length, getD}
+use borrow.Author.Tests.{lt-ltb, le-ltb, le-leb, lt-leb, ltb-true, ltb-false}
+use Rattle.message.specs.Message.{largest}
+use Rattle.entry.specs.Entry.{entrySize}
+use Rattle.entry.specs.Form.{within, inForm, keepsVoided, keepsUnmarked, keepsResends, keepsSilent, fits}
+use Rattle.entry.specs.declared.Entry.{Entry}
+use Rattle.journal.specs.Journal.{entriesOf, every, firstOf, hasTrace, isAt, fitsAt, totalsOf, absent, distinct}
+use Rattle.journal.specs.declared.Found.{Found}
+use Rattle.journal.specs.declared.Found.the-variants.{At, Nowhere}
+use Rattle.journal.proofs.Traces.{absent-first, first-absent}
+use Rattle.state.specs.declared.Card.{Card}
+use Rattle.state.specs.declared.Request.{Request}
+use Rattle.state.specs.declared.State.{State}
+use Rattle.state.specs.Calls.{firstBroken}
+use Rattle.rules.specs.Rules.{settingsInForm, isCard, stateInForm, inUpload, awaitedItem, passes, sumsKept, waiting, balanced, past, originalLeft, requestKept, nowhere, phaseKept, tooShort, inOrder, rules12}
+
+-- a card of too few or too many digits
+pub few-digits : (c : Card) → c .length < 13 → false ≡ isCard c
+unfolding isCard within
+few-digits c h = rw (lt-leb 13 (c .length) h)
+
+pub many-digits : (c : Card) → 19 < c .length → false ≡ isCard c
+unfolding isCard within
+many-digits c h = rw (le-leb 13 (c .length) (omega arith), lt-leb (c .length) 19 h)
+
+-- the powers of ten from 10^13 to 10^19
+abbrev pub powers : List ℕ
+powers = 10000000000000 ∷ 100000000000000 ∷ 1000000000000000 ∷ 10000000000000000 ∷ 100000000000000000 ∷ 1000000000000000000 ∷ 10000000000000000000 ∷ []
+
+power-at : (k : ℕ) → k < 7 → getD powers k 0 ≡ 10 ^ (13 + k)
+power-at zero h = refl
+power-at (suc zero) h = refl
+power-at (suc (suc zero)) h = refl
+power-at (suc (suc (suc zero))) h = refl
+power-at (suc (suc (suc (suc zero)))) h = refl
+power-at (suc (suc (suc (suc (suc zero))))) h = refl
+power-at (suc (suc (suc (suc (suc (suc zero)))))) h = refl
+power-at (suc (suc (suc (suc (suc (suc (suc k))))))) h = absurd (omega arith)
+
+pub right-digits : (c : Card) → 13 ≤ c .length → c .length ≤ 19 → ltb (c .number) (getD powers (c .length - 13) 0) ≡ isCard c
+unfolding isCard within
+right-digits c a b =
+    let e : 13 + (c .length - 13) ≡ c .length = omega arith in
+    rw (le-leb 13 (c .length) a, le-leb (c .length) 19 b, power-at (c .length - 13) (omega arith), e)
+
+-- a total past 999,999,999,999, without a sum that might not fit
+pub passes-alone : (total amount : ℕ) → 999999999999 < amount → true ≡ passes total amount
+passes-alone total amount h = rw (lt-ltb 999999999999 (total + amount) (omega arith))
+
+pub passes-both : (total amount : ℕ) → amount ≤ 999999999999 → ltb (999999999999 - amount) total ≡ passes total amount
+passes-both total amount h = go (ltb (999999999999 - amount) total) refl
+  where
+    go : (b : Bool) → ltb (999999999999 - amount) total ≡ b → b ≡ passes total amount
+    go true e = let l = ltb-true (999999999999 - amount) total e in rw (lt-ltb 999999999999 (total + amount) (omega arith))
+    go false e = let l = ltb-false (999999999999 - amount) total e in rw (le-ltb 999999999999 (total + amount) (omega arith))
+
+-- a search that finds nothing
+pub nowhere-absent : (x : ℕ) (es : List Entry) → nowhere (firstOf (hasTrace x) 0 es) ≡ absent x es
+nowhere-absent x es = go (absent x es) refl (firstOf (hasTrace x) 0 es) refl
+  where
+    go : (b : Bool) → absent x es ≡ b → (f : Found) → firstOf (hasTrace x) 0 es ≡ f → nowhere f ≡ b
+    go true e (At i) h = ap nowhere (sym h ∙ absent-first x es e)
+    go true e Nowhere h = refl
+    go false e (At i) h = refl
+    go false e Nowhere h = sym (first-absent x es h) ∙ e
+
+-- one pass over the entries tests all that is about each alone
+cross : (a b x y : Bool) → ((a && b) && (x && y)) ≡ ((a && x) && (b && y))
+cross false b x y = refl
+cross true false false y = refl
+cross true false true y = refl
+cross true true false y = refl
+cross true true true y = refl
+
+every-both : (p q : ℕ → Entry → Bool) (i : ℕ) (es : List Entry) → every (λ k e. p k e && q k e) i es ≡ (every p i es && every q i es)
+every-both p q i [] = refl
+every-both p q i (e ∷ es) = rw (every-both p q (suc i) es) (cross (p i e) (q i e) (every p (suc i) es) (every q (suc i) es))
+
+pub every-fits : (l : ℕ) (up : Bool) (item : Found) (es : List Entry)
+    → every (fitsAt l up item) 0 es
+      ≡ (every (λ i e. inForm e) 0 es && every (λ i e. keepsVoided e) 0 es && every (λ i e. keepsUnmarked up e) 0 es
+        && every (λ i e. keepsResends l e) 0 es && every (λ i e. keepsSilent l (isAt item i) e) 0 es)
+unfolding fits
+every-fits l up item es =
+    rw (every-both (λ i e. inForm e && keepsVoided e && keepsUnmarked up e && keepsResends l e) (λ i e. keepsSilent l (isAt item i) e) 0 es,
+      every-both (λ i e. inForm e && keepsVoided e && keepsUnmarked up e) (λ i e. keepsResends l e) 0 es,
+      every-both (λ i e. inForm e && keepsVoided e) (λ i e. keepsUnmarked up e) 0 es,
+      every-both (λ i e. inForm e) (λ i e. keepsVoided e) 0 es)
+
+-- the tests of rule 2 one after another, where the entries are no more than the limit
+pub joined : (a b f g h k m d s w p : Bool)
+    → (a && b && (f && g && h && k && m) && d && s && w && p)
+      ≡ (a && (b && (f && (g && (h && (k && (m && (d && (s && (w && (p && true)))))))))))
+joined false b f g h k m d s w p = refl
+joined true false f g h k m d s w p = refl
+joined true true false g h k m d s w p = refl
+joined true true true false h k m d s w p = refl
+joined true true true true false k m d s w p = refl
+joined true true true true true false m d s w p = refl
+joined true true true true true true false d s w p = refl
+joined true true true true true true true false s w p = refl
+joined true true true true true true true true false w p = refl
+joined true true true true true true true true true false p = refl
+joined true true true true true true true true true true false = refl
+joined true true true true true true true true true true true = refl
+
+pub in-order-is : (s : State) (es : List Entry) → s .entries ≤ s .settings .limit
+    → (settingsInForm (s .settings) && stateInForm s
+      && every (fitsAt (s .settings .sendings) (inUpload (s .phase)) (awaitedItem (s .phase))) 0 es
+      && distinct es && sumsKept (totalsOf es) && balanced (s .counts) (waiting (s .phase)) (s .entries)
+      && phaseKept (s .settings) (s .entries) es (s .phase))
+      ≡ inOrder s es
+unfolding inOrder
+in-order-is s es h =
+    rw (le-leb (s .entries) (s .settings .limit) h, every-fits (s .settings .sendings) (inUpload (s .phase)) (awaitedItem (s .phase)) es)
+      (joined (settingsInForm (s .settings)) (stateInForm s) (every (λ i e. inForm e) 0 es) (every (λ i e. keepsVoided e) 0 es)
+        (every (λ i e. keepsUnmarked (inUpload (s .phase)) e) 0 es) (every (λ i e. keepsResends (s .settings .sendings) e) 0 es)
+        (every (λ i e. keepsSilent (s .settings .sendings) (isAt (awaitedItem (s .phase)) i) e) 0 es) (distinct es)
+        (sumsKept (totalsOf es)) (balanced (s .counts) (waiting (s .phase)) (s .entries))
+        (phaseKept (s .settings) (s .entries) es (s .phase)))
+
+pub too-many : (s : State) (es : List Entry) → s .settings .limit < s .entries → false ≡ inOrder s es
+unfolding inOrder
+too-many s es h = rw (lt-leb (s .entries) (s .settings .limit) h)
+
+-- rules 1 and 2, one after another
+pub short-message : (s : State) (j m : List ℕ) → length m < largest → 1 ≡ firstBroken (rules12 s j m)
+unfolding firstBroken tooShort
+short-message s j m h = rw (lt-ltb (length m) largest h)
+
+pub short-journal : (s : State) (j m : List ℕ) → largest ≤ length m → length j < entrySize * s .settings .limit → 1 ≡ firstBroken (rules12 s j m)
+unfolding firstBroken tooShort
+short-journal s j m g h = rw (le-ltb (length m) largest g, lt-ltb (length j) (entrySize * s .settings .limit) h)
+
+pub no-order : (s : State) (j m : List ℕ) (r : Bool) → largest ≤ length m → entrySize * s .settings .limit ≤ length j
+    → r ≡ inOrder s (entriesOf (s .entries) j) → not r ≡ true → 2 ≡ firstBroken (rules12 s j m)
+unfolding firstBroken tooShort
+no-order s j m true g h e t = absurd (true≢false (sym t))
+no-order s j m false g h e t = rw (le-ltb (length m) largest g, le-ltb (length j) (entrySize * s .settings .limit) h, ← e)
+
+pub all-kept : (s : State) (j m : List ℕ) (r : Bool) → largest ≤ length m → entrySize * s .settings .limit ≤ length j
+    → r ≡ inOrder s (entriesOf (s .entries) j) → not r ≡ false → 0 ≡ firstBroken (rules12 s j m)
+unfolding firstBroken tooShort
+all-kept s j m false g h e t = absurd (true≢false t)
+all-kept s j m true g h e t = rw (le-ltb (length m) largest g, le-ltb (length j) (entrySize * s .settings .limit) h, ← e)
+
+-- an awaited request's tests, where its trace is looked for
+pub request-kept-is : (limit n : ℕ) (es : List Entry) (q : Request)
+    → (ltb n limit && not (past (q .kind) (q .amount) (totalsOf es)) && originalLeft (q .kind) (q .original .0) es
+      && nowhere (firstOf (hasTrace (q .trace .0)) 0 es)) ≡ requestKept limit n es q
+unfolding requestKept
+request-kept-is limit n es q = rw (nowhere-absent (q .trace .0) es)

@@ -1,0 +1,27 @@
+-- `rules::is_card` meets its contract.
+use borrow.Author.Needs.{needs}
+use native.Mathlib.Omega.{arith}
+use Rattle.rules.proofs.Tests.{few-digits, many-digits, right-digits}
+use Rattle.rules.proofs.is_card.Statement.{statement}
+use Rattle.rules.proofs.is_card.Tie as tie
+
+returns : tie.Need-returns
+returns c = few-digits (c .before .args .card) (c .if1 .taken)
+
+returns-2 : tie.Need-returns-2
+returns-2 c = many-digits (c .before .before .args .card) (c .if2 .taken)
+
+cast-k : tie.Need-cast-k
+cast-k c = search needs
+
+mul-result : tie.Need-mul-result
+mul-result c = search needs
+
+array-read-result : tie.Need-array-read-result
+array-read-result c = search needs
+
+returns-3 : tie.Need-returns-3
+returns-3 c = right-digits (c .before .before .before .args .card) (omega arith) (omega arith)
+
+pub is-card-spec : {M : Type 1} → statement M
+is-card-spec = tie.close (tie.spec returns returns-2 cast-k mul-result array-read-result returns-3)

@@ -1,0 +1,44 @@
+-- `rules::request_in_form` meets its contract.
+use borrow.Author.Needs.{needs}
+use Rattle.rules.specs.Rules.{requestInForm}
+use Rattle.rules.proofs.request_in_form.Statement.{statement}
+use Rattle.rules.proofs.request_in_form.Tie as tie
+
+is-kind-requires : tie.Need-is-kind-requires
+is-kind-requires c κs = search needs
+
+is-within-requires : tie.Need-is-within-requires
+is-within-requires c κs = search needs
+
+is-card-requires : tie.Need-is-card-requires
+is-card-requires c κs = search needs
+
+is-number-requires : tie.Need-is-number-requires
+is-number-requires c κs = search needs
+
+takes-original-requires : tie.Need-takes-original-requires
+takes-original-requires c κs = search needs
+
+is-number-requires-2 : tie.Need-is-number-requires-2
+is-number-requires-2 c κs = search needs
+
+returns : tie.Need-returns
+unfolding requestInForm
+returns c = rw (c .is-number2 .ensures, c .before .before .before .is-number .ensures, c .before .before .before .before .is-card .ensures, c .before .before .before .before .before .is-within .ensures, c .before .before .before .before .before .before .is-kind .ensures, ← c .before .before .takes-original .ensures, c .before .if1 .taken)
+
+returns-2 : tie.Need-returns-2
+unfolding requestInForm
+returns-2 c = rw (c .before .before .is-number .ensures, c .before .before .before .is-card .ensures, c .before .before .before .before .is-within .ensures, c .before .before .before .before .before .is-kind .ensures, ← c .before .takes-original .ensures, c .if1 .left)
+
+pub request-in-form-spec : {M : Type 1} → statement M
+request-in-form-spec =
+    tie.close
+    (tie.spec
+    is-kind-requires
+    is-within-requires
+    is-card-requires
+    is-number-requires
+    takes-original-requires
+    is-number-requires-2
+    returns
+    returns-2)

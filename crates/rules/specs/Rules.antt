@@ -1,0 +1,231 @@
+-- Document 01, "Why a call is turned down", rules 1 and 2.
+use mathlib.Core.List.{List, [], _∷_}
+use mathlib.Core.Bool.{Bool, true, false, cond, not, _&&_, _||_}
+use Prim.Native.Nat.{ℕ, _+_, _*_, _^_}
+use lib.Dec.{leb, ltb, eqb}
+use lib.ListN.{length}
+use Rattle.field.specs.Contents.{allPrintable}
+use Rattle.message.specs.Message.{largest}
+use Rattle.kinds.specs.Kinds.{isKind, sideOf, takesOriginal, originalKind}
+use Rattle.kinds.specs.declared.Side.{Side}
+use Rattle.kinds.specs.declared.Side.the-variants.{Debit, Credit, Neither}
+use Rattle.entry.specs.Entry.{entrySize}
+use Rattle.entry.specs.Form.{within, inForm, keepsVoided, keepsUnmarked, keepsResends, keepsSilent}
+use Rattle.entry.specs.declared.Entry.{Entry}
+use Rattle.journal.specs.Journal.{entriesOf, entryAt, every, firstOf, isOriginal, isAt, nextDue, totalsOf, absent, distinct}
+use Rattle.journal.specs.declared.Found.{Found}
+use Rattle.journal.specs.declared.Found.the-variants.{At, Nowhere}
+use Rattle.journal.specs.declared.Totals.{Totals}
+use Rattle.state.specs.declared.Card.{Card}
+use Rattle.state.specs.declared.Request.{Request}
+use Rattle.state.specs.declared.Reversal.{Reversal}
+use Rattle.state.specs.declared.Awaited.{Awaited}
+use Rattle.state.specs.declared.Awaited.the-variants as awaited
+use Rattle.state.specs.declared.Phase.{Phase}
+use Rattle.state.specs.declared.Phase.the-variants.{Resting, Waiting, Pending, Settling, Uploading}
+use Rattle.state.specs.declared.Settings.{Settings}
+use Rattle.state.specs.declared.Counts.{Counts}
+use Rattle.state.specs.declared.State.{State}
+use Rattle.state.specs.Calls.{Rule, rule}
+
+-- 1. The message buffer is below 248 bytes, or the journal below 48 times the entry limit.
+unfoldable pub tooShort : State → List ℕ → List ℕ → Bool
+tooShort s j m = ltb (length m) largest || ltb (length j) (entrySize * s .settings .limit)
+
+-- 2. A value out of its range or form.
+-- Entry limit 1 to 300; sendings L 1 to 9; largest refund 1 to 9,999,999,999 fen; fields 41 and 42.
+unfoldable pub settingsInForm : Settings → Bool
+settingsInForm x =
+    within 1 (x .limit) 300
+    && within 1 (x .sendings) 9
+    && within 1 (x .refund) 9999999999
+    && allPrintable (x .terminal)
+    && allPrintable (x .merchant)
+
+-- a batch number or a trace number, 1 to 999999
+abbrev pub isNumber : ℕ → Bool
+isNumber x = within 1 x 999999
+
+-- an amount, 1 to 9,999,999,999 fen
+abbrev pub isAmount : ℕ → Bool
+isAmount x = within 1 x 9999999999
+
+-- a card number of 13 to 19 digits
+unfoldable pub isCard : Card → Bool
+isCard c = within 13 (c .length) 19 && ltb (c .number) (10 ^ c .length)
+
+-- a void has an original's trace, another kind none
+unfoldable pub requestInForm : Request → Bool
+requestInForm q =
+    isKind (q .kind)
+    && isAmount (q .amount)
+    && isCard (q .card)
+    && isNumber (q .trace .0)
+    && cond (takesOriginal (q .kind)) (isNumber (q .original .0)) (eqb (q .original .0) 0)
+
+-- a refund is never reversed
+unfoldable pub reversalInForm : Reversal → Bool
+reversalInForm v = requestInForm (v .request) && not (eqb (v .request .kind) 25)
+
+abbrev pub awaitedInForm : Awaited → Bool
+awaitedInForm (awaited.Request q) = requestInForm q
+awaitedInForm (awaited.Reversal v) = reversalInForm v
+awaitedInForm (awaited.Settlement x) = isNumber (x .0)
+awaitedInForm (awaited.Item i) = true
+awaitedInForm (awaited.End x) = isNumber (x .0)
+
+abbrev pub phaseInForm : Phase → Bool
+phaseInForm Resting = true
+phaseInForm (Waiting a) = awaitedInForm a
+phaseInForm (Pending v) = reversalInForm v
+phaseInForm Settling = true
+phaseInForm Uploading = true
+
+-- rule 18: at most 900,000 card requests leave in a batch; by the balance no other count is larger
+unfoldable pub stateInForm : State → Bool
+stateInForm s =
+    isNumber (s .batch .0)
+    && isNumber (s .next .0)
+    && leb (s .counts .sent) 900000
+    && phaseInForm (s .phase)
+
+-- the upload is the phase uploading or the wait for an item or the end
+abbrev pub awaitedInUpload : Awaited → Bool
+awaitedInUpload (awaited.Request q) = false
+awaitedInUpload (awaited.Reversal v) = false
+awaitedInUpload (awaited.Settlement x) = false
+awaitedInUpload (awaited.Item i) = true
+awaitedInUpload (awaited.End x) = true
+
+abbrev pub inUpload : Phase → Bool
+inUpload Resting = false
+inUpload (Waiting a) = awaitedInUpload a
+inUpload (Pending v) = false
+inUpload Settling = false
+inUpload Uploading = true
+
+-- the place of the awaited item
+abbrev pub itemIn : Awaited → Found
+itemIn (awaited.Request q) = Nowhere
+itemIn (awaited.Reversal v) = Nowhere
+itemIn (awaited.Settlement x) = Nowhere
+itemIn (awaited.Item i) = At i
+itemIn (awaited.End x) = Nowhere
+
+abbrev pub awaitedItem : Phase → Found
+awaitedItem Resting = Nowhere
+awaitedItem (Waiting a) = itemIn a
+awaitedItem (Pending v) = Nowhere
+awaitedItem Settling = Nowhere
+awaitedItem Uploading = Nowhere
+
+-- Sums past rule 21: the kind's debit or credit total would pass 999,999,999,999.
+abbrev pub passes : ℕ → ℕ → Bool
+passes total amount = ltb 999999999999 (total + amount)
+
+abbrev pub pastOn : Side → ℕ → Totals → Bool
+pastOn Debit amount t = passes (t .debit) amount
+pastOn Credit amount t = passes (t .credit) amount
+pastOn Neither amount t = false
+
+unfoldable pub past : ℕ → ℕ → Totals → Bool
+past kind amount t = pastOn (sideOf kind) amount t
+
+unfoldable pub sumsKept : Totals → Bool
+sumsKept t = leb (t .debit) 999999999999 && leb (t .credit) 999999999999
+
+-- Counts out of balance: the sum in demand 3, or approved not the number of entries.
+-- Waiting is 1 for a card request until its decision or, with a reversal, until its end.
+abbrev pub awaitedWaiting : Awaited → ℕ
+awaitedWaiting (awaited.Request q) = 1
+awaitedWaiting (awaited.Reversal v) = 1
+awaitedWaiting (awaited.Settlement x) = 0
+awaitedWaiting (awaited.Item i) = 0
+awaitedWaiting (awaited.End x) = 0
+
+abbrev pub waiting : Phase → ℕ
+waiting Resting = 0
+waiting (Waiting a) = awaitedWaiting a
+waiting (Pending v) = 1
+waiting Settling = 0
+waiting Uploading = 0
+
+unfoldable pub balanced : Counts → ℕ → ℕ → Bool
+balanced c undecided n =
+    eqb (c .sent) (c .approved + c .declined + c .reversed + c .«given_up» + c .unanswered + undecided)
+    && eqb (c .approved) n
+
+-- the entry that a void is for, where it is not voided yet
+abbrev pub unvoidedAt : Found → List Entry → Bool
+unvoidedAt (At i) es = eqb (entryAt es i .voided) 0
+unvoidedAt Nowhere es = false
+
+unfoldable pub originalLeft : ℕ → ℕ → List Entry → Bool
+originalLeft kind x es = cond (takesOriginal kind) (unvoidedAt (firstOf (isOriginal (originalKind kind) x) 0 es) es) true
+
+-- An awaited card request for which the journal has no place, sum or unvoided original left or whose trace stands in it.
+unfoldable pub requestKept : ℕ → ℕ → List Entry → Request → Bool
+requestKept limit n es q =
+    ltb n limit
+    && not (past (q .kind) (q .amount) (totalsOf es))
+    && originalLeft (q .kind) (q .original .0) es
+    && absent (q .trace .0) es
+
+abbrev pub nowhere : Found → Bool
+nowhere (At i) = false
+nowhere Nowhere = true
+
+-- An awaited item that is not the first due entry of mark 0 or, where no due one is 0, of mark 1; an upload's end awaited while
+-- a due entry is 0 or 1; an awaited card request, see above; an awaited reversal never sent or sent more than L times.
+abbrev pub awaitedKept : Settings → ℕ → List Entry → Awaited → Bool
+awaitedKept x n es (awaited.Request q) = requestKept (x .limit) n es q
+awaitedKept x n es (awaited.Reversal v) = within 1 (v .sendings) (x .sendings)
+awaitedKept x n es (awaited.Settlement t) = true
+awaitedKept x n es (awaited.Item i) = isAt (nextDue es) i
+awaitedKept x n es (awaited.End t) = nowhere (nextDue es)
+
+-- a pending reversal already sent L times
+abbrev pub phaseKept : Settings → ℕ → List Entry → Phase → Bool
+phaseKept x n es Resting = true
+phaseKept x n es (Waiting a) = awaitedKept x n es a
+phaseKept x n es (Pending v) = ltb (v .sendings) (x .sendings)
+phaseKept x n es Settling = true
+phaseKept x n es Uploading = true
+
+abbrev pub allOf : List Bool → Bool
+allOf [] = true
+allOf (b ∷ bs) = b && allOf bs
+
+-- 2. Settings, state or journal break a rule: each clause of the page.
+abbrev pub clauses : State → List Entry → List Bool
+clauses s es =
+    -- more entries than the limit
+    leb (s .entries) (s .settings .limit)
+    -- a value out of its range or form
+    ∷ settingsInForm (s .settings)
+    ∷ stateInForm s
+    ∷ every (λ i e. inForm e) 0 es
+    -- a voided mark on a kind other than 20 or 22
+    ∷ every (λ i e. keepsVoided e) 0 es
+    -- a mark or resend other than 0 outside the upload or on an entry not due
+    ∷ every (λ i e. keepsUnmarked (inUpload (s .phase)) e) 0 es
+    -- a resend at mark 0 or above L
+    ∷ every (λ i e. keepsResends (s .settings .sendings) e) 0 es
+    -- a mark 1 already resent L times and not awaited
+    ∷ every (λ i e. keepsSilent (s .settings .sendings) (isAt (awaitedItem (s .phase)) i) e) 0 es
+    -- two entries of one trace
+    ∷ distinct es
+    -- sums past rule 21
+    ∷ sumsKept (totalsOf es)
+    -- counts out of balance
+    ∷ balanced (s .counts) (waiting (s .phase)) (s .entries)
+    -- what is awaited or pending
+    ∷ phaseKept (s .settings) (s .entries) es (s .phase)
+    ∷ []
+
+unfoldable pub inOrder : State → List Entry → Bool
+inOrder s es = allOf (clauses s es)
+
+-- rules 1 and 2, which every call on a terminal begins with
+abbrev pub rules12 : State → List ℕ → List ℕ → List Rule
+rules12 s j m = rule 1 (tooShort s j m) ∷ rule 2 (not (inOrder s (entriesOf (s .entries) j))) ∷ []

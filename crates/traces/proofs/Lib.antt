@@ -1,0 +1,7 @@
+-- Laws of the traces in the journal, for other crates to cite.
+pub mod Entries
+pub mod Absent
+pub mod Ordered
+pub mod Compared
+pub mod Passing
+pub mod Free
