@@ -24,7 +24,8 @@ pub struct Original {
     pub reference: [u8; 12],
 }
 
-fn with_field60(m: Message, kind: u8, batch: Batch, code: u64) -> Message
+// The message with field 60: kind, batch, management code.
+pub fn with_field60(m: Message, kind: u8, batch: Batch, code: u64) -> Message
     ensures { λ r. ⌜ r ≡ withItem (digits 60 (field60 kind batch code)) m ⌝ }
 {
     let mut ds = [0u8; 11];

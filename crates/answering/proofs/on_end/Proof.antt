@@ -1,0 +1,26 @@
+-- `answering::on_end` meets its contract.
+use borrow.Author.Needs.{needs}
+use Rattle.answering.specs.Answering.{onEnd}
+use Rattle.answering.proofs.on_end.Statement.{statement}
+use Rattle.answering.proofs.on_end.Tie as tie
+
+approves-requires : tie.Need-approves-requires
+approves-requires c κs = search needs
+
+closed-requires : tie.Need-closed-requires
+closed-requires c κs = search needs
+
+returns : tie.Need-returns
+unfolding onEnd
+returns c = rw (c .closed .ensures, ← c .before .before .approves .ensures, c .before .if1 .taken)
+
+in-phase-requires : tie.Need-in-phase-requires
+in-phase-requires c κs = search needs
+
+returns-2 : tie.Need-returns-2
+unfolding onEnd
+returns-2 c = rw (c .in-phase .ensures, ← c .before .before .before .approves .ensures, c .before .before .if1 .left)
+
+pub on-end-spec : {M : Type 1} → statement M
+on-end-spec =
+    tie.close (tie.spec approves-requires closed-requires returns in-phase-requires returns-2)

@@ -1,0 +1,40 @@
+-- `answering::on_item` meets its contract.
+use borrow.Author.Needs.{needs}
+use Rattle.answering.specs.Answering.{onItem}
+use Rattle.answering.proofs.on_item.Statement.{statement}
+use Rattle.answering.proofs.on_item.Tie as tie
+
+approves-requires : tie.Need-approves-requires
+approves-requires c κs = search needs
+
+set-byte-requires : tie.Need-set-byte-requires
+set-byte-requires c κs = search needs
+
+set-byte-requires-2 : tie.Need-set-byte-requires-2
+set-byte-requires-2 c κs = search needs
+
+same-length : tie.Need-same-length
+same-length c = search needs
+
+returns : tie.Need-returns
+unfolding onItem
+returns c = rw (c .before .before .set-byte .ensures, ← c .before .before .before .before .before .approves .ensures, c .before .before .before .before .if1 .taken)
+
+same-length-2 : tie.Need-same-length-2
+same-length-2 c = search needs
+
+returns-2 : tie.Need-returns-2
+unfolding onItem
+returns-2 c = rw (c .before .before .set-byte2 .ensures, ← c .before .before .before .before .before .approves .ensures, c .before .before .before .before .if1 .left)
+
+pub on-item-spec : {M : Type 1} → statement M
+on-item-spec =
+    tie.close
+    (tie.spec
+    approves-requires
+    set-byte-requires
+    set-byte-requires-2
+    same-length
+    returns
+    same-length-2
+    returns-2)

@@ -1,0 +1,4 @@
+pub mod Refusals
+pub mod Held
+pub mod Results
+pub mod Dates

@@ -1,0 +1,297 @@
+// Start: the request leaves (document 01, "Calls").
+use entry::Entry;
+use journal::Found;
+use journal::Query;
+use outgoing::Original;
+use parts::Batch;
+use parts::Trace;
+use state::Awaited;
+use state::Called;
+use state::Card;
+use state::Counts;
+use state::Outcome;
+use state::Phase;
+use state::Request;
+use state::State;
+ghost use mathlib.Core.Path.{_≡_};
+ghost use Prim.Native.Nat.{_<_};
+ghost use Rattle.journal.specs.Journal.{entriesOf};
+ghost use Rattle.state.specs.Calls.{firstBroken, resultOf};
+ghost use Rattle.rules.specs.Rules.{nowhere};
+ghost use Rattle.start.specs.Start.{sendsDate, deskInForm, originalOf, entryOf, requestOf, namedBy, restRules, deskRules, journalRules, startRules, requested, start};
+ghost use Rattle.start.specs.Leaving.{MayLeave, oneSent, Left};
+
+// What the desk keys for a request; the original is the trace of the entry that a void is for.
+pub struct Desk {
+    pub kind: u8,
+    pub amount: u64,
+    pub card: Card,
+    pub original: Trace,
+    pub month: u8,
+    pub day: u8,
+    pub authorisation: [u8; 6],
+    pub reference: [u8; 12],
+}
+
+fn sends_date(kind: u8) -> bool
+    ensures { λ r. ⌜ r ≡ sendsDate kind ⌝ }
+{
+    (kind == 11) | (kind == 20) | (kind == 25)
+}
+
+// Whether what the kind sends of the desk's data is in form.
+fn desk_in_form(d: Desk) -> bool
+    ensures { λ r. ⌜ r ≡ deskInForm d ⌝ }
+{
+    let kind = d.kind;
+    let card = d.card;
+    let authorisation = d.authorisation;
+    let reference = d.reference;
+    let month = (1 <= d.month) & (d.month <= 12);
+    let day = (1 <= d.day) & (d.day <= 31);
+    kinds::is_kind(kind)
+        & (kinds::takes_original(kind) | rules::is_card(card))
+        & (!sends_date(kind) | (month & day))
+        & (!(kind == 25) | field::all_printable(&reference))
+        & (!((kind == 11) | (kind == 20)) | field::all_printable(&authorisation))
+}
+
+// The place of the entry that a void is for.
+fn original_of(d: Desk, journal: &[u8], n: u16) -> Found
+    ensures { λ r. ⌜ r ≡ originalOf d (entriesOf n (now (journal .entry))) ⌝ }
+{
+    let original = d.original;
+    let query = Query::Original {
+        kind: kinds::original_kind(d.kind),
+        trace: original,
+    };
+    journal::find(journal, n, query)
+}
+
+fn is_nowhere(place: Found) -> bool
+    ensures { λ r. ⌜ r ≡ nowhere place ⌝ }
+{
+    match place {
+        Found::At(_) => false,
+        Found::Nowhere => true,
+    }
+}
+
+// The entry at a place, or one of zeros.
+fn entry_of(place: Found, journal: &[u8], n: u16) -> Entry
+    ensures { λ r. ⌜ r ≡ entryOf place (entriesOf n (now (journal .entry))) ⌝ }
+{
+    match place {
+        Found::At(i) => journal::entry_at(journal, n, i),
+        Found::Nowhere => entry::blank(),
+    }
+}
+
+// The amount of a request: the original's or the desk's.
+fn amount_of(d: Desk, e: Entry) -> u64
+    ensures { λ r. ⌜ r ≡ requestOf d e 0 .amount ⌝ }
+{
+    if kinds::takes_original(d.kind) {
+        return e.amount;
+    }
+    d.amount
+}
+
+// What a request is for: card and amount are the original's or the desk's.
+fn request_of(d: Desk, e: Entry, trace: Trace) -> Request
+    ensures { λ r. ⌜ r ≡ requestOf d e (trace .0) ⌝ }
+{
+    if kinds::takes_original(d.kind) {
+        let original = d.original;
+        return Request {
+            kind: d.kind,
+            amount: e.amount,
+            card: cards::card_of(e),
+            trace: trace,
+            original: original,
+        };
+    }
+    let card = d.card;
+    let none = Trace(0);
+    Request {
+        kind: d.kind,
+        amount: d.amount,
+        card: card,
+        trace: trace,
+        original: none,
+    }
+}
+
+// What a request names of an earlier one: its original, or what the desk keyed.
+fn named_by(d: Desk, batch: Batch, e: Entry) -> Original
+    ensures { λ r. ⌜ r ≡ namedBy d batch e ⌝ }
+{
+    if kinds::takes_original(d.kind) {
+        let trace = e.trace;
+        let date = e.date;
+        let authorisation = e.authorisation;
+        let reference = e.reference;
+        return Original {
+            batch: batch,
+            trace: trace,
+            date: packed::number_in(&date) as u16,
+            authorisation: authorisation,
+            reference: reference,
+        };
+    }
+    let no_batch = Batch(0);
+    let no_trace = Trace(0);
+    let authorisation = d.authorisation;
+    let reference = d.reference;
+    Original {
+        batch: no_batch,
+        trace: no_trace,
+        date: d.month as u16 * 100 + d.day as u16,
+        authorisation: authorisation,
+        reference: reference,
+    }
+}
+
+// The first of rules 10 to 13 that is broken, 0 for none.
+fn not_resting(s: State) -> u8
+    ensures { λ r. ⌜ r ≡ firstBroken (restRules s) ⌝ }
+{
+    let phase = s.phase;
+    if !s.signed_on {
+        return 10;
+    }
+    if state::is_waiting(phase) {
+        return 11;
+    }
+    if state::is_pending(phase) {
+        return 12;
+    }
+    if state::is_closing(phase) {
+        return 13;
+    }
+    0
+}
+
+// The first of rules 15 to 17 that is broken, 0 for none.
+fn miskeyed(d: Desk, refund: u64) -> u8
+    ensures { λ r. ⌜ r ≡ firstBroken (deskRules d refund) ⌝ }
+{
+    let amount = (1 <= d.amount) & (d.amount <= State::LARGEST_AMOUNT);
+    if !kinds::takes_original(d.kind) & !amount {
+        return 15;
+    }
+    if !desk_in_form(d) {
+        return 16;
+    }
+    if (d.kind == 25) & (refund < d.amount) {
+        return 17;
+    }
+    0
+}
+
+// The first of rules 18 to 21 that is broken, 0 for none.
+fn no_room(s: State, d: Desk, place: Found, e: Entry, journal: &[u8]) -> u8
+    ensures { λ r. ⌜ r ≡ firstBroken (journalRules d s (entriesOf (s .entries) (now (journal .entry))) place e) ⌝ }
+{
+    let settings = s.settings;
+    let counts = s.counts;
+    let n = s.entries;
+    let void = kinds::takes_original(d.kind);
+    if (settings.limit <= n as u32) | (State::MOST_REQUESTS <= counts.sent) {
+        return 18;
+    }
+    if void & is_nowhere(place) {
+        return 19;
+    }
+    if void & !(e.voided == 0) {
+        return 20;
+    }
+    if rules::is_past(d.kind, amount_of(d, e), journal::totals_of(journal, n)) {
+        return 21;
+    }
+    0
+}
+
+// The number of the first rule that refuses, 0 for none.
+fn refusal(s: State, d: Desk, place: Found, e: Entry, journal: &[u8], message: &[u8]) -> u8
+    requires { ⌜ place ≡ originalOf d (entriesOf (s .entries) (now journal)) ⌝ }
+    ensures { λ r. ⌜ r ≡ firstBroken (startRules d s (entriesOf (s .entries) (now (journal .entry))) e (now (journal .entry)) (now (message .entry))) ⌝ }
+{
+    let settings = s.settings;
+    let unfit = rules::unfit(s, journal, message);
+    if unfit != 0 {
+        return unfit;
+    }
+    let rest = not_resting(s);
+    if rest != 0 {
+        return rest;
+    }
+    let desk = miskeyed(d, settings.refund);
+    if desk != 0 {
+        return desk;
+    }
+    no_room(s, d, place, e, journal)
+}
+
+fn one_sent(mut c: Counts) -> Counts
+    requires { ⌜ c .sent < 900000 ⌝ }
+    ensures { λ r. ⌜ r ≡ oneSent c ⌝ }
+{
+    c.sent = c.sent + 1;
+    c
+}
+
+// The state in which the request is awaited.
+fn requested(s: State, q: Request) -> State
+    requires { ⌜ s .counts .sent < 900000 ⌝ }
+    ensures { λ r. ⌜ r ≡ requested s q ⌝ }
+{
+    let settings = s.settings;
+    let batch = s.batch;
+    let counts = s.counts;
+    let trace = q.trace;
+    State {
+        settings: settings,
+        signed_on: s.signed_on,
+        batch: batch,
+        next: traces::following(trace),
+        entries: s.entries,
+        counts: one_sent(counts),
+        phase: Phase::Waiting(Awaited::Request(q)),
+    }
+}
+
+// The request leaves and is awaited.
+fn leave(s: State, q: Request, o: Original, message: &mut [u8]) -> Called
+    requires { ⌜ MayLeave s q o (now message) ⌝ }
+    ensures { λ r. ⌜ Left s q o (now (message .entry)) r (now (message .exit)) ⌝ }
+{
+    let settings = s.settings;
+    let batch = s.batch;
+    let m = outgoing::request_message(settings, batch, q, o);
+    let n = outgoing::put_message(m, message);
+    Called {
+        outcome: Outcome::Send(n),
+        state: requested(s, q),
+    }
+}
+
+// Sends the desk's request.
+pub fn start(s: State, d: Desk, journal: &mut [u8], message: &mut [u8]) -> Called
+    ensures { λ r. ⌜ resultOf r (now (journal .exit)) (now (message .exit)) ≡ start d s (now (journal .entry)) (now (message .entry)) ⌝ }
+{
+    let n = s.entries;
+    let place = original_of(d, journal, n);
+    let e = entry_of(place, journal, n);
+    let number = refusal(s, d, place, e, journal, message);
+    if number != 0 {
+        return Called {
+            outcome: Outcome::Refused(number),
+            state: s,
+        };
+    }
+    let next = s.next;
+    let batch = s.batch;
+    let trace = traces::take(journal, n, next);
+    leave(s, request_of(d, e, trace), named_by(d, batch, e), message)
+}

@@ -1,0 +1,103 @@
+// The card terminal: its state, and the calls of document 01 as methods.
+use parts::Batch;
+use start::Desk;
+use state::Called;
+use state::Outcome;
+use state::Settings;
+use state::State;
+ghost use mathlib.Core.Path.{_≡_};
+ghost use Rattle.state.specs.State.{fresh};
+ghost use Rattle.signing.specs.Signing.{signedOn};
+ghost use Rattle.start.specs.Start.{start};
+ghost use Rattle.answering.specs.Answering.{answer, noAnswer, powerReturned};
+ghost use Rattle.reversing.specs.Reversing.{sendReversal};
+ghost use Rattle.terminal.specs.Terminal.{givenBy, stepOf};
+
+pub struct Terminal {
+    pub state: State,
+}
+
+// What a call gives back: a message to send, a quiet change or a refusal, with the terminal beside it.
+pub struct Step {
+    pub outcome: Outcome,
+    pub terminal: Terminal,
+}
+
+impl Terminal {
+    // The bytes of a message buffer, and those of one journal entry.
+    pub const MESSAGE: usize = 248;
+    pub const ENTRY: usize = 48;
+    // The largest settings.
+    pub const MOST_ENTRIES: u32 = 300;
+    pub const MOST_SENDINGS: u8 = 9;
+    pub const LARGEST_REFUND: u64 = 9999999999;
+
+    // A fresh terminal of any settings; the calls judge them.
+    pub fn new(settings: Settings) -> Self
+        ensures { λ r. ⌜ r .state ≡ fresh settings ⌝ }
+    {
+        Terminal {
+            state: State::new(settings),
+        }
+    }
+
+    // The outer program has signed on, and the centre has told the batch number.
+    pub fn signed_on(self, batch: Batch, journal: &mut [u8], message: &mut [u8]) -> Step
+        ensures { λ r. ⌜ givenBy r (now (journal .exit)) (now (message .exit)) ≡ signedOn batch (self .state) (now (journal .entry)) (now (message .entry)) ⌝ }
+    {
+        let state = self.state;
+        step_of(signing::signed_on(state, batch, journal, message))
+    }
+
+    // A card request leaves.
+    pub fn start(self, desk: Desk, journal: &mut [u8], message: &mut [u8]) -> Step
+        ensures { λ r. ⌜ givenBy r (now (journal .exit)) (now (message .exit)) ≡ start desk (self .state) (now (journal .entry)) (now (message .entry)) ⌝ }
+    {
+        let state = self.state;
+        step_of(start::start(state, desk, journal, message))
+    }
+
+    // The centre's bytes, and the key pad's word on the MAC.
+    pub fn answer(self, bytes: &[u8], good: bool, journal: &mut [u8], message: &mut [u8]) -> Step
+        ensures { λ r. ⌜ givenBy r (now (journal .exit)) (now (message .exit)) ≡ answer (now (bytes .entry)) good (self .state) (now (journal .entry)) (now (message .entry)) ⌝ }
+    {
+        let state = self.state;
+        step_of(answering::answer(state, bytes, good, journal, message))
+    }
+
+    // The line has fallen silent.
+    pub fn no_answer(self, journal: &mut [u8], message: &mut [u8]) -> Step
+        ensures { λ r. ⌜ givenBy r (now (journal .exit)) (now (message .exit)) ≡ noAnswer (self .state) (now (journal .entry)) (now (message .entry)) ⌝ }
+    {
+        let state = self.state;
+        step_of(answering::no_answer(state, journal, message))
+    }
+
+    // Power has returned.
+    pub fn power_returned(self, journal: &mut [u8], message: &mut [u8]) -> Step
+        ensures { λ r. ⌜ givenBy r (now (journal .exit)) (now (message .exit)) ≡ powerReturned (self .state) (now (journal .entry)) (now (message .entry)) ⌝ }
+    {
+        let state = self.state;
+        step_of(answering::power_returned(state, journal, message))
+    }
+
+    // The pending reversal leaves.
+    pub fn send_reversal(self, journal: &mut [u8], message: &mut [u8]) -> Step
+        ensures { λ r. ⌜ givenBy r (now (journal .exit)) (now (message .exit)) ≡ sendReversal (self .state) (now (journal .entry)) (now (message .entry)) ⌝ }
+    {
+        let state = self.state;
+        step_of(reversing::send_reversal(state, journal, message))
+    }
+}
+
+fn step_of(c: Called) -> Step
+    ensures { λ r. ⌜ r ≡ stepOf c ⌝ }
+{
+    let outcome = c.outcome;
+    let state = c.state;
+    let terminal = Terminal { state: state };
+    Step {
+        outcome: outcome,
+        terminal: terminal,
+    }
+}

@@ -1,0 +1,209 @@
+-- Case *i: sales of the largest amount, each approved, by induction; what the terminal has after n of them.
+use mathlib.Core.Path.{_≡_, refl}
+use mathlib.Core.List.{List, [], _∷_, _++_}
+use mathlib.Core.Bool.{true, false, not}
+use Prim.Native.Nat.{ℕ, zero, suc, _+_, _*_, _≤_, _<_}
+use native.Mathlib.Numerals.{add-one}
+use native.Mathlib.Omega.{arith}
+use lib.ListN.{length, replicate, length-replicate}
+use borrow.Author.Tests.{lt-ltb, le-ltb, ne-eqb}
+use Rattle.digits.specs.Digits.{packedByte, pack}
+use Rattle.field.specs.Table.{formats}
+use Rattle.field.specs.Bitmap.{bit, names}
+use Rattle.field.specs.Contents.{allPrintable}
+use Rattle.message.specs.Message.{largest}
+use Rattle.span.specs.Span.{fieldBytes}
+use Rattle.writing.specs.Writing.{namedBytes, fieldsBytes, messageBytes}
+use Rattle.kinds.specs.Kinds.{indicatorOf, processingOf, conditionOf, isDebit, sideOf, takesOriginal}
+use Rattle.kinds.specs.declared.Side.the-variants.{Debit}
+use Rattle.entry.specs.Entry.{entrySize}
+use Rattle.entry.specs.Form.{within}
+use Rattle.entry.specs.declared.Entry.{Entry}
+use Rattle.journal.specs.Journal.{entriesOf, hasTrace, absent, totalsOf, following, putEntry}
+use Rattle.journal.specs.declared.Totals.{Totals}
+use Rattle.journal.specs.Sums.{withEntry}
+use Rattle.journal.proofs.Entries.{put-appends}
+use Rattle.journal.proofs.Sums.{totals-last, with-debit}
+use Rattle.journal.proofs.Traces.{absent-last}
+use Rattle.traces.proofs.Absent.{absent-none}
+use Rattle.state.specs.declared.State.{State}
+use Rattle.state.specs.declared.Outcome.the-variants.{Send, Refused}
+use Rattle.state.specs.State.{fresh}
+use Rattle.state.specs.Calls.{Result, firstBroken, judged, quiet, sent}
+use Rattle.rules.specs.Rules.{tooShort, settingsInForm, stateInForm, past, sumsKept, balanced, inOrder}
+use Rattle.rules.proofs.InOrder.{Fit}
+use Rattle.outgoing.specs.Outgoing.{requestMessage}
+use Rattle.signing.specs.Signing.{adopts, signedOn}
+use Rattle.start.specs.Start.{requested}
+use Rattle.approval.specs.Approval.{approvedEntry}
+use Rattle.approval.proofs.Approval.{shaped}
+use Rattle.answering.specs.Answering.{oneMore, originalVoided, approved, onRequest, answered as answeredBy, answer}
+use Rattle.keeping.proofs.Back.{ready-fits, fit-ready}
+use Rattle.keeping.proofs.Refusing.{Fits}
+use Rattle.keeping.proofs.Signing.{signed-on-fits}
+use Rattle.keeping.proofs.Starting.{start-fits}
+use Rattle.keeping.proofs.Events.{answer-fits}
+use Rattle.terminal.specs.Events.{run}
+use Rattle.worked.specs.Desk.{settings, opened, sale, approval}
+use Rattle.worked.specs.Worked.{sales, hundred}
+use Rattle.worked.proofs.Approvals.{asked, approvalBytes, answered, reads, approving, is-answer, good-mac, entry-form}
+use Rattle.worked.proofs.Starts.{at, desk, saleBytes, goes, goes-not}
+
+-- its approval is taken: one entry more
+abbrev entry : ℕ → Entry
+entry n = approvedEntry (asked 9999999999 (suc n)) (answered (suc n))
+
+taken-in : (n : ℕ) (j m : List ℕ) → Fit (requested (at n) (asked 9999999999 (suc n))) j m
+    → answer (approvalBytes (suc n)) true (requested (at n) (asked 9999999999 (suc n))) j m
+    ≡ quiet (oneMore (requested (at n) (asked 9999999999 (suc n)))) (putEntry n (entry n) j) m
+unfolding answer judged firstBroken answeredBy onRequest approved originalVoided takesOriginal
+taken-in n j m fit =
+    let r = fit-ready (requested (at n) (asked 9999999999 (suc n))) j m fit in
+    rw (r .long, r .order, reads (suc n) .outcome, is-answer (suc n), approving (suc n), good-mac (suc n))
+
+one-more : (n : ℕ) → n < 999998 → oneMore (requested (at n) (asked 9999999999 (suc n))) ≡ at (suc n)
+unfolding following
+one-more n h = rw (lt-ltb (suc n) 999999 (omega arith), add-one n, add-one (suc n))
+
+-- what the journal holds after n of them: no later trace, and n times the amount in debit
+record Sold (n : ℕ) (j : List ℕ) : Type 0 where
+  free : (x : ℕ) → n < x → absent x (entriesOf n j) ≡ true
+  sums : totalsOf (entriesOf n j) ≡ record { debit = n * 9999999999; debits = n; credit = 0; credits = 0 }
+
+none-sold : (j : List ℕ) → Sold 0 j
+unfolding totalsOf
+none-sold j = record { free = λ x h. absent-none x; sums = refl }
+
+is-sale : sideOf 22 ≡ Debit
+unfolding sideOf isDebit
+is-sale = refl
+
+entry-debit : (n : ℕ) (t : Totals)
+    → withEntry t (entry n) ≡ record { debit = t .debit + 9999999999; debits = t .debits + 1; credit = t .credit; credits = t .credits }
+unfolding approvedEntry
+entry-debit n t = with-debit t (entry n) is-sale
+
+other-trace : (n x : ℕ) → suc n < x → not (hasTrace x (entry n)) ≡ true
+unfolding hasTrace approvedEntry
+other-trace n x h = rw (ne-eqb (suc n) x (λ e. omega arith))
+
+one-sold : (n : ℕ) (j : List ℕ) → n < 100 → entrySize * 300 ≤ length j → Sold n j → Sold (suc n) (putEntry n (entry n) j)
+one-sold n j small room s =
+    let e : entriesOf (suc n) (putEntry n (entry n) j) ≡ entriesOf n j ++ (entry n ∷ []) =
+        put-appends n (entry n) j (shaped (asked 9999999999 (suc n)) (answered (suc n)))
+        (entry-form (suc n) (omega arith) (omega arith)) (omega arith) in
+    let d : n * 9999999999 + 9999999999 ≡ suc n * 9999999999 = omega arith in
+    record {
+      free = λ x h. rw (e, absent-last x (entriesOf n j) (entry n), s .free x (omega arith), other-trace n x h);
+      sums = rw (e, totals-last (entriesOf n j) (entry n), s .sums, entry-debit n, d, add-one n) }
+
+-- rule 21 passes
+not-past : (amount n : ℕ) (j : List ℕ) → Sold n j → n * 9999999999 + amount ≤ 999999999999
+    → past 22 amount (totalsOf (entriesOf n j)) ≡ false
+unfolding past
+not-past amount n j s h = rw (s .sums, is-sale) (le-ltb 999999999999 (n * 9999999999 + amount) h)
+
+is-past : (amount n : ℕ) (j : List ℕ) → Sold n j → 999999999999 < n * 9999999999 + amount
+    → past 22 amount (totalsOf (entriesOf n j)) ≡ true
+unfolding past
+is-past amount n j s h = rw (s .sums, is-sale) (lt-ltb 999999999999 (n * 9999999999 + amount) h)
+
+-- what the terminal is after n of them
+record After (n : ℕ) (s : State) (j m : List ℕ) : Type 0 where
+  state : s ≡ at n
+  fits : Fit s j m
+  sold : Sold n j
+
+largest-form : within 1 9999999999 9999999999 ≡ true
+unfolding within
+largest-form = refl
+
+abbrev Holds : ℕ → Result → Type 0
+Holds n r = After n (r .state) (r .journal) (r .message)
+
+-- a sale and its approval
+one-after : (n : ℕ) (j m : List ℕ) → n < 100 → Fit (at n) j m → Sold n j
+    → Holds (suc n) (run (sale 9999999999 ∷ approval 22 9999999999 (suc n) ∷ []) (quiet (at n) j m))
+one-after n j m small fit sold =
+    let q = asked 9999999999 (suc n) in
+    let g = goes 9999999999 n j m fit (omega arith) largest-form (sold .free (suc n) (omega arith))
+        (not-past 9999999999 n j sold (omega arith)) in
+    let r = sent (saleBytes 9999999999 (suc n)) (requested (at n) q) j m in
+    let f : Fits r = rw g at (start-fits (desk 9999999999) (at n) j m fit) in
+    let a = taken-in n j (r .message) f in
+    let h : Fits (quiet (oneMore (requested (at n) q)) (putEntry n (entry n) j) (r .message)) =
+        rw a at (answer-fits (approvalBytes (suc n)) true (requested (at n) q) j (r .message) f) in
+    rw (g, a) (record { state = one-more n (omega arith); fits = h; sold = one-sold n j small (fit .journal-room) sold })
+
+next-after : (n : ℕ) (s : State) (j m : List ℕ) → n < 100 → After n s j m
+    → Holds (suc n) (run (sale 9999999999 ∷ approval 22 9999999999 (suc n) ∷ []) (quiet s j m))
+next-after n s j m small h =
+    rw (h .state) (one-after n j m small (rw (h .state) at (h .fits)) (h .sold))
+
+all-after : (n : ℕ) (r : Result) → n ≤ 100 → Holds 0 r → Holds n (sales n r)
+all-after zero r h b = b
+all-after (suc n) r h b =
+    let x = sales n r in next-after n (x .state) (x .journal) (x .message) (omega arith) (all-after n r (omega arith) b)
+
+-- a fresh terminal that has signed on
+fresh-order : inOrder (fresh (settings 300)) [] ≡ true
+unfolding inOrder settingsInForm stateInForm within allPrintable sumsKept totalsOf balanced
+fresh-order = refl
+
+one-number : within 1 1 999999 ≡ true
+unfolding within
+one-number = refl
+
+module _ (j m : List ℕ) (long : entrySize * 300 ≤ length j) (room : largest ≤ length m) where
+  both-fit : tooShort (fresh (settings 300)) j m ≡ false
+  unfolding tooShort
+  both-fit = rw (le-ltb (length m) largest room, le-ltb (length j) (entrySize * 300) long)
+
+  signs : signedOn (record { 0 = 1 }) (fresh (settings 300)) j m ≡ quiet (at 0) j m
+  unfolding signedOn judged firstBroken adopts
+  signs = rw (both-fit, fresh-order, one-number)
+
+  opened-after : Holds 0 (signedOn (record { 0 = 1 }) (fresh (settings 300)) j m)
+  opened-after =
+      let s = fresh (settings 300) in
+      let f = signed-on-fits (record { 0 = 1 }) s j m (ready-fits s j m (record { long = both-fit; order = fresh-order })) in
+      let g : Fits (quiet (at 0) j m) = rw signs at f in
+      rw signs (record { state = refl; fits = g; sold = none-sold j })
+
+hundred-after : Holds 100 hundred
+hundred-after =
+    all-after 100 (opened 300) (omega arith)
+    (opened-after (replicate (entrySize * 300) 0) (replicate largest 0) (rw length-replicate (omega arith)) (rw length-replicate (omega arith)))
+
+-- the sale after them, by its message and by rule 21
+sale-length : length (saleBytes 99 101) ≡ 76
+unfolding messageBytes fieldsBytes namedBytes fieldBytes names bit formats pack packedByte requestMessage indicatorOf
+    processingOf conditionOf takesOriginal
+sale-length = refl
+
+amount-form : (within 1 99 9999999999 ≡ true) × (within 1 100 9999999999 ≡ true)
+unfolding within
+amount-form = (refl, refl)
+
+one-goes : (s : State) (j m : List ℕ) → After 100 s j m → run (sale 99 ∷ []) (quiet s j m) .outcome ≡ Send 76
+one-goes s j m h =
+    rw (
+      h .state,
+      goes 99 100 j m (rw (h .state) at (h .fits)) (omega arith) (amount-form .0) (h .sold .free 101 (omega arith))
+        (not-past 99 100 j (h .sold) (omega arith)),
+      sale-length,
+    )
+
+one-is-refused : (s : State) (j m : List ℕ) → After 100 s j m → run (sale 100 ∷ []) (quiet s j m) .outcome ≡ Refused 21
+one-is-refused s j m h =
+    rw (
+      h .state,
+      goes-not 100 100 j m (rw (h .state) at (h .fits)) (omega arith) (amount-form .1)
+        (is-past 100 100 j (h .sold) (omega arith)),
+    )
+
+pub i : run (sale 99 ∷ []) hundred .outcome ≡ Send 76
+i = one-goes (hundred .state) (hundred .journal) (hundred .message) hundred-after
+
+pub i-refused : run (sale 100 ∷ []) hundred .outcome ≡ Refused 21
+i-refused = one-is-refused (hundred .state) (hundred .journal) (hundred .message) hundred-after

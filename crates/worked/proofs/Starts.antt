@@ -1,0 +1,83 @@
+-- Case *i: a sale after n approved sales leaves, or is refused by 21.
+use mathlib.Core.Path.{_≡_, refl}
+use mathlib.Core.List.{List}
+use mathlib.Core.Bool.{true, false}
+use Prim.Native.Nat.{ℕ, zero, suc, _<_}
+use native.Mathlib.Omega.{arith}
+use lib.ListN.{length, replicate}
+use borrow.Author.Tests.{lt-leb}
+use Rattle.writing.specs.Writing.{messageBytes}
+use Rattle.kinds.specs.Kinds.{isKind, takesOriginal}
+use Rattle.entry.specs.Form.{within}
+use Rattle.entry.specs.declared.Entry.{Entry}
+use Rattle.journal.specs.Journal.{entriesOf, absent, totalsOf, takenFrom, taken}
+use Rattle.state.specs.declared.State.{State}
+use Rattle.state.specs.declared.Phase.the-variants.{Resting}
+use Rattle.state.specs.Calls.{firstBroken, judged, refused, sent}
+use Rattle.rules.specs.Rules.{isCard, past}
+use Rattle.rules.proofs.InOrder.{Fit}
+use Rattle.outgoing.specs.Outgoing.{requestMessage}
+use Rattle.start.specs.Start.{deskInForm, requested, start}
+use Rattle.start.specs.declared.Desk.{Desk}
+use Rattle.keeping.proofs.Back.{fit-ready}
+use Rattle.worked.specs.Desk.{settings}
+use Rattle.worked.proofs.Approvals.{asked}
+
+-- the terminal after n approved sales
+abbrev pub at : ℕ → State
+at n =
+    record {
+      settings = settings 300; «signed_on» = true; batch = record { 0 = 1 }; next = record { 0 = suc n }; entries = n;
+      counts = record { sent = n; approved = n; declined = 0; reversed = 0; «given_up» = 0; unanswered = 0 };
+      phase = Resting }
+
+abbrev pub desk : ℕ → Desk
+desk amount =
+    record {
+      kind = 22; amount = amount; card = record { number = 6222021234567890; length = 16 }; original = record { 0 = 0 };
+      month = 11; day = 15; authorisation = replicate 6 0x33; reference = replicate 12 0x34 }
+
+-- the bytes that leave
+abbrev pub saleBytes : ℕ → ℕ → List ℕ
+saleBytes amount trace =
+    messageBytes (requestMessage (settings 300) (record { 0 = 1 }) (asked amount trace)
+      (record {
+        batch = record { 0 = 0 }; trace = record { 0 = 0 }; date = 1115; authorisation = replicate 6 0x33;
+        reference = replicate 12 0x34 }))
+
+desk-form : (amount : ℕ) → deskInForm (desk amount) ≡ true
+unfolding deskInForm isKind takesOriginal isCard within
+desk-form amount = refl
+
+-- a free trace is taken
+taken-from : (k : ℕ) (es : List Entry) (x : ℕ) → absent x es ≡ true → takenFrom k es x ≡ x
+taken-from zero es x h = refl
+taken-from (suc k) es x h = rw h
+
+taken-free : (es : List Entry) (x : ℕ) → absent x es ≡ true → taken es x ≡ x
+unfolding taken
+taken-free es x h = taken-from (length es) es x h
+
+-- a sale after n of them: judged by rule 21 alone
+module _ (amount n : ℕ) (j m : List ℕ) (fit : Fit (at n) j m) (few : n < 300) (form : within 1 amount 9999999999 ≡ true) where
+  pub goes : absent (suc n) (entriesOf n j) ≡ true → past 22 amount (totalsOf (entriesOf n j)) ≡ false
+      → start (desk amount) (at n) j m ≡ sent (saleBytes amount (suc n)) (requested (at n) (asked amount (suc n))) j m
+  unfolding start judged firstBroken takesOriginal
+  goes free p =
+      let r = fit-ready (at n) j m fit in
+      rw (
+        r .long,
+        r .order,
+        form,
+        desk-form amount,
+        lt-leb 300 n few,
+        lt-leb 900000 n (omega arith),
+        p,
+        taken-free (entriesOf n j) (suc n) free,
+      )
+
+  pub goes-not : past 22 amount (totalsOf (entriesOf n j)) ≡ true → start (desk amount) (at n) j m ≡ refused 21 (at n) j m
+  unfolding start judged firstBroken takesOriginal
+  goes-not p =
+      let r = fit-ready (at n) j m fit in
+      rw (r .long, r .order, form, desk-form amount, lt-leb 300 n few, lt-leb 900000 n (omega arith), p)

@@ -1,0 +1,60 @@
+-- Document 01, "Worked at the desk": terminals, cards and answers of the starred cases f to k.
+use mathlib.Core.List.{List, [], _∷_, _++_}
+use mathlib.Core.Bool.{Bool, true}
+use Prim.Native.Nat.{ℕ, _*_}
+use lib.ListN.{replicate, take}
+use Rattle.digits.specs.Numbers.{digitsOf}
+use Rattle.message.specs.Message.{largest}
+use Rattle.message.specs.Build.{Item, digits, bytes, messageOf}
+use Rattle.writing.specs.Writing.{messageBytes}
+use Rattle.entry.specs.Entry.{entrySize}
+use Rattle.journal.specs.Journal.{entriesOf, totalsOf}
+use Rattle.journal.specs.declared.Totals.{Totals}
+use Rattle.state.specs.State.{fresh}
+use Rattle.state.specs.Calls.{Result, quiet}
+use Rattle.state.specs.declared.Settings.{Settings}
+use Rattle.start.specs.declared.Desk.{Desk}
+use Rattle.outgoing.specs.Outgoing.{field60}
+use Rattle.terminal.specs.Events.{Event, signs-on, starts, answers, is-silent, reverses, run}
+
+-- three sendings, refunds up to 100,000 fen
+abbrev pub settings : ℕ → Settings
+settings limit =
+    record { limit = limit; sendings = 3; refund = 100000; terminal = replicate 8 0x31; merchant = replicate 15 0x32 }
+
+-- a fresh terminal with room for its journal, that has signed on to batch 1
+abbrev pub opened : ℕ → Result
+opened limit =
+    run (signs-on (record { 0 = 1 }) ∷ [])
+      (quiet (fresh (settings limit)) (replicate (entrySize * limit) 0) (replicate largest 0))
+
+-- what the desk keys
+abbrev pub keyed : ℕ → ℕ → ℕ → Event
+keyed kind amount original =
+    starts (record {
+      kind = kind; amount = amount; card = record { number = 6222021234567890; length = 16 }; original = record { 0 = original };
+      month = 11; day = 15; authorisation = replicate 6 0x33; reference = replicate 12 0x34 })
+
+abbrev pub sale : ℕ → Event
+sale amount = keyed 22 amount 0
+
+-- the centre's answer of a type to a request of a kind and a trace, with a code and further fields
+abbrev pub reply : ℕ → ℕ → ℕ → ℕ → ℕ → List Item → Event
+reply indicator kind trace a b more =
+    answers (messageBytes (messageOf indicator
+      (digits 11 (digitsOf 6 trace) ∷ bytes 39 (a ∷ b ∷ []) ∷ bytes 41 (replicate 8 0x31) ∷ bytes 42 (replicate 15 0x32)
+      ∷ digits 60 (field60 kind (record { 0 = 1 }) 0) ∷ more))) true
+
+-- 00 with field 4, 13, 37 and 64
+abbrev pub approval : ℕ → ℕ → ℕ → Event
+approval kind amount trace =
+    reply 0x0210 kind trace 0x30 0x30
+      (digits 4 (digitsOf 12 amount) ∷ digits 13 (digitsOf 4 1115) ∷ bytes 37 (replicate 12 0x35) ∷ bytes 64 (replicate 8 0) ∷ [])
+
+-- a code to the reversal of a sale
+abbrev pub toReversal : ℕ → ℕ → ℕ → Event
+toReversal trace a b = reply 0x0410 22 trace a b []
+
+-- debit and credit of the journal
+abbrev pub totals : Result → Totals
+totals r = totalsOf (entriesOf (r .state .entries) (r .journal))
