@@ -9,8 +9,11 @@ use Rattle.reading.specs.Reading.{readMessage}
 use Rattle.reading.specs.declared.Outcome.{Outcome as Judgement}
 use Rattle.reading.specs.declared.Outcome.the-variants.{Read, Refused as Unread}
 use Rattle.writing.specs.Writing.{messageBytes}
+use Rattle.parts.specs.declared.Trace.{Trace}
 use Rattle.parts.specs.declared.Batch.{Batch}
-use Rattle.journal.specs.Journal.{entriesOf, taken}
+use Rattle.journal.specs.Journal.{entriesOf, entryAt, totalsOf, nextDue, taken}
+use Rattle.journal.specs.declared.Found.{Found}
+use Rattle.journal.specs.declared.Found.the-variants.{At, Nowhere}
 use Rattle.state.specs.declared.Reversal.{Reversal}
 use Rattle.state.specs.declared.Phase.{Phase}
 use Rattle.state.specs.declared.Phase.the-variants.{Resting, Waiting, Pending, Settling, Uploading}
@@ -21,16 +24,18 @@ use Rattle.rules.specs.Rules.{tooShort, inOrder, rules12}
 use Rattle.rules.proofs.InOrder.{Fit, reversal-holds}
 use Rattle.outgoing.specs.Outgoing.{requestMessage, reversalMessage}
 use Rattle.signing.specs.Signing.{signedOnRules, adopts, on, signedOn}
-use Rattle.start.specs.Start.{originalOf, entryOf, requestOf, namedBy, startRules, requested, start}
+use Rattle.start.specs.Start.{originalOf, entryOf, requestOf, namedBy, startRules, start}
 use Rattle.start.specs.declared.Desk.{Desk}
 use Rattle.reversing.specs.Reversing.{again, sendFrom, sendReversalRules, sendReversal}
+use Rattle.settling.specs.Settling.{settlementMessage, settleRules, settle}
+use Rattle.uploading.specs.Uploading.{itemMessage, endMessage, nextLeaves, uploadFrom, sendNextUploadRules, sendNextUpload}
 use Rattle.answers.specs.Answers.{isAnswer}
-use Rattle.answering.specs.Answering.{quietly, silent, silentIn, noAnswer, poweredIn, withoutPower, powerReturned, answered, traceSent, answerIn, readIn, answer}
+use Rattle.answering.specs.Answering.{quietly, silentIn, noAnswer, poweredIn, withoutPower, powerReturned, answered, traceSent, answerIn, readIn, answer}
 use Rattle.keeping.proofs.Back.{ready-fits}
-use Rattle.terminal.specs.Events.{Event, signs-on, starts, answers, is-silent, has-power, reverses, call}
-use Rattle.facts.specs.Facts.{SettingsShaped, EventShaped}
+use Rattle.terminal.specs.Events.{Event, signs-on, starts, answers, is-silent, has-power, reverses, settles, uploads, call}
+use Rattle.terminal.specs.Shapes.{SettingsShaped, EventShaped}
 use Rattle.facts.proofs.Told.{Told, told-refused, told-quiet, told-sent, told-judged}
-use Rattle.facts.proofs.Leaving.{reversal-reads, card-held, started-reads}
+use Rattle.facts.proofs.Leaving.{reversal-reads, card-held, started-reads, settlement-reads, item-reads, end-reads}
 
 -- the settings and what is handed in are shaped
 abbrev pub Shapes : Event → State → Type 0
@@ -122,6 +127,40 @@ send-reversal-told s j m =
     told-judged (firstBroken rs) (sendFrom (s .phase) s j m)
     (λ z. send-from s j m (fits s j m (passed 1 rs refl z) (passed 2 rs refl z)) (s .phase) refl)
 
+settle-told : (s : State) (j m : List ℕ) → Told (Shapes settles s) s j m (settle s j m)
+unfolding settle
+settle-told s j m =
+    let es = entriesOf (s .entries) j in
+    let rs = settleRules s j m in
+    let trace : Trace = record { 0 = taken es (s .next .0) } in
+    told-judged (firstBroken rs) _
+    (λ z. told-sent (messageBytes (settlementMessage (s .settings) (s .batch) trace (totalsOf es)))
+    (λ x. settlement-reads s j m (fits s j m (passed 1 rs refl z) (passed 2 rs refl z)) (x .0) trace (totalsOf es)))
+
+-- an item, or the end where none is left
+next-told : (s : State) (j m : List ℕ) → Fit s j m → (f : Found) → nextDue (entriesOf (s .entries) j) ≡ f
+    → Told (Shapes uploads s) s j m (nextLeaves f s j m)
+next-told s j m h (At i) e =
+    told-sent (messageBytes (itemMessage (s .settings) (s .batch) (entryAt (entriesOf (s .entries) j) i)))
+    (λ x. item-reads s j m h (x .0) i e)
+next-told s j m h Nowhere e =
+    let trace : Trace = record { 0 = taken (entriesOf (s .entries) j) (s .next .0) } in
+    told-sent (messageBytes (endMessage (s .settings) (s .batch) trace)) (λ x. end-reads s j m h (x .0) trace)
+
+upload-from : (s : State) (j m : List ℕ) → Fit s j m → (p : Phase) → Told (Shapes uploads s) s j m (uploadFrom p s j m)
+upload-from s j m h Resting = told-refused
+upload-from s j m h (Waiting a) = told-refused
+upload-from s j m h (Pending v) = told-refused
+upload-from s j m h Settling = told-refused
+upload-from s j m h Uploading = next-told s j m h (nextDue (entriesOf (s .entries) j)) refl
+
+send-next-upload-told : (s : State) (j m : List ℕ) → Told (Shapes uploads s) s j m (sendNextUpload s j m)
+unfolding sendNextUpload
+send-next-upload-told s j m =
+    let rs = sendNextUploadRules s j m in
+    told-judged (firstBroken rs) (uploadFrom (s .phase) s j m)
+    (λ z. upload-from s j m (fits s j m (passed 1 rs refl z) (passed 2 rs refl z)) (s .phase))
+
 pub call-told : (e : Event) (s : State) (j m : List ℕ) → Told (Shapes e s) s j m (call e s j m)
 call-told (signs-on batch) s j m = signed-on-told _ s j m batch
 call-told (starts d) s j m = start-told d s j m
@@ -129,3 +168,5 @@ call-told (answers b good) s j m = answer-told _ s j m b good
 call-told is-silent s j m = no-answer-told _ s j m
 call-told has-power s j m = power-returned-told _ s j m
 call-told reverses s j m = send-reversal-told s j m
+call-told settles s j m = settle-told s j m
+call-told uploads s j m = send-next-upload-told s j m

@@ -1,4 +1,4 @@
--- What start and send reversal let leave reads.
+-- What start, send reversal, settle and send next upload let leave reads.
 use mathlib.Core.Path.{_≡_, refl}
 use mathlib.Core.List.{List}
 use mathlib.Core.Bool.{Bool, true, false, not, _&&_, _||_, and-eq-true-iff, true≢false}
@@ -15,17 +15,19 @@ use Rattle.message.specs.Build.{Item, messageOf}
 use Rattle.reading.specs.Reading.{readMessage}
 use Rattle.reading.specs.declared.Outcome.the-variants.{Read}
 use Rattle.writing.specs.Writing.{messageBytes}
+use Rattle.parts.specs.declared.Trace.{Trace}
 use Rattle.parts.specs.declared.Batch.{Batch}
 use Rattle.kinds.specs.Kinds.{indicatorOf, takesOriginal, originalKind}
 use Rattle.entry.specs.Form.{inForm}
 use Rattle.entry.specs.Theorems.{Shaped}
 use Rattle.entry.specs.declared.Entry.{Entry}
 use Rattle.entry.proofs.Form.{in-form}
-use Rattle.journal.specs.Journal.{entriesOf, every, isOriginal}
+use Rattle.journal.specs.Journal.{entriesOf, entryAt, every, isOriginal, nextDue}
 use Rattle.journal.specs.declared.Found.{Found}
 use Rattle.journal.specs.declared.Found.the-variants.{At, Nowhere}
+use Rattle.journal.specs.declared.Totals.{Totals}
 use Rattle.journal.proofs.Entries.{entry-shaped}
-use Rattle.journal.proofs.Searches.{first-at, every-at}
+use Rattle.journal.proofs.Searches.{first-at, every-at, next-at}
 use Rattle.state.specs.declared.Request.{Request}
 use Rattle.state.specs.declared.Reversal.{Reversal}
 use Rattle.state.specs.declared.Settings.{Settings}
@@ -35,14 +37,18 @@ use Rattle.state.proofs.Choices.{passed}
 use Rattle.rules.specs.Rules.{isCard, nowhere}
 use Rattle.rules.proofs.InOrder.{SettingsHold, Fit, card-holds}
 use Rattle.compose.specs.Compose.{allHeld}
-use Rattle.outgoing.specs.Leaving.{CardHeld, OriginalHeld}
+use Rattle.outgoing.specs.Leaving.{SettingsHeld, CardHeld, OriginalHeld}
 use Rattle.outgoing.specs.Outgoing.{requestFields, reversalFields, requestMessage, reversalMessage}
 use Rattle.outgoing.specs.declared.Original.{Original}
 use Rattle.outgoing.proofs.Leaving.{request-held, reversal-held, request-listed, reversal-listed, written-is}
 use Rattle.leaving.proofs.Theorems.{sent-reads-back}
 use Rattle.start.specs.Start.{deskInForm, originalOf, entryOf, requestOf, namedBy, startRules}
 use Rattle.start.specs.declared.Desk.{Desk}
-use Rattle.facts.specs.Facts.{SettingsShaped}
+use Rattle.settling.specs.Settling.{settlementFields, settlementMessage}
+use Rattle.settling.proofs.Held.{settlement-held, settlement-listed}
+use Rattle.uploading.specs.Uploading.{itemFields, itemMessage, endFields, endMessage}
+use Rattle.uploading.proofs.Held.{EntryHeld, item-held, end-held, upload-listed}
+use Rattle.terminal.specs.Shapes.{SettingsShaped}
 
 -- the bytes of a message of held fields read
 bytes-read : (i : ℕ) (xs : List Item) (m : List ℕ) → among i indicators ≡ true → allHeld xs ≡ true → largest ≤ length m
@@ -160,3 +166,46 @@ started-reads d s j m f n q h z x a r =
         (λ t. (original-form d es (h .order .form) f q (found t), original-shaped (s .entries) j f (found t))) in
     request-reads (s .settings) (s .batch) (requestOf d e n) (namedBy d (s .batch) e) m
     (card-held (s .settings) (requestOf d e n) x (h .order .settings) (w .card-low) (w .card-high)) (w .original) (h .message-room)
+
+-- settings in order, and an entry in form
+settings-held : (x : Settings) → SettingsShaped x → SettingsHold x → SettingsHeld x
+settings-held x l h =
+    record {
+      terminal-length = l .terminal-length; merchant-length = l .merchant-length;
+      terminal-printable = h .terminal-printable; merchant-printable = h .merchant-printable }
+
+entry-held : (e : Entry) → inForm e ≡ true → Shaped e → EntryHeld e
+entry-held e h l =
+    let f = in-form e h in
+    record {
+      card-low = f .digits-least; card-high = f .digits-most;
+      reference-length = l .reference-length; reference-printable = f .reference-printable;
+      authorisation-length = l .authorisation-length; authorisation-printable = f .authorisation-printable }
+
+module _ (s : State) (j m : List ℕ) (h : Fit s j m) (x : SettingsShaped (s .settings)) where
+  -- a settlement
+  pub settlement-reads : (trace : Trace) (t : Totals)
+      → readMessage (messageBytes (settlementMessage (s .settings) (s .batch) trace t)) .outcome ≡ Read
+  unfolding settlementMessage
+  settlement-reads trace t =
+      bytes-read 0x0500 (settlementFields (s .settings) (s .batch) trace t) m settlement-listed
+      (settlement-held (s .settings) (s .batch) (settings-held (s .settings) x (h .order .settings)) trace t) (h .message-room)
+
+  -- the next due entry
+  pub item-reads : (i : ℕ) → nextDue (entriesOf (s .entries) j) ≡ At i
+      → readMessage (messageBytes (itemMessage (s .settings) (s .batch) (entryAt (entriesOf (s .entries) j) i))) .outcome ≡ Read
+  unfolding itemMessage
+  item-reads i q =
+      let es = entriesOf (s .entries) j in
+      let e = entryAt es i in
+      let form = every-at (λ i e. inForm e) 0 es (h .order .form) i (next-at es i q .below) in
+      bytes-read 0x0320 (itemFields (s .settings) (s .batch) e) m upload-listed
+      (item-held (s .settings) (s .batch) (settings-held (s .settings) x (h .order .settings)) e
+      (entry-held e form (entry-shaped (s .entries) i j))) (h .message-room)
+
+  -- the upload's end
+  pub end-reads : (trace : Trace) → readMessage (messageBytes (endMessage (s .settings) (s .batch) trace)) .outcome ≡ Read
+  unfolding endMessage
+  end-reads trace =
+      bytes-read 0x0320 (endFields (s .settings) (s .batch) trace) m upload-listed
+      (end-held (s .settings) (s .batch) (settings-held (s .settings) x (h .order .settings)) trace) (h .message-room)

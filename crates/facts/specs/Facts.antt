@@ -7,16 +7,15 @@ use lib.ListN.{length, drop}
 use Rattle.reading.specs.Reading.{readMessage}
 use Rattle.reading.specs.declared.Outcome.the-variants.{Read}
 use Rattle.state.specs.declared.Reversal.{Reversal}
-use Rattle.state.specs.declared.Settings.{Settings}
 use Rattle.state.specs.declared.State.{State}
 use Rattle.state.specs.declared.Outcome.the-variants.{Send, Quiet, Refused}
 use Rattle.state.specs.declared.Phase.the-variants.{Resting, Pending}
 use Rattle.state.specs.Calls.{Result, refused}
-use Rattle.start.specs.declared.Desk.{Desk}
 use Rattle.keeping.specs.Keeping.{Ready}
 use Rattle.reversing.specs.Reversing.{sendReversal}
 use Rattle.answering.specs.Answering.{noAnswer}
-use Rattle.terminal.specs.Events.{Event, signs-on, starts, answers, is-silent, has-power, reverses, call}
+use Rattle.terminal.specs.Events.{Event, call}
+use Rattle.terminal.specs.Shapes.{SettingsShaped, EventShaped}
 
 -- a refused call changes nothing
 abbrev pub RefusedChangesNothing : Type 0
@@ -25,19 +24,6 @@ RefusedChangesNothing = (e : Event) (s : State) (j m : List ℕ) (n : ℕ) → c
 -- a quiet change leaves the message buffer
 abbrev pub QuietLeavesMessage : Type 0
 QuietLeavesMessage = (e : Event) (s : State) (j m : List ℕ) → call e s j m .outcome ≡ Quiet → call e s j m .message ≡ m
-
--- the arrays of settings and of desk data have their lengths, as in every value of the types
-pub record SettingsShaped (x : Settings) : Type 0 where
-  pub terminal-length : length (x .terminal) ≡ 8
-  pub merchant-length : length (x .merchant) ≡ 15
-
-abbrev pub EventShaped : Event → Type 0
-EventShaped (signs-on batch) = Unit {0}
-EventShaped (starts d) = (length (d .authorisation) ≡ 6) × (length (d .reference) ≡ 12)
-EventShaped (answers b good) = Unit {0}
-EventShaped is-silent = Unit {0}
-EventShaped has-power = Unit {0}
-EventShaped reverses = Unit {0}
 
 -- what leaves is a message that reads, so many bytes long; bytes past it stay
 pub record Leaves (k : ℕ) (o m : List ℕ) : Type 0 where

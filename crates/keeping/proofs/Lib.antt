@@ -8,4 +8,6 @@ pub mod Approving
 pub mod Events
 pub mod Signing
 pub mod Starting
+pub mod Settling
+pub mod Uploading
 pub mod Keeping

@@ -34,16 +34,16 @@ abbrev pub during : Phase → State → State
 during p s = inPhase p (s .counts) s
 
 -- what a new phase and new counts must keep
-record Moves (p : Phase) (c : Counts) (s : State) (es : List Entry) : Type 0 where
-  sent-same : c .sent ≡ s .counts .sent
-  approved-same : c .approved ≡ s .counts .approved
-  phase-form : phaseInForm p ≡ true
-  unmarked : every (λ i e. keepsUnmarked (inUpload p) e) 0 es ≡ true
-  silent : every (λ i e. keepsSilent (s .settings .sendings) (isAt (awaitedItem p) i) e) 0 es ≡ true
-  balance : c .sent ≡ c .approved + c .declined + c .reversed + c .«given_up» + c .unanswered + waiting p
-  phase-kept : phaseKept (s .settings) (s .entries) es p ≡ true
+pub record Moves (p : Phase) (c : Counts) (s : State) (es : List Entry) : Type 0 where
+  pub sent-same : c .sent ≡ s .counts .sent
+  pub approved-same : c .approved ≡ s .counts .approved
+  pub phase-form : phaseInForm p ≡ true
+  pub unmarked : every (λ i e. keepsUnmarked (inUpload p) e) 0 es ≡ true
+  pub silent : every (λ i e. keepsSilent (s .settings .sendings) (isAt (awaitedItem p) i) e) 0 es ≡ true
+  pub balance : c .sent ≡ c .approved + c .declined + c .reversed + c .«given_up» + c .unanswered + waiting p
+  pub phase-kept : phaseKept (s .settings) (s .entries) es p ≡ true
 
-moved : (p : Phase) (c : Counts) (s : State) (j m : List ℕ) → Fit s j m → Moves p c s (entriesOf (s .entries) j)
+pub moved : (p : Phase) (c : Counts) (s : State) (j m : List ℕ) → Fit s j m → Moves p c s (entriesOf (s .entries) j)
     → Fit (inPhase p c s) j m
 moved p c s j m f w =
     let h = f .order in
@@ -179,6 +179,22 @@ module _ (s : State) (j m : List ℕ) where
             form = refl; voided = refl; unmarked = refl; resends = refl; silent = refl; apart = refl;
             debit-most = omega arith; credit-most = omega arith;
             balance = refl; approvals = refl; phase-kept = refl } }
+
+  -- another trace is next
+  pub next-fit : (x : Trace) → 1 ≤ x .0 → x .0 ≤ 999999 → Fit s j m
+      → Fit (record {
+        settings = s .settings; «signed_on» = s .«signed_on»; batch = s .batch; next = x; entries = s .entries; counts = s .counts;
+        phase = s .phase }) j m
+  next-fit x a b f =
+      let h = f .order in
+      record {
+        message-room = f .message-room; journal-room = f .journal-room;
+        order =
+          record {
+            few = h .few; settings = h .settings; batch-least = h .batch-least; batch-most = h .batch-most; next-least = a; next-most = b;
+            sent-most = h .sent-most; phase-form = h .phase-form; form = h .form; voided = h .voided; unmarked = h .unmarked;
+            resends = h .resends; silent = h .silent; apart = h .apart; debit-most = h .debit-most; credit-most = h .credit-most;
+            balance = h .balance; approvals = h .approvals; phase-kept = h .phase-kept } }
 
   -- signing on or off, perhaps in another batch
   pub signed-fit : (on : Bool) (batch : Batch) → 1 ≤ batch .0 → batch .0 ≤ 999999 → Fit s j m

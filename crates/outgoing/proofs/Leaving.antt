@@ -4,12 +4,10 @@ use mathlib.Core.List.{List, [], _∷_, _++_}
 use mathlib.Core.Bool.{Bool, true, false, cond, _||_, and-eq-true-iff}
 use Prim.Native.Nat.{ℕ, _+_, _≤_}
 use lib.Dec.{eqb}
-use lib.ListN.{length, drop, replicate, length-append}
-use borrow.Author.Tests.{le-leb, le-ltb}
-use Rattle.digits.specs.Numbers.{digitsOf}
-use Rattle.digits.proofs.Numbers.{length-digitsOf, digitsOf-digits}
+use lib.ListN.{length, drop}
+use borrow.Author.Tests.{le-ltb}
 use Rattle.field.specs.Table.{among, indicators, formats}
-use Rattle.field.specs.Contents.{allowed, allPrintable}
+use Rattle.field.specs.Contents.{allPrintable}
 use Rattle.message.specs.Build.{Item, digits, bytes, messageOf}
 use Rattle.message.specs.Message.{largest}
 use Rattle.parts.specs.declared.Batch.{Batch}
@@ -22,13 +20,13 @@ use Rattle.state.specs.declared.Settings.{Settings}
 use Rattle.writing.specs.Writing.{messageBytes, written, writeMessage}
 use Rattle.writing.specs.declared.Writing.the-variants.{Written}
 use Rattle.compose.specs.Compose.{mayHold, allHeld, withAll}
-use Rattle.compose.proofs.Items.{takes, isDigits, digits-held, number-held, printable-held, bytes-held}
+use Rattle.compose.proofs.Items.{number-held}
 use Rattle.compose.proofs.Composed.{all-composed}
 use Rattle.compose.proofs.Sound.{sound}
 use Rattle.outgoing.specs.declared.Original.{Original}
-use Rattle.outgoing.specs.Outgoing.{field60, field61, cardFields, originalFields, requestFields, reasonCode, reversalFields, requestMessage, reversalMessage}
+use Rattle.outgoing.specs.Outgoing.{field61, cardFields, originalFields, requestFields, reasonCode, reversalFields, requestMessage, reversalMessage}
 use Rattle.outgoing.specs.Leaving.{CardHeld, OriginalHeld}
-use Rattle.outgoing.proofs.Pieces.{digits-append}
+use Rattle.outgoing.proofs.Fields.{card-taken, processing-held, amount-held, trace-held, entry-held, condition-held, reference-held, authorisation-held, reason-held, terminal-held, merchant-held, currency-held, mac-held, field60-held, field61-held, currency-printable}
 
 pub held-append : (xs ys : List Item) → allHeld xs ≡ true → allHeld ys ≡ true → allHeld (xs ++ ys) ≡ true
 held-append [] ys a b = b
@@ -36,79 +34,7 @@ held-append (x ∷ xs) ys a b =
     let t = and-eq-true-iff (mayHold formats x) (allHeld xs) .0 a in
     rw (t .0, held-append xs ys (t .1) b)
 
--- a card number, and a fixed field's digits or bytes, are as many as the table allows
-card-taken : (k : ℕ) → 13 ≤ k → k ≤ 19 → takes isDigits formats 2 k ≡ true
-unfolding formats allowed
-card-taken k l h = rw (le-leb 13 k l, le-leb k 19 h)
-
-processing-held : (x : ℕ) → mayHold formats (digits 3 (digitsOf 6 x)) ≡ true
-unfolding formats allowed
-processing-held x = number-held 3 6 x refl
-
-amount-held : (x : ℕ) → mayHold formats (digits 4 (digitsOf 12 x)) ≡ true
-unfolding formats allowed
-amount-held x = number-held 4 12 x refl
-
-trace-held : (x : ℕ) → mayHold formats (digits 11 (digitsOf 6 x)) ≡ true
-unfolding formats allowed
-trace-held x = number-held 11 6 x refl
-
-entry-held : (x : ℕ) → mayHold formats (digits 22 (digitsOf 3 x)) ≡ true
-unfolding formats allowed
-entry-held x = number-held 22 3 x refl
-
-condition-held : (x : ℕ) → mayHold formats (digits 25 (digitsOf 2 x)) ≡ true
-unfolding formats allowed
-condition-held x = number-held 25 2 x refl
-
-reference-held : (b : List ℕ) → length b ≡ 12 → allPrintable b ≡ true → mayHold formats (bytes 37 b) ≡ true
-unfolding formats allowed
-reference-held b l p = printable-held 37 b (rw l) p
-
-authorisation-held : (b : List ℕ) → length b ≡ 6 → allPrintable b ≡ true → mayHold formats (bytes 38 b) ≡ true
-unfolding formats allowed
-authorisation-held b l p = printable-held 38 b (rw l) p
-
-reason-held : (b : List ℕ) → length b ≡ 2 → allPrintable b ≡ true → mayHold formats (bytes 39 b) ≡ true
-unfolding formats allowed
-reason-held b l p = printable-held 39 b (rw l) p
-
-terminal-held : (b : List ℕ) → length b ≡ 8 → allPrintable b ≡ true → mayHold formats (bytes 41 b) ≡ true
-unfolding formats allowed
-terminal-held b l p = printable-held 41 b (rw l) p
-
-merchant-held : (b : List ℕ) → length b ≡ 15 → allPrintable b ≡ true → mayHold formats (bytes 42 b) ≡ true
-unfolding formats allowed
-merchant-held b l p = printable-held 42 b (rw l) p
-
-currency-held : (b : List ℕ) → length b ≡ 3 → allPrintable b ≡ true → mayHold formats (bytes 49 b) ≡ true
-unfolding formats allowed
-currency-held b l p = printable-held 49 b (rw l) p
-
-mac-held : mayHold formats (bytes 64 (replicate 8 0)) ≡ true
-unfolding formats allowed
-mac-held = bytes-held 64 (replicate 8 0) refl
-
--- three numbers, one after another
-joined : (n p q r x y w : ℕ) → takes isDigits formats n (p + (q + r)) ≡ true → mayHold formats (digits n (digitsOf p x ++ (digitsOf q y ++ digitsOf r w))) ≡ true
-joined n p q r x y w h =
-    digits-held n (digitsOf p x ++ (digitsOf q y ++ digitsOf r w)) (simp (length-append, length-digitsOf) h)
-    (digits-append (digitsOf p x) (digitsOf q y ++ digitsOf r w) (digitsOf-digits p x)
-    (digits-append (digitsOf q y) (digitsOf r w) (digitsOf-digits q y) (digitsOf-digits r w)))
-
-field60-held : (kind : ℕ) (batch : Batch) (code : ℕ) → mayHold formats (digits 60 (field60 kind batch code)) ≡ true
-unfolding formats allowed
-field60-held kind batch code = joined 60 2 6 3 kind (batch .0) code refl
-
-field61-held : (o : Original) → mayHold formats (digits 61 (field61 o)) ≡ true
-unfolding formats allowed
-field61-held o = joined 61 6 6 4 (o .batch .0) (o .trace .0) (o .date) refl
-
--- the currency and the reasons are printable
-currency-printable : allPrintable (0x31 ∷ 0x35 ∷ 0x36 ∷ []) ≡ true
-unfolding allPrintable
-currency-printable = refl
-
+-- the reasons are printable
 reason-printable : (r : Reason) → allPrintable (reasonCode r) ≡ true
 unfolding allPrintable
 reason-printable Silence = refl

@@ -1,3 +1,4 @@
 -- Laws of the messages that leave, for the crates above.
 pub mod Pieces
+pub mod Fields
 pub mod Leaving

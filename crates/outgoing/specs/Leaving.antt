@@ -10,6 +10,13 @@ use Rattle.state.specs.declared.Request.{Request}
 use Rattle.state.specs.declared.Settings.{Settings}
 use Rattle.outgoing.specs.declared.Original.{Original}
 
+-- fields 41 and 42
+pub record SettingsHeld (x : Settings) : Type 0 where
+  pub terminal-length : length (x .terminal) ≡ 8
+  pub merchant-length : length (x .merchant) ≡ 15
+  pub terminal-printable : allPrintable (x .terminal) ≡ true
+  pub merchant-printable : allPrintable (x .merchant) ≡ true
+
 -- fields 2, 41 and 42 of a card request
 pub record CardHeld (x : Settings) (q : Request) : Type 0 where
   pub card-low : 13 ≤ q .card .length

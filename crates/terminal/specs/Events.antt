@@ -9,6 +9,8 @@ use Rattle.signing.specs.Signing.{signedOn}
 use Rattle.start.specs.Start.{start}
 use Rattle.start.specs.declared.Desk.{Desk}
 use Rattle.reversing.specs.Reversing.{sendReversal}
+use Rattle.settling.specs.Settling.{settle}
+use Rattle.uploading.specs.Uploading.{sendNextUpload}
 use Rattle.answering.specs.Answering.{answer, noAnswer, powerReturned}
 
 -- a call, with what is handed in besides state and buffers
@@ -19,6 +21,8 @@ pub data Event : Type 0 where
   is-silent : Event
   has-power : Event
   reverses : Event
+  settles : Event
+  uploads : Event
 
 -- what a call gives
 abbrev pub call : Event → State → List ℕ → List ℕ → Result
@@ -28,6 +32,8 @@ call (answers b good) s j m = answer b good s j m
 call is-silent s j m = noAnswer s j m
 call has-power s j m = powerReturned s j m
 call reverses s j m = sendReversal s j m
+call settles s j m = settle s j m
+call uploads s j m = sendNextUpload s j m
 
 -- each call gets state, journal and message buffer as the last one left them
 abbrev pub run : List Event → Result → Result

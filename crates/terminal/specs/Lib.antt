@@ -1,2 +1,3 @@
 pub mod Terminal
 pub mod Events
+pub mod Shapes

@@ -11,6 +11,8 @@ ghost use Rattle.signing.specs.Signing.{signedOn};
 ghost use Rattle.start.specs.Start.{start};
 ghost use Rattle.answering.specs.Answering.{answer, noAnswer, powerReturned};
 ghost use Rattle.reversing.specs.Reversing.{sendReversal};
+ghost use Rattle.settling.specs.Settling.{settle};
+ghost use Rattle.uploading.specs.Uploading.{sendNextUpload};
 ghost use Rattle.terminal.specs.Terminal.{givenBy, stepOf};
 
 pub struct Terminal {
@@ -87,6 +89,22 @@ impl Terminal {
     {
         let state = self.state;
         step_of(reversing::send_reversal(state, journal, message))
+    }
+
+    // The batch's totals leave.
+    pub fn settle(self, journal: &mut [u8], message: &mut [u8]) -> Step
+        ensures { λ r. ⌜ givenBy r (now (journal .exit)) (now (message .exit)) ≡ settle (self .state) (now (journal .entry)) (now (message .entry)) ⌝ }
+    {
+        let state = self.state;
+        step_of(settling::settle(state, journal, message))
+    }
+
+    // The next due entry leaves, or the upload's end.
+    pub fn send_next_upload(self, journal: &mut [u8], message: &mut [u8]) -> Step
+        ensures { λ r. ⌜ givenBy r (now (journal .exit)) (now (message .exit)) ≡ sendNextUpload (self .state) (now (journal .entry)) (now (message .entry)) ⌝ }
+    {
+        let state = self.state;
+        step_of(uploading::send_next_upload(state, journal, message))
     }
 }
 

@@ -1,6 +1,8 @@
--- The starred cases: what computes, and case *i.
+-- The starred cases: what computes, and case *i; and what is reached.
+pub mod Machine
 pub mod Cases
 pub mod Approvals
 pub mod Starts
 pub mod Sales
 pub mod Worked
+pub mod Reached

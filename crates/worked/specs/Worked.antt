@@ -4,7 +4,7 @@ use mathlib.Core.List.{List, [], _∷_, _++_}
 use mathlib.Core.Bool.{cond}
 use Prim.Native.Nat.{ℕ, zero, suc, _+_}
 use lib.Dec.{eqb}
-use lib.ListN.{replicate}
+use lib.ListN.{take, replicate}
 use Rattle.digits.specs.Digits.{pack}
 use Rattle.digits.specs.Numbers.{digitsOf}
 use Rattle.field.specs.Table.{formats, fixed}
@@ -23,7 +23,11 @@ use Rattle.state.specs.declared.Outcome.the-variants.{Send, Refused}
 use Rattle.state.specs.declared.Phase.the-variants.{Resting, Pending}
 use Rattle.state.specs.declared.Reason.the-variants.{Silence}
 use Rattle.state.specs.Calls.{Result}
-use Rattle.terminal.specs.Events.{run, is-silent, reverses}
+use Rattle.digits.specs.declared.Number.the-variants.{Is}
+use Rattle.reading.specs.Reading.{readMessage}
+use Rattle.parts.specs.Parts.{partOf}
+use Rattle.parts.specs.declared.Part.the-variants as part
+use Rattle.terminal.specs.Events.{run, is-silent, reverses, settles}
 use Rattle.worked.specs.Desk.{opened, keyed, sale, approval, toReversal, totals}
 use Rattle.writing.specs.declared.Writing.the-variants.{Written}
 
@@ -81,6 +85,10 @@ firstSale =
       kind = 22; amount = 8000; card = record { number = 6222021234567890; length = 16 }; trace = record { 0 = 1 };
       original = record { 0 = 0 } }
 
+-- the settlement request that would leave now, 80 bytes, as it is read
+abbrev pub settlementOf : Result → Message
+settlementOf r = readMessage (take 80 (run (settles ∷ []) r .message)) .message
+
 -- *i: n sales of the largest amount, each approved
 abbrev pub sales : ℕ → Result → Result
 sales zero r = r
@@ -107,6 +115,12 @@ pub record Worked : Type 0 where
   -- debit 12,000/1, credit 12,000/1; sent 3, approved 2, reversed 1
   pub f : totals afterF ≡ record { debit = 12000; debits = 1; credit = 12000; credits = 1 }
   pub f-counts : afterF .state .counts ≡ record { sent = 3; approved = 2; declined = 0; reversed = 1; «given_up» = 0; unanswered = 0 }
+  -- and so the settlement says
+  pub f-settles : run (settles ∷ []) afterF .outcome ≡ Send 80
+  pub f-debit : partOf (settlementOf afterF) part.DebitAmount ≡ Is 12000
+  pub f-debits : partOf (settlementOf afterF) part.DebitCount ≡ Is 1
+  pub f-credit : partOf (settlementOf afterF) part.CreditAmount ≡ Is 12000
+  pub f-credits : partOf (settlementOf afterF) part.CreditCount ≡ Is 1
   -- *g L = 3, a silent sale, then three silent reversals: given up 1, desk free
   pub g : afterG .state .counts .«given_up» ≡ 1
   pub g-free : afterG .state .phase ≡ Resting

@@ -1,0 +1,105 @@
+-- A good approval: its entry, and the journal's totals with it.
+use mathlib.Core.Path.{_≡_, refl}
+use mathlib.Core.List.{List, [], _∷_, _++_}
+use mathlib.Core.Bool.{Bool, true, false, cond, _&&_, and-eq-true-iff}
+use Prim.Native.Nat.{ℕ, _+_, _*_, _≤_, _<_}
+use native.Mathlib.Numerals.{add-one}
+use native.Mathlib.Omega.{arith}
+use lib.ListN.{length}
+use borrow.Author.Tests.{ltb-true}
+use Rattle.digits.specs.Digits.{pack}
+use Rattle.digits.specs.Numbers.{digitsOf}
+use Rattle.field.specs.Bitmap.{names}
+use Rattle.message.specs.declared.Message.{Message}
+use Rattle.reading.specs.Reading.{readMessage}
+use Rattle.reading.specs.declared.Outcome.the-variants.{Read}
+use Rattle.readable.proofs.Readable.{date-packed, reference-printable, reference-length, authorisation-printable}
+use Rattle.parts.specs.Parts.{matches}
+use Rattle.kinds.specs.Kinds.{takesOriginal, originalKind}
+use Rattle.entry.specs.Entry.{entrySize}
+use Rattle.entry.specs.Form.{inForm}
+use Rattle.entry.specs.declared.Entry.{Entry}
+use Rattle.journal.specs.Journal.{entriesOf, firstOf, isOriginal, totalsOf, putEntry, withVoided}
+use Rattle.journal.specs.Sums.{withEntry}
+use Rattle.journal.specs.declared.Found.{Found}
+use Rattle.journal.specs.declared.Found.the-variants.{At, Nowhere}
+use Rattle.journal.proofs.Entries.{put-appends, set-voided, length-set-byte}
+use Rattle.journal.proofs.Sums.{voided-totals, totals-changed, totals-last}
+use Rattle.state.specs.declared.Request.{Request}
+use Rattle.state.specs.declared.Awaited.the-variants as awaited
+use Rattle.state.specs.declared.Phase.the-variants.{Waiting}
+use Rattle.state.specs.declared.State.{State}
+use Rattle.rules.specs.Rules.{requestInForm, requestKept}
+use Rattle.rules.proofs.InOrder.{Fit, request-holds}
+use Rattle.answers.specs.Answers.{approves, approvalHolds}
+use Rattle.approval.specs.Approval.{approvedEntry}
+use Rattle.approval.proofs.Approval.{shaped, in-form}
+use Rattle.answering.specs.Answering.{voidedAt, originalVoided, approved}
+use Rattle.keeping.proofs.Phases.{during}
+use Rattle.history.specs.Words.{messageIn}
+
+-- the journal in which an original is voided: as long, and of the same totals
+record Voided (n : ℕ) (j k : List ℕ) : Type 0 where
+  room : length k ≡ length j
+  totals : totalsOf (entriesOf n k) ≡ totalsOf (entriesOf n j)
+
+original-voided : (n : ℕ) (q : Request) (es : List Entry) (j : List ℕ) → Voided n j (originalVoided q es j)
+unfolding originalVoided
+original-voided n q es j = go (takesOriginal (q .kind)) (firstOf (isOriginal (originalKind (q .kind)) (q .original .0)) 0 es)
+  where
+    go : (b : Bool) (f : Found) → Voided n j (cond b (voidedAt f j) j)
+    go true (At i) =
+        record {
+          room = length-set-byte i 1 1 j;
+          totals = rw (set-voided n i 1 j) (totals-changed (withVoided 1) (voided-totals 1) i (entriesOf n j)) }
+    go true Nowhere = record { room = refl; totals = refl }
+    go false f = record { room = refl; totals = refl }
+
+-- an awaited request has a place
+place-left : (limit n : ℕ) (es : List Entry) (q : Request) → requestKept limit n es q ≡ true → n < limit
+unfolding requestKept
+place-left limit n es q h = let t = simp and-eq-true-iff at h in ltb-true n limit (t .0 .0 .0)
+
+-- an approval that is an answer has field 37
+has-reference : (amount : ℕ) (a : Message) → approvalHolds amount a ≡ true → approves a ≡ true → names (a .bitmap) 37 ≡ true
+unfolding approvalHolds
+has-reference amount a h e =
+    let named = names (a .bitmap) 37 in
+    let others = matches a 4 (pack (digitsOf 12 amount)) && names (a .bitmap) 13 in
+    let t : (others && named) ≡ true = rw e at h in
+    and-eq-true-iff others named .0 t .1
+
+-- the entry of a request in form that an answer approves is in form
+entry-in-form : (b : List ℕ) (q : Request) → readMessage b .outcome ≡ Read → requestInForm q ≡ true
+    → approvalHolds (q .amount) (messageIn b) ≡ true → approves (messageIn b) ≡ true → inForm (approvedEntry q (messageIn b)) ≡ true
+entry-in-form b q r f h e =
+    let w = request-holds q f in
+    let n = has-reference (q .amount) (messageIn b) h e in
+    in-form q (messageIn b) (w .kind-listed) (w .trace-least) (w .trace-most) (w .amount-least) (w .amount-most)
+    (w .card-least) (w .card-most) (date-packed b r) n (reference-length b r n) (reference-printable b r n)
+    (authorisation-printable b r)
+
+pub approved-totals : (b : List ℕ) (q : Request) (s : State) (j m : List ℕ) → readMessage b .outcome ≡ Read
+    → Fit (during (Waiting (awaited.Request q)) s) j m → approvalHolds (q .amount) (messageIn b) ≡ true → approves (messageIn b) ≡ true
+    → totalsOf (entriesOf (s .entries + 1) (approved q (messageIn b) s j .journal))
+      ≡ withEntry (totalsOf (entriesOf (s .entries) j)) (approvedEntry q (messageIn b))
+unfolding approved
+approved-totals b q s j m r h n e =
+    let c = s .entries in
+    let w = approvedEntry q (messageIn b) in
+    let k = originalVoided q (entriesOf c j) j in
+    let v = original-voided c q (entriesOf c j) j in
+    let p = place-left (s .settings .limit) c (entriesOf c j) q (h .order .phase-kept) in
+    let room : entrySize * c + entrySize ≤ length k = rw (v .room) (omega (arith, h .journal-room, p)) in
+    let y : entriesOf (c + 1) (putEntry c w k) ≡ entriesOf c k ++ (w ∷ []) =
+        rw (add-one c) (put-appends c w k (shaped q (messageIn b)) (entry-in-form b q r (h .order .phase-form) n e) room) in
+    rw (y, totals-last (entriesOf c k) w, v .totals)
+
+-- it has the request's kind and amount
+pub approved-kind : (q : Request) (a : Message) → approvedEntry q a .kind ≡ q .kind
+unfolding approvedEntry
+approved-kind q a = refl
+
+pub approved-amount : (q : Request) (a : Message) → approvedEntry q a .amount ≡ q .amount
+unfolding approvedEntry
+approved-amount q a = refl

@@ -1,0 +1,309 @@
+-- From a fresh terminal with settings in range and buffers large enough, no call is refused by rules 1 or 2.
+use mathlib.Core.Path.{_≡_, refl}
+use mathlib.Core.List.{List, [], _∷_, _++_}
+use mathlib.Core.Bool.{Bool, true, false, cond, _&&_, and-eq-true-iff}
+use Prim.Native.Nat.{ℕ, _+_, _*_, _≤_}
+use native.Mathlib.Omega.{arith}
+use lib.Dec.{leb, ltb, eqb}
+use lib.ListN.{length, take, drop}
+use borrow.Author.Tests.{leb-true, eqb-false}
+use Rattle.digits.specs.Digits.{isPacked}
+use Rattle.field.specs.Table.{among, indicators, formats}
+use Rattle.field.specs.Bitmap.{listed, names}
+use Rattle.field.specs.Contents.{size, skip, allowed, allPrintable, fault}
+use Rattle.field.specs.declared.Class.{Class}
+use Rattle.field.specs.declared.Class.the-variants.{Digits, Printable, Any}
+use Rattle.field.specs.declared.Format.{Format}
+use Rattle.span.specs.Span.{countIn, contentsAt, spanAt, span}
+use Rattle.span.specs.declared.Span.{Span}
+use Rattle.span.specs.declared.Span.the-variants.{Held, Refused as Unheld}
+use Rattle.message.specs.Message.{largest}
+use Rattle.message.specs.declared.Message.{Message}
+use Rattle.reading.specs.Reading.{Fields, bad, good as whole, prepend, afterSpan, readFields, refused as unread, indicatorOf, bitmapOf, assembled, readMessage}
+use Rattle.reading.specs.declared.Reading.{Reading}
+use Rattle.reading.specs.declared.Outcome.{Outcome as Judgement}
+use Rattle.reading.specs.declared.Outcome.the-variants.{Read, Refused as Unread}
+use Rattle.entry.specs.Entry.{entrySize}
+use Rattle.journal.specs.Journal.{entriesOf, nextDue, totalsOf}
+use Rattle.journal.specs.declared.Found.{Found}
+use Rattle.journal.specs.declared.Found.the-variants.{At, Nowhere}
+use Rattle.state.specs.State.{fresh}
+use Rattle.state.specs.Calls.{Result, Rule, firstBroken, judged, refused}
+use Rattle.state.specs.declared.Outcome.{Outcome}
+use Rattle.state.specs.declared.Outcome.the-variants.{Send, Quiet, Refused}
+use Rattle.state.specs.declared.Phase.{Phase}
+use Rattle.state.specs.declared.Phase.the-variants.{Resting, Waiting, Pending, Settling, Uploading}
+use Rattle.state.specs.declared.Settings.{Settings}
+use Rattle.state.specs.declared.State.{State}
+use Rattle.rules.specs.Rules.{settingsInForm, rules12}
+use Rattle.rules.proofs.InOrder.{Fit, settings-hold}
+use Rattle.answers.specs.Answers.{isAnswer}
+use Rattle.signing.specs.Signing.{signedOnRules, signedOn}
+use Rattle.start.specs.Start.{originalOf, entryOf, startRules, start}
+use Rattle.reversing.specs.Reversing.{sendReversalRules, sendFrom, sendReversal}
+use Rattle.settling.specs.Settling.{settleRules, settle}
+use Rattle.uploading.specs.Uploading.{sendNextUploadRules, nextLeaves, uploadFrom, sendNextUpload}
+use Rattle.answering.specs.Answering.{answered, quietly, traceSent, silentIn, noAnswer, powerReturned, answerIn, readIn, answer}
+use Rattle.keeping.specs.Keeping.{Ready, StaysReady}
+use Rattle.keeping.proofs.Back.{ready-fits, fit-ready}
+use Rattle.keeping.proofs.Keeping.{keeping}
+use Rattle.terminal.specs.Events.{Event, signs-on, starts, answers, is-silent, has-power, reverses, settles, uploads, call}
+use Rattle.history.specs.History.{refused as declined, Call, History}
+use Rattle.history.specs.Demand.{Turn, Run, givenBy, noted, runs, begun, Each}
+use Rattle.history.specs.NotEmpty.{Roomy, NeverUnfit}
+
+-- a refusal number is above 2
+abbrev SpanAbove : Span → Type 0
+SpanAbove (Held n k z) = Unit {0}
+SpanAbove (Unheld e) = 3 ≤ e
+
+abbrev FieldsAbove : Fields → Type 0
+FieldsAbove (bad e) = 3 ≤ e
+FieldsAbove (whole cs bs) = Unit {0}
+
+abbrev JudgementAbove : Judgement → Type 0
+JudgementAbove Read = Unit {0}
+JudgementAbove (Unread n) = 3 ≤ n
+
+abbrev Above : Outcome → Type 0
+Above (Send n) = Unit {0}
+Above Quiet = Unit {0}
+Above (Refused n) = 3 ≤ n
+
+-- of a reading
+fault-above : (c : Class) (n : ℕ) (b : List ℕ) → eqb (fault c n b) 0 ≡ false → 3 ≤ fault c n b
+fault-above Digits n b = go (isPacked n b)
+  where
+    go : (x : Bool) → eqb (cond x 0 6) 0 ≡ false → 3 ≤ cond x 0 6
+    go true e = absurd (eqb-false 0 0 e refl)
+    go false e = omega arith
+fault-above Printable n b = go (allPrintable b)
+  where
+    go : (x : Bool) → eqb (cond x 0 8) 0 ≡ false → 3 ≤ cond x 0 8
+    go true e = absurd (eqb-false 0 0 e refl)
+    go false e = omega arith
+fault-above Any n b = λ e. absurd (eqb-false 0 0 e refl)
+
+contents-above : (f : Format) (n : ℕ) (s : List ℕ) → SpanAbove (contentsAt f n s)
+unfolding contentsAt
+contents-above f n s = go (allowed f n) (ltb (length s) z) (eqb x 0) refl
+  where
+    z : ℕ
+    z = size (f .class) n
+
+    x : ℕ
+    x = fault (f .class) n (take (size (f .class) n) s)
+
+    go : (a b c : Bool) → eqb x 0 ≡ c
+        → SpanAbove (cond a (cond b (Unheld 3) (cond c (Held n (skip (f .prefix)) z) (Unheld x))) (Unheld 7))
+    go true true c e = omega arith
+    go true false true e = tt
+    go true false false e = fault-above (f .class) n (take (size (f .class) n) s) e
+    go false b c e = omega arith
+
+span-at-above : (f : Format) (s : List ℕ) → SpanAbove (spanAt f s)
+unfolding spanAt
+span-at-above f s =
+    go (ltb (length s) (skip (f .prefix))) (isPacked (2 * skip (f .prefix)) (take (skip (f .prefix)) s))
+    (contentsAt f (countIn (f .prefix) (f .high) (take (skip (f .prefix)) s)) (drop (skip (f .prefix)) s))
+    (contents-above f _ _)
+  where
+    go : (a b : Bool) (x : Span) → SpanAbove x → SpanAbove (cond a (Unheld 3) (cond b x (Unheld 6)))
+    go true b x h = omega arith
+    go false true x h = h
+    go false false x h = omega arith
+
+span-above : (f : Format) (bm s : List ℕ) → SpanAbove (span f bm s)
+unfolding span
+span-above f bm s = go (names bm (f .number)) (span-at-above f s)
+  where
+    go : (a : Bool) → SpanAbove (spanAt f s) → SpanAbove (cond a (spanAt f s) (Held 0 0 0))
+    go true h = h
+    go false h = tt
+
+prepend-above : (cs bs : List ℕ) (x : Fields) → FieldsAbove x → FieldsAbove (prepend cs bs x)
+prepend-above cs bs (bad e) h = h
+prepend-above cs bs (whole ds es) h = tt
+
+after-above : (f : Format) (s : List ℕ) (next : List ℕ → Fields) (x : Span) → SpanAbove x → ((r : List ℕ) → FieldsAbove (next r))
+    → FieldsAbove (afterSpan f s next x)
+after-above f s next (Unheld e) h g = h
+after-above f s next (Held n k z) h g = prepend-above _ _ (next (drop (k + z) s)) (g (drop (k + z) s))
+
+fields-above : (fs : List Format) (bm s : List ℕ) → FieldsAbove (readFields fs bm s)
+unfolding readFields
+fields-above [] bm s = go (eqb (length s) 0)
+  where
+    go : (b : Bool) → FieldsAbove (cond b (whole [] []) (bad 9))
+    go true = tt
+    go false = omega arith
+fields-above (f ∷ fs) bm s = after-above f s (readFields fs bm) (span f bm s) (span-above f bm s) (fields-above fs bm)
+
+assembled-above : (i : ℕ) (bm : List ℕ) (x : Fields) → FieldsAbove x → JudgementAbove (assembled i bm x .outcome)
+assembled-above i bm (bad e) h = h
+assembled-above i bm (whole cs bs) h = tt
+
+pub reading-above : (s : List ℕ) → JudgementAbove (readMessage s .outcome)
+unfolding readMessage
+reading-above s =
+    go (ltb (length s) 10) (among (indicatorOf s) indicators) (listed (bitmapOf s))
+    (assembled (indicatorOf s) (bitmapOf s) (readFields formats (bitmapOf s) (drop 10 s)))
+    (assembled-above (indicatorOf s) (bitmapOf s) (readFields formats (bitmapOf s) (drop 10 s))
+    (fields-above formats (bitmapOf s) (drop 10 s)))
+  where
+    go : (a b c : Bool) (x : Reading) → JudgementAbove (x .outcome)
+        → JudgementAbove (cond a (unread 3) (cond b (cond c x (unread 5)) (unread 4)) .outcome)
+    go true b c x h = omega arith
+    go false true true x h = h
+    go false true false x h = omega arith
+    go false false c x h = omega arith
+
+-- of a list of rules: every number is above 2
+abbrev allAbove : List Rule → Bool
+allAbove [] = true
+allAbove (r ∷ rs) = leb 3 (r .number) && allAbove rs
+
+first-above : (rs : List Rule) → allAbove rs ≡ true → (firstBroken rs ≡ 0 → ⊥) → 3 ≤ firstBroken rs
+unfolding firstBroken
+first-above [] w h = absurd (h refl)
+first-above (r ∷ rs) w h =
+    let a = and-eq-true-iff (leb 3 (r .number)) (allAbove rs) .0 w in
+    go (r .broken) (leb-true 3 (r .number) (a .0)) (first-above rs (a .1)) h
+  where
+    go : (b : Bool) → 3 ≤ r .number → ((firstBroken rs ≡ 0 → ⊥) → 3 ≤ firstBroken rs)
+        → (cond b (r .number) (firstBroken rs) ≡ 0 → ⊥) → 3 ≤ cond b (r .number) (firstBroken rs)
+    go true l ih h = l
+    go false l ih h = ih h
+
+module _ (s : State) (j m : List ℕ) (ready : Ready s j m) where
+  -- rules 1 and 2 pass, and the others are asked
+  passes : (qs : List Rule) → firstBroken (rules12 s j m ++ qs) ≡ firstBroken qs
+  unfolding firstBroken
+  passes qs = rw (ready .long, ready .order)
+
+  judged-above : (qs : List Rule) (done : Result) → allAbove qs ≡ true → Above (done .outcome)
+      → Above (judged (firstBroken (rules12 s j m ++ qs)) s j m done .outcome)
+  unfolding judged
+  judged-above qs done w h = rw (passes qs) (go (eqb (firstBroken qs) 0) refl)
+    where
+      go : (b : Bool) → eqb (firstBroken qs) 0 ≡ b → Above (cond b done (refused (firstBroken qs) s j m) .outcome)
+      go true e = h
+      go false e = first-above qs w (eqb-false (firstBroken qs) 0 e)
+
+-- what a call does once its rules have passed
+send-above : (p : Phase) (s : State) (j m : List ℕ) → Above (sendFrom p s j m .outcome)
+send-above Resting s j m = omega arith
+send-above (Waiting a) s j m = omega arith
+send-above (Pending v) s j m = tt
+send-above Settling s j m = omega arith
+send-above Uploading s j m = omega arith
+
+next-above : (f : Found) (s : State) (j m : List ℕ) → Above (nextLeaves f s j m .outcome)
+next-above (At i) s j m = tt
+next-above Nowhere s j m = tt
+
+upload-above : (p : Phase) (s : State) (j m : List ℕ) → Above (uploadFrom p s j m .outcome)
+upload-above Resting s j m = omega arith
+upload-above (Waiting a) s j m = omega arith
+upload-above (Pending v) s j m = omega arith
+upload-above Settling s j m = omega arith
+upload-above Uploading s j m = next-above (nextDue (entriesOf (s .entries) j)) s j m
+
+silent-above : (p : Phase) (s : State) (j m : List ℕ) → Above (silentIn p s j m .outcome)
+silent-above Resting s j m = omega arith
+silent-above (Waiting a) s j m = tt
+silent-above (Pending v) s j m = omega arith
+silent-above Settling s j m = omega arith
+silent-above Uploading s j m = omega arith
+
+answer-above : (p : Phase) (good : Bool) (a : Message) (s : State) (j m : List ℕ) → Above (answerIn p good a s j m .outcome)
+answer-above Resting good a s j m = omega arith
+answer-above (Waiting w) good a s j m = go (isAnswer (s .settings) (s .batch) (traceSent (entriesOf (s .entries) j) w) w a)
+  where
+    go : (b : Bool) → Above (cond b (quietly (answered good a w s j) m) (refused 22 s j m) .outcome)
+    go true = tt
+    go false = omega arith
+answer-above (Pending v) good a s j m = omega arith
+answer-above Settling good a s j m = omega arith
+answer-above Uploading good a s j m = omega arith
+
+read-above : (o : Judgement) → JudgementAbove o → (good : Bool) (a : Message) (s : State) (j m : List ℕ)
+    → Above (readIn o good a s j m .outcome)
+read-above Read h good a s j m = answer-above (s .phase) good a s j m
+read-above (Unread n) h good a s j m = h
+
+-- a call of a terminal in order is not refused by 1 or 2
+call-above : (e : Event) (s : State) (j m : List ℕ) → Ready s j m → Above (call e s j m .outcome)
+unfolding signedOn start answer noAnswer powerReturned sendReversal settle sendNextUpload
+call-above (signs-on batch) s j m h = judged-above s j m h (drop 2 (signedOnRules batch s j m)) _ refl tt
+call-above (starts d) s j m h =
+    let es = entriesOf (s .entries) j in
+    judged-above s j m h (drop 2 (startRules d s es (entryOf (originalOf d es) es) j m)) _ refl tt
+call-above (answers b good) s j m h =
+    judged-above s j m h [] (readIn (readMessage b .outcome) good (readMessage b .message) s j m) refl
+    (read-above (readMessage b .outcome) (reading-above b) good (readMessage b .message) s j m)
+call-above is-silent s j m h = judged-above s j m h [] (silentIn (s .phase) s j m) refl (silent-above (s .phase) s j m)
+call-above has-power s j m h = judged-above s j m h [] _ refl tt
+call-above reverses s j m h =
+    judged-above s j m h (drop 2 (sendReversalRules s j m)) (sendFrom (s .phase) s j m) refl (send-above (s .phase) s j m)
+call-above settles s j m h = judged-above s j m h (drop 2 (settleRules s j m)) _ refl tt
+call-above uploads s j m h =
+    judged-above s j m h (drop 2 (sendNextUploadRules s j m)) (uploadFrom (s .phase) s j m) refl (upload-above (s .phase) s j m)
+
+-- and leaves it in order
+call-ready : (e : Event) (s : State) (j m : List ℕ) → Ready s j m → StaysReady (call e s j m)
+call-ready (signs-on batch) s j m h = keeping .signed-on batch s j m h
+call-ready (starts d) s j m h = keeping .starts d s j m h
+call-ready (answers b good) s j m h = keeping .answers b good s j m h
+call-ready is-silent s j m h = keeping .no-answers s j m h
+call-ready has-power s j m h = keeping .power-returns s j m h
+call-ready reverses s j m h = keeping .sends-reversal s j m h
+call-ready settles s j m h = keeping .settles s j m h
+call-ready uploads s j m h = keeping .uploads s j m h
+
+-- with any message buffer that has room
+abbrev AlwaysReady : Run → Type 0
+AlwaysReady r = (m : List ℕ) → largest ≤ length m → Ready (r .state) (r .journal) m
+
+ready-again : (s : State) (j m n : List ℕ) → Ready s j m → largest ≤ length n → Ready s j n
+ready-again s j m n h l =
+    let f = ready-fits s j m h in
+    fit-ready s j n (record { message-room = l; journal-room = f .journal-room; order = f .order })
+
+fresh-fits : (x : Settings) (j m : List ℕ) → settingsInForm x ≡ true → entrySize * x .limit ≤ length j → largest ≤ length m
+    → Fit (fresh x) j m
+unfolding totalsOf
+fresh-fits x j m f r l =
+    record {
+      message-room = l; journal-room = r;
+      order =
+        record {
+          few = omega arith; settings = settings-hold x f;
+          batch-least = omega arith; batch-most = omega arith; next-least = omega arith; next-most = omega arith;
+          sent-most = omega arith; phase-form = refl;
+          form = refl; voided = refl; unmarked = refl; resends = refl; silent = refl; apart = refl;
+          debit-most = omega arith; credit-most = omega arith;
+          balance = refl; approvals = refl; phase-kept = refl } }
+
+-- what a call of the history gave
+abbrev NotUnfit : Call → History → Type 0
+NotUnfit c h = (c .given ≡ declined 1 → ⊥) × (c .given ≡ declined 2 → ⊥)
+
+given-above : (o : Outcome) (m : List ℕ) → Above o → (givenBy o m ≡ declined 1 → ⊥) × (givenBy o m ≡ declined 2 → ⊥)
+given-above (Send n) m h =
+    (λ e. let z : _≡_ {A = ℕ} 0 1 = cc in omega arith, λ e. let z : _≡_ {A = ℕ} 0 1 = cc in omega arith)
+given-above Quiet m h =
+    (λ e. let z : _≡_ {A = ℕ} 0 1 = cc in omega arith, λ e. let z : _≡_ {A = ℕ} 0 1 = cc in omega arith)
+given-above (Refused n) m h = (λ e. let z : n ≡ 1 = cc in omega arith, λ e. let z : n ≡ 2 = cc in omega arith)
+
+runs-fit : (ts : List Turn) (r : Run) → Roomy ts → AlwaysReady r → Each NotUnfit (r .history) → Each NotUnfit (runs ts r .history)
+runs-fit [] r w h g = g
+runs-fit (t ∷ ts) r w h g =
+    let q = call (t .event) (r .state) (r .journal) (t .message) in
+    let p = h (t .message) (w .0) in
+    let k = call-ready (t .event) (r .state) (r .journal) (t .message) p in
+    runs-fit ts (noted t r q) (w .1) (λ m l. ready-again (q .state) (q .journal) (q .message) m k l)
+    (given-above (q .outcome) (q .message) (call-above (t .event) (r .state) (r .journal) (t .message) p), g)
+
+pub never-unfit : NeverUnfit
+never-unfit x j ts f r w = runs-fit ts (begun x j) w (λ m l. fit-ready (fresh x) j m (fresh-fits x j m f r l)) tt

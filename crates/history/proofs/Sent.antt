@@ -1,0 +1,190 @@
+-- The five messages that leave: what each says, and what type the history takes it for.
+use mathlib.Core.Path.{_≡_, refl, ap}
+use mathlib.Core.List.{List, [], _∷_}
+use mathlib.Core.Bool.{Bool, true, false, cond, _||_}
+use Prim.Native.Nat.{ℕ, _≤_}
+use native.Mathlib.Omega.{arith}
+use lib.Dec.{eqb}
+use lib.ListN.{length}
+use borrow.Author.Tests.{eqb-true}
+use Rattle.digits.specs.Digits.{pack}
+use Rattle.digits.specs.Numbers.{digitsOf}
+use Rattle.digits.specs.declared.Number.the-variants.{Is}
+use Rattle.digits.proofs.Numbers.{digitsOf-digits}
+use Rattle.field.specs.Table.{among}
+use Rattle.field.proofs.Formats.{among-below}
+use Rattle.message.specs.Message.{largest, fieldOf}
+use Rattle.message.specs.declared.Message.{Message}
+use Rattle.writing.specs.Writing.{messageBytes}
+use Rattle.parts.specs.Parts.{numberIn, partOf}
+use Rattle.parts.specs.declared.Part.the-variants as part
+use Rattle.parts.specs.declared.Trace.{Trace}
+use Rattle.parts.specs.declared.Batch.{Batch}
+use Rattle.kinds.specs.Kinds.{isKind, indicatorOf}
+use Rattle.entry.specs.declared.Entry.{Entry}
+use Rattle.journal.specs.declared.Totals.{Totals}
+use Rattle.state.specs.declared.Request.{Request}
+use Rattle.state.specs.declared.Reversal.{Reversal}
+use Rattle.state.specs.declared.Settings.{Settings}
+use Rattle.rules.proofs.InOrder.{RequestHolds}
+use Rattle.outgoing.specs.declared.Original.{Original}
+use Rattle.outgoing.specs.Outgoing.{requestFields, reversalFields, requestMessage, reversalMessage}
+use Rattle.outgoing.specs.Leaving.{CardHeld, OriginalHeld}
+use Rattle.outgoing.proofs.Leaving.{request-held, reversal-held, request-listed, reversal-listed}
+use Rattle.settling.specs.Settling.{field48, settlementFields, settlementMessage}
+use Rattle.uploading.specs.Uploading.{itemFields, itemMessage, endFields, endMessage}
+use Rattle.history.specs.Words.{messageIn, kindIn, amountIn, isRequest, isReversal, isSettlement, isEnd}
+use Rattle.outgoing.specs.Leaving.{SettingsHeld}
+use Rattle.settling.proofs.Held.{field48-digits, settlement-held, settlement-listed}
+use Rattle.uploading.proofs.Held.{EntryHeld, item-held, end-held, upload-listed}
+use Rattle.history.proofs.Said.{handedOut, left-reads, Holds, Says, number-read, says}
+
+-- which of its words the history uses for a message
+pub record Typed (request reversal settlement end : Bool) (m : Message) : Type 0 where
+  pub is-request : isRequest m ≡ request
+  pub is-reversal : isReversal m ≡ reversal
+  pub is-settlement : isSettlement m ≡ settlement
+  pub is-end : isEnd m ≡ end
+
+pub request-typed : (kind : ℕ) (m : Message) → m .indicator ≡ indicatorOf kind → Typed true false false false m
+unfolding isRequest isReversal isSettlement isEnd indicatorOf
+request-typed kind m e = go (among kind (10 ∷ 11 ∷ [])) (among kind (20 ∷ 21 ∷ 22 ∷ 23 ∷ [])) e
+  where
+    go : (a b : Bool) → m .indicator ≡ cond a 0x0100 (cond b 0x0200 0x0220) → Typed true false false false m
+    go true b e = record { is-request = rw e; is-reversal = rw e; is-settlement = rw e; is-end = rw e }
+    go false true e = record { is-request = rw e; is-reversal = rw e; is-settlement = rw e; is-end = rw e }
+    go false false e = record { is-request = rw e; is-reversal = rw e; is-settlement = rw e; is-end = rw e }
+
+pub reversal-typed : (m : Message) → m .indicator ≡ 0x0400 → Typed false true false false m
+unfolding isRequest isReversal isSettlement isEnd
+reversal-typed m e = record { is-request = rw e; is-reversal = rw e; is-settlement = rw e; is-end = rw e }
+
+pub settlement-typed : (m : Message) → m .indicator ≡ 0x0500 → Typed false false true false m
+unfolding isRequest isReversal isSettlement isEnd
+settlement-typed m e = record { is-request = rw e; is-reversal = rw e; is-settlement = rw e; is-end = rw e }
+
+pub item-typed : (m : Message) → m .indicator ≡ 0x0320 → partOf m part.Management ≡ Is 201 → Typed false false false false m
+unfolding isRequest isReversal isSettlement isEnd
+item-typed m e c =
+    record { is-request = rw e; is-reversal = rw e; is-settlement = rw e; is-end = rw (c, e) }
+
+pub end-typed : (m : Message) → m .indicator ≡ 0x0320 → partOf m part.Management ≡ Is 202 → Typed false false false true m
+unfolding isRequest isReversal isSettlement isEnd
+end-typed m e c =
+    record { is-request = rw e; is-reversal = rw e; is-settlement = rw e; is-end = rw (c, e) }
+
+-- a kind has two digits
+pub kind-small : (k : ℕ) → isKind k ≡ true → k ≤ 99
+unfolding isKind
+kind-small k h = go (among k (10 ∷ 11 ∷ [])) (among k (20 ∷ 21 ∷ 22 ∷ 23 ∷ [])) (eqb k 25) refl refl refl h
+  where
+    go : (a b c : Bool) → among k (10 ∷ 11 ∷ []) ≡ a → among k (20 ∷ 21 ∷ 22 ∷ 23 ∷ []) ≡ b → eqb k 25 ≡ c → (a || b || c) ≡ true → k ≤ 99
+    go true b c p q r h = let l = among-below k 100 (10 ∷ 11 ∷ []) p refl in omega arith
+    go false true c p q r h = let l = among-below k 100 (20 ∷ 21 ∷ 22 ∷ 23 ∷ []) q refl in omega arith
+    go false false true p q r h = let l = eqb-true k 25 r in omega arith
+    go false false false p q r h = let z : _≡_ {A = ℕ} 0 1 = cc in omega arith
+
+-- a settlement's message: what an answer has to repeat, and the totals
+pub record Settles (x : Settings) (batch : Batch) (trace : Trace) (t : Totals) (m : Message) : Type 0 where
+  pub said : Says x batch trace 0x0500 0 201 m
+  pub debit-amount : partOf m part.DebitAmount ≡ Is (t .debit)
+  pub debit-count : partOf m part.DebitCount ≡ Is (t .debits)
+  pub credit-amount : partOf m part.CreditAmount ≡ Is (t .credit)
+  pub credit-count : partOf m part.CreditCount ≡ Is (t .credits)
+
+-- totals that field 48 can say
+pub record Sayable (t : Totals) : Type 0 where
+  pub debit-most : t .debit ≤ 999999999999
+  pub credit-most : t .credit ≤ 999999999999
+  pub debits-most : t .debits ≤ 999
+  pub credits-most : t .credits ≤ 999
+
+-- a card request's message: what an answer has to repeat, and the request's kind and amount
+pub record Asks (x : Settings) (batch : Batch) (q : Request) (m : Message) : Type 0 where
+  pub said : Says x batch (q .trace) (indicatorOf (q .kind)) (q .kind) 0 m
+  pub typed : Typed true false false false m
+  pub kind-is : kindIn m ≡ q .kind
+  pub amount-is : amountIn m ≡ q .amount
+  pub amount-bytes : fieldOf m 4 .bytes ≡ pack (digitsOf 12 (q .amount))
+
+kind-said : {x : Settings} {batch : Batch} {trace : Trace} {i kind code : ℕ} {m : Message} → Says x batch trace i kind code m
+    → kindIn m ≡ kind
+unfolding kindIn
+kind-said s = rw (s .kind-number)
+
+amount-said : (m : Message) (n : ℕ) → numberIn m 4 0 12 ≡ Is n → amountIn m ≡ n
+unfolding amountIn
+amount-said m n e = rw e
+
+module _ (x : Settings) (batch : Batch) (m : List ℕ) (room : largest ≤ length m) (small : batch .0 ≤ 999999) where
+  pub request-asks : (q : Request) (o : Original) → CardHeld x q → OriginalHeld (q .kind) o → RequestHolds q
+      → Asks x batch q (messageIn (handedOut (messageBytes (requestMessage x batch q o)) m))
+  unfolding requestMessage
+  request-asks q o c g h =
+      let i = indicatorOf (q .kind) in
+      let xs = requestFields x batch q o in
+      let r = left-reads i xs m (request-listed (q .kind)) (request-held x batch q o c g) room in
+      let k = kind-small (q .kind) (h .kind-listed) in
+      let w : Holds x batch (q .trace) (q .kind) 0 xs =
+          record {
+            has-trace = refl; has-terminal = refl; has-merchant = refl; has-kind = refl;
+            trace-held = refl; terminal-held = refl; merchant-held = refl; kind-held = refl } in
+      let s = says _ i xs r x batch (q .trace) (q .kind) 0 w small k (omega arith) in
+      let a = number-read _ i xs r 4 (digitsOf 12 (q .amount)) (omega arith) (omega arith) refl refl (digitsOf-digits 12 (q .amount))
+          0 12 (q .amount) (omega arith) refl (omega arith) (omega (arith, h .amount-most)) in
+      record {
+        said = s; typed = request-typed (q .kind) _ (s .indicator); kind-is = kind-said s; amount-is = amount-said _ (q .amount) a;
+        amount-bytes = ap (λ f. f .bytes) (r .fields 4 refl) }
+
+  pub reversal-says : (v : Reversal) → CardHeld x (v .request) → RequestHolds (v .request)
+      → Says x batch (v .request .trace) 0x0400 (v .request .kind) 0 (messageIn (handedOut (messageBytes (reversalMessage x batch v)) m))
+  unfolding reversalMessage
+  reversal-says v c h =
+      let xs = reversalFields x batch v in
+      says _ 0x0400 xs (left-reads 0x0400 xs m reversal-listed (reversal-held x batch v c) room) x batch (v .request .trace)
+      (v .request .kind) 0
+      (record {
+        has-trace = refl; has-terminal = refl; has-merchant = refl; has-kind = refl;
+        trace-held = refl; terminal-held = refl; merchant-held = refl; kind-held = refl })
+      small (kind-small (v .request .kind) (h .kind-listed)) (omega arith)
+
+  pub settlement-settles : (trace : Trace) (t : Totals) → SettingsHeld x → Sayable t
+      → Settles x batch trace t (messageIn (handedOut (messageBytes (settlementMessage x batch trace t)) m))
+  unfolding settlementMessage
+  settlement-settles trace t h f =
+      let xs = settlementFields x batch trace t in
+      let r = left-reads 0x0500 xs m settlement-listed (settlement-held x batch h trace t) room in
+      let sum = number-read _ 0x0500 xs r 48 (field48 t) (omega arith) (omega arith) refl refl (field48-digits t) in
+      record {
+        said =
+          says _ 0x0500 xs r x batch trace 0 201
+          (record {
+            has-trace = refl; has-terminal = refl; has-merchant = refl; has-kind = refl;
+            trace-held = refl; terminal-held = refl; merchant-held = refl; kind-held = refl })
+          small (omega arith) (omega arith);
+        debit-amount = sum 0 12 (t .debit) (omega arith) refl (omega arith) (omega (arith, f .debit-most));
+        debit-count = sum 12 3 (t .debits) (omega arith) refl (omega arith) (omega (arith, f .debits-most));
+        credit-amount = sum 15 12 (t .credit) (omega arith) refl (omega arith) (omega (arith, f .credit-most));
+        credit-count = sum 27 3 (t .credits) (omega arith) refl (omega arith) (omega (arith, f .credits-most)) }
+
+  pub item-says : (e : Entry) → SettingsHeld x → EntryHeld e → isKind (e .kind) ≡ true
+      → Says x batch (e .trace) 0x0320 (e .kind) 201 (messageIn (handedOut (messageBytes (itemMessage x batch e)) m))
+  unfolding itemMessage
+  item-says e h g k =
+      let xs = itemFields x batch e in
+      says _ 0x0320 xs (left-reads 0x0320 xs m upload-listed (item-held x batch h e g) room) x batch (e .trace) (e .kind) 201
+      (record {
+        has-trace = refl; has-terminal = refl; has-merchant = refl; has-kind = refl;
+        trace-held = refl; terminal-held = refl; merchant-held = refl; kind-held = refl })
+      small (kind-small (e .kind) k) (omega arith)
+
+  pub end-says : (trace : Trace) → SettingsHeld x
+      → Says x batch trace 0x0320 0 202 (messageIn (handedOut (messageBytes (endMessage x batch trace)) m))
+  unfolding endMessage
+  end-says trace h =
+      let xs = endFields x batch trace in
+      says _ 0x0320 xs (left-reads 0x0320 xs m upload-listed (end-held x batch h trace) room) x batch trace 0 202
+      (record {
+        has-trace = refl; has-terminal = refl; has-merchant = refl; has-kind = refl;
+        trace-held = refl; terminal-held = refl; merchant-held = refl; kind-held = refl })
+      small (omega arith) (omega arith)

@@ -1,0 +1,4 @@
+pub mod Words
+pub mod History
+pub mod Demand
+pub mod NotEmpty

@@ -1,0 +1,22 @@
+-- That demand 3 is not empty: a terminal in order is never refused by rules 1 or 2.
+use mathlib.Core.Path.{_≡_}
+use mathlib.Core.List.{List, [], _∷_}
+use mathlib.Core.Bool.{true}
+use Prim.Native.Nat.{ℕ, _*_, _≤_}
+use lib.ListN.{length}
+use Rattle.message.specs.Message.{largest}
+use Rattle.entry.specs.Entry.{entrySize}
+use Rattle.state.specs.declared.Settings.{Settings}
+use Rattle.rules.specs.Rules.{settingsInForm}
+use Rattle.history.specs.History.{refused}
+use Rattle.history.specs.Demand.{Turn, runs, begun, Each}
+
+-- each message buffer lent has room
+abbrev pub Roomy : List Turn → Type 0
+Roomy [] = Unit {0}
+Roomy (t ∷ ts) = (largest ≤ length (t .message)) × Roomy ts
+
+-- from a fresh terminal with settings in range and buffers large enough, no call of any list is refused by 1 or 2
+abbrev pub NeverUnfit : Type 0
+NeverUnfit = (x : Settings) (j : List ℕ) (ts : List Turn) → settingsInForm x ≡ true → entrySize * x .limit ≤ length j → Roomy ts
+    → Each (λ c h. (c .given ≡ refused 1 → ⊥) × (c .given ≡ refused 2 → ⊥)) (runs ts (begun x j) .history)

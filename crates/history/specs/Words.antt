@@ -1,0 +1,110 @@
+-- What a message says, in the words of document 01: its type, its fields, and whether an answer matches what left.
+-- Nothing here is the terminal's own.
+use mathlib.Core.List.{List, [], _∷_}
+use mathlib.Core.Bool.{Bool, true, false, cond, not, _&&_, _||_}
+use Prim.Native.Nat.{ℕ, _+_}
+use lib.Dec.{leb, eqb}
+use Rattle.digits.specs.declared.Number.{Number}
+use Rattle.digits.specs.declared.Number.the-variants.{Is, Not}
+use Rattle.field.specs.Table.{among}
+use Rattle.field.specs.Bitmap.{names}
+use Rattle.message.specs.Message.{fieldOf}
+use Rattle.message.specs.declared.Message.{Message}
+use Rattle.reading.specs.Reading.{readMessage}
+use Rattle.reading.specs.declared.Outcome.{Outcome}
+use Rattle.reading.specs.declared.Outcome.the-variants.{Read, Refused}
+use Rattle.parts.specs.Parts.{sameBytes, numberIn, partOf}
+use Rattle.parts.specs.declared.Part.the-variants as part
+
+-- bytes as a message
+abbrev pub messageIn : List ℕ → Message
+messageIn b = readMessage b .message
+
+abbrev pub reads : Outcome → Bool
+reads Read = true
+reads (Refused n) = false
+
+-- a number, 0 where there is none
+abbrev pub value : Number → ℕ
+value (Is x) = x
+value Not = 0
+
+-- kind and amount of a request are read from the message that left: 60.1 and field 4
+unfoldable pub kindIn : Message → ℕ
+kindIn m = value (partOf m part.Kind)
+
+unfoldable pub amountIn : Message → ℕ
+amountIn m = value (numberIn m 4 0 12)
+
+-- the messages that leave: card requests go as 0100, 0200 or 0220, reversals as 0400, settlements as 0500, the upload's end as
+-- 0320 with management code 202
+unfoldable pub isRequest : Message → Bool
+isRequest m = among (m .indicator) (0x0100 ∷ 0x0200 ∷ 0x0220 ∷ [])
+
+unfoldable pub isReversal : Message → Bool
+isReversal m = eqb (m .indicator) 0x0400
+
+unfoldable pub isSettlement : Message → Bool
+isSettlement m = eqb (m .indicator) 0x0500
+
+unfoldable pub isEnd : Message → Bool
+isEnd m = eqb (m .indicator) 0x0320 && eqb (value (partOf m part.Management)) 202
+
+-- a field of the answer equals the one sent
+unfoldable pub sameField : ℕ → Message → Message → Bool
+sameField n m a = names (a .bitmap) n && sameBytes (fieldOf a n .bytes) (fieldOf m n .bytes)
+
+abbrev pub sameNumber : Number → Number → Bool
+sameNumber (Is x) (Is y) = eqb x y
+sameNumber (Is x) Not = false
+sameNumber Not (Is y) = false
+sameNumber Not Not = false
+
+-- field 39 is a code
+unfoldable pub codeIs : ℕ → ℕ → Message → Bool
+codeIs x y a = names (a .bitmap) 39 && sameBytes (fieldOf a 39 .bytes) (x ∷ y ∷ [])
+
+abbrev pub isApproval : Message → Bool
+isApproval a = codeIs 0x30 0x30 a
+
+-- the reconciliation digit of field 48
+unfoldable pub digitIn : Message → ℕ
+digitIn a = value (partOf a part.Reconciliation)
+
+-- matches if its type is the awaited one plus 10, and 11, 41, 42 and 60.2 equal those sent
+unfoldable pub matchesWhatLeft : Message → Message → Bool
+matchesWhatLeft m a =
+    eqb (a .indicator) (m .indicator + 0x10)
+    && sameField 11 m a && sameField 41 m a && sameField 42 m a
+    && sameNumber (partOf a part.Batch) (partOf m part.Batch)
+
+-- it must hold 39, but an 0510 must hold 48 instead, its digit 1, 2 or 3; a card approval also needs 4 equal, 13 and 37
+unfoldable pub holdsItsFields : Message → Message → Bool
+holdsItsFields m a =
+    cond (isSettlement m)
+      (leb 1 (digitIn a) && leb (digitIn a) 3)
+      (names (a .bitmap) 39
+      && (not (isRequest m && isApproval a) || sameField 4 m a && names (a .bitmap) 13 && names (a .bitmap) 37))
+
+-- these bytes are a matching answer to what left
+unfoldable pub isMatching : Message → List ℕ → Bool
+isMatching m b = reads (readMessage b .outcome) && matchesWhatLeft m (messageIn b) && holdsItsFields m (messageIn b)
+
+-- the MAC is good: the key pad says so, and there is a field 64
+unfoldable pub macGood : Bool → Message → Bool
+macGood good a = good && names (a .bitmap) 64
+
+-- 00 with good MAC, 25 or 12 ends a reversal
+unfoldable pub endsIt : Bool → Message → Bool
+endsIt good a = isApproval a && macGood good a || codeIs 0x32 0x35 a || codeIs 0x31 0x32 a
+
+-- a closing is an accepted 0510 with digit 1, or an accepted 0330 with 00 to the upload's end
+unfoldable pub closesBatch : Message → Message → Bool
+closesBatch m a = isSettlement m && eqb (digitIn a) 1 || isEnd m && isApproval a
+
+-- debit is 20 and 22, credit is 21, 23, 25
+unfoldable pub isDebit : Message → Bool
+isDebit m = among (kindIn m) (20 ∷ 22 ∷ [])
+
+unfoldable pub isCredit : Message → Bool
+isCredit m = among (kindIn m) (21 ∷ 23 ∷ 25 ∷ [])

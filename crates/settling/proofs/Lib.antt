@@ -1,0 +1,4 @@
+pub mod Held
+pub mod Zeros
+pub mod Refusals
+pub mod Results

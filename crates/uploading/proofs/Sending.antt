@@ -1,0 +1,188 @@
+-- Laws of the rules of send next upload, and of the item or the end that leaves.
+use mathlib.Core.Path.{_≡_, refl, sym, ap, _∙_}
+use mathlib.Core.List.{List, [], _∷_, _++_}
+use mathlib.Core.Bool.{Bool, true, false, cond, not, _||_, and-eq-true-iff}
+use Prim.Native.Nat.{ℕ, _≤_, _<_}
+use native.Mathlib.Omega.{arith}
+use lib.Dec.{ltb, leb, eqb}
+use lib.ListN.{length}
+use borrow.Author.Tests.{ltb-true, leb-true}
+use Rattle.message.specs.Build.{messageOf}
+use Rattle.message.specs.Message.{largest}
+use Rattle.message.specs.declared.Message.{Message}
+use Rattle.writing.specs.Writing.{writeMessage}
+use Rattle.parts.specs.declared.Trace.{Trace}
+use Rattle.entry.specs.Form.{inForm, keepsResends}
+use Rattle.entry.specs.declared.Entry.{Entry}
+use Rattle.entry.proofs.Form.{in-form}
+use Rattle.journal.specs.Journal.{entriesOf, entryAt, nextDue, taken}
+use Rattle.journal.specs.declared.Found.{Found}
+use Rattle.journal.specs.declared.Found.the-variants.{At, Nowhere}
+use Rattle.journal.proofs.Entries.{entry-shaped}
+use Rattle.journal.proofs.Searches.{every-at, next-at}
+use Rattle.state.specs.declared.Awaited.the-variants as awaited
+use Rattle.state.specs.declared.Called.{Called}
+use Rattle.state.specs.declared.Outcome.the-variants.{Send, Refused}
+use Rattle.state.specs.declared.Phase.{Phase}
+use Rattle.state.specs.declared.Phase.the-variants.{Waiting, Uploading}
+use Rattle.state.specs.declared.State.{State}
+use Rattle.state.specs.State.{inPhase, isWaiting}
+use Rattle.state.specs.Calls.{Rule, rule, firstBroken, resultOf, refused}
+use Rattle.state.proofs.Choices.{numbered, first-stops, first-goes, refuses, goes}
+use Rattle.rules.specs.Rules.{rules12}
+use Rattle.rules.proofs.InOrder.{Fit, fit}
+use Rattle.compose.specs.Compose.{allHeld, withAll}
+use Rattle.compose.proofs.Composed.{all-composed}
+use Rattle.outgoing.specs.Outgoing.{lengthOf}
+use Rattle.outgoing.proofs.Leaving.{written-is}
+use Rattle.uploading.specs.Uploading.{itemFields, itemMessage, endFields, endMessage, sendNextUploadRules, resent, itemLeaves, ending, endLeaves, nextLeaves, uploadFrom, sendNextUpload}
+use Rattle.uploading.proofs.Held.{EntryHeld, item-held, end-held, upload-listed}
+use Rattle.outgoing.specs.Leaving.{SettingsHeld}
+
+-- where no rule of two lists is broken, none of the first is
+first-none : (rs qs : List Rule) → numbered rs ≡ true → firstBroken (rs ++ qs) ≡ 0 → firstBroken rs ≡ 0
+unfolding firstBroken
+first-none [] qs w e = refl
+first-none (r ∷ rs) qs w e =
+    let a = and-eq-true-iff (ltb 0 (r .number)) (numbered rs) .0 w in
+    go (r .broken) (first-none rs qs (a .1)) (ltb-true 0 (r .number) (a .0)) e
+  where
+    go : (b : Bool) → (firstBroken (rs ++ qs) ≡ 0 → firstBroken rs ≡ 0) → 0 < r .number
+        → cond b (r .number) (firstBroken (rs ++ qs)) ≡ 0 → cond b (r .number) (firstBroken rs) ≡ 0
+    go true ih p e = absurd (omega arith)
+    go false ih p e = ih e
+
+-- the rules after 1 and 2
+abbrev own : State → List Rule
+own s = rule 10 (not (s .«signed_on»)) ∷ rule 11 (isWaiting (s .phase)) ∷ []
+
+module _ (s : State) (j m : List ℕ) (n : ℕ) (e : n ≡ firstBroken (rules12 s j m)) where
+  pub stops : (n ≡ 0 → ⊥) → n ≡ firstBroken (sendNextUploadRules s j m)
+  stops h = first-stops (rules12 s j m) (own s) n e h
+
+  goes-on : n ≡ 0 → firstBroken (sendNextUploadRules s j m) ≡ firstBroken (own s)
+  goes-on z = first-goes (rules12 s j m) (own s) n refl e z
+
+  -- 10. The terminal is not signed on.
+  pub signed-off : n ≡ 0 → not (s .«signed_on») ≡ true → 10 ≡ firstBroken (sendNextUploadRules s j m)
+  unfolding firstBroken
+  signed-off z t = sym (goes-on z ∙ rw t)
+
+  -- 11. Something is awaited.
+  pub waits : (w : Bool) → n ≡ 0 → not (s .«signed_on») ≡ false → w ≡ isWaiting (s .phase) → w ≡ true
+      → 11 ≡ firstBroken (sendNextUploadRules s j m)
+  unfolding firstBroken
+  waits w z t p u = let h = sym p ∙ u in sym (goes-on z ∙ rw (t, h))
+
+  pub none : (w : Bool) → n ≡ 0 → not (s .«signed_on») ≡ false → w ≡ isWaiting (s .phase) → w ≡ false
+      → 0 ≡ firstBroken (sendNextUploadRules s j m)
+  unfolding firstBroken
+  none w z t p u = let h = sym p ∙ u in sym (goes-on z ∙ rw (t, h))
+
+module _ (s : State) (j m : List ℕ) (n : ℕ) (e : n ≡ firstBroken (sendNextUploadRules s j m)) where
+  pub turned-down : (r : Called) → (n ≡ 0 → ⊥) → r ≡ record { outcome = Refused n; state = s } → resultOf r j m ≡ sendNextUpload s j m
+  unfolding sendNextUpload
+  turned-down r h q =
+      rw q (refuses n (firstBroken (sendNextUploadRules s j m)) s j m (uploadFrom (s .phase) s j m) e h)
+
+  -- 14. No upload is under way.
+  pub not-uploading : (p : Phase) (r : Called) → n ≡ 0 → s .phase ≡ p → r ≡ record { outcome = Refused 14; state = s }
+      → uploadFrom p s j m ≡ refused 14 s j m → resultOf r j m ≡ sendNextUpload s j m
+  unfolding sendNextUpload
+  not-uploading p r z f q h =
+      goes n (firstBroken (sendNextUploadRules s j m)) s j m (resultOf r j m) (uploadFrom (s .phase) s j m) e z
+      (rw q (sym (ap (λ (x : Phase). uploadFrom x s j m) f ∙ h)))
+
+  pub goes-out : (r : Called) (k o : List ℕ) → n ≡ 0 → s .phase ≡ Uploading
+      → resultOf r k o ≡ nextLeaves (nextDue (entriesOf (s .entries) j)) s j m → resultOf r k o ≡ sendNextUpload s j m
+  unfolding sendNextUpload
+  goes-out r k o z f h =
+      goes n (firstBroken (sendNextUploadRules s j m)) s j m (resultOf r k o) (uploadFrom (s .phase) s j m) e z
+      (h ∙ sym (ap (λ (x : Phase). uploadFrom x s j m) f))
+
+few-resends : (l : ℕ) (e : Entry) → keepsResends l e ≡ true → e .resends ≤ l
+unfolding keepsResends
+few-resends l e h = leb-true (e .resends) l (and-eq-true-iff (leb (e .resends) l) (not (eqb (e .mark) 0) || eqb (e .resends) 0) .0 h .0)
+
+-- what rules 1 and 2 give
+module _ (s : State) (j m : List ℕ) (z : firstBroken (sendNextUploadRules s j m) ≡ 0) where
+  fits : Fit s j m
+  fits = fit s j m (first-none (rules12 s j m) (own s) refl z)
+
+  pub room : largest ≤ length m
+  room = fits .message-room
+
+  module _ (lt : length (s .settings .terminal) ≡ 8) (lm : length (s .settings .merchant) ≡ 15) where
+    settings-held : SettingsHeld (s .settings)
+    settings-held =
+        let o = fits .order .settings in
+        record {
+          terminal-length = lt; merchant-length = lm; terminal-printable = o .terminal-printable; merchant-printable = o .merchant-printable }
+
+    pub end-fields : (trace : Trace) → allHeld (endFields (s .settings) (s .batch) trace) ≡ true
+    end-fields trace = end-held (s .settings) (s .batch) settings-held trace
+
+    pub item-fields : (p : Found) (i : ℕ) (e : Entry) → p ≡ nextDue (entriesOf (s .entries) j) → p ≡ At i → e ≡ entryAt (entriesOf (s .entries) j) i
+        → allHeld (itemFields (s .settings) (s .batch) e) ≡ true
+    item-fields p i e f a q = rw q (item-held (s .settings) (s .batch) settings-held _ held)
+      where
+        held : EntryHeld (entryAt (entriesOf (s .entries) j) i)
+        held =
+            let es = entriesOf (s .entries) j in
+            let x = next-at es i (sym f ∙ a) in
+            let w = in-form (entryAt es i) (every-at (λ i e. inForm e) 0 es (fits .order .form) i (x .below)) in
+            let h = entry-shaped (s .entries) i j in
+            record {
+              card-low = w .digits-least; card-high = w .digits-most;
+              reference-length = h .reference-length; reference-printable = w .reference-printable;
+              authorisation-length = h .authorisation-length; authorisation-printable = w .authorisation-printable }
+
+  pub resends-low : (p : Found) (i : ℕ) (e : Entry) → p ≡ nextDue (entriesOf (s .entries) j) → p ≡ At i → e ≡ entryAt (entriesOf (s .entries) j) i → e .resends < 255
+  resends-low p i e f a q =
+      let es = entriesOf (s .entries) j in
+      let x = next-at es i (sym f ∙ a) in
+      let w = few-resends (s .settings .sendings) (entryAt es i) (every-at (λ i e. keepsResends (s .settings .sendings) e) 0 es (fits .order .resends) i (x .below)) in
+      let b = fits .order .settings .sendings-most in
+      rw q (omega arith)
+
+-- the message, its length and the bytes in the buffer are those of the item
+pub item-left : (s t : State) (i : ℕ) (e : Entry) (j d m : List ℕ) (b : Message) (k : ℕ) (o : List ℕ)
+    → allHeld (itemFields (s .settings) (s .batch) e) ≡ true → largest ≤ length m
+    → b ≡ withAll (itemFields (s .settings) (s .batch) e) (messageOf 0x0320 [])
+    → k ≡ lengthOf (writeMessage b m .outcome) → o ≡ writeMessage b m .buffer
+    → d ≡ resent i e j
+    → t ≡ inPhase (Waiting (awaited.Item i)) (s .counts) s
+    → resultOf (record { outcome = Send k; state = t }) d o ≡ itemLeaves i e s j m
+unfolding itemMessage
+item-left s t i e j d m b k o h r p q w g u =
+    let fs = itemFields (s .settings) (s .batch) e in
+    let is = p ∙ all-composed 0x0320 fs h in
+    let wr = ap (λ (x : Message). writeMessage x m) is ∙ written-is 0x0320 fs m upload-listed h r in
+    rw (q, w, g, u, wr)
+
+-- and those of the end
+pub end-left : (s t : State) (trace : Trace) (j m : List ℕ) (b : Message) (k : ℕ) (o : List ℕ)
+    → allHeld (endFields (s .settings) (s .batch) trace) ≡ true → largest ≤ length m
+    → b ≡ withAll (endFields (s .settings) (s .batch) trace) (messageOf 0x0320 [])
+    → k ≡ lengthOf (writeMessage b m .outcome) → o ≡ writeMessage b m .buffer
+    → t ≡ ending s trace
+    → resultOf (record { outcome = Send k; state = t }) j o ≡ endLeaves trace s j m
+unfolding endMessage
+end-left s t trace j m b k o h r p q w u =
+    let fs = endFields (s .settings) (s .batch) trace in
+    let is = p ∙ all-composed 0x0320 fs h in
+    let wr = ap (λ (x : Message). writeMessage x m) is ∙ written-is 0x0320 fs m upload-listed h r in
+    rw (q, w, u, wr)
+
+-- the item or the end, as what is due says
+pub item-next : (s : State) (j d m o : List ℕ) (p : Found) (i : ℕ) (e : Entry) (r : Called) → p ≡ nextDue (entriesOf (s .entries) j) → p ≡ At i
+    → e ≡ entryAt (entriesOf (s .entries) j) i → resultOf r d o ≡ itemLeaves i e s j m
+    → resultOf r d o ≡ nextLeaves (nextDue (entriesOf (s .entries) j)) s j m
+item-next s j d m o p i e r f a q h =
+    h ∙ ap (λ (x : Entry). itemLeaves i x s j m) q ∙ sym (ap (λ (x : Found). nextLeaves x s j m) (sym f ∙ a))
+
+pub end-next : (s : State) (j m o : List ℕ) (p : Found) (trace : Trace) (r : Called) → p ≡ nextDue (entriesOf (s .entries) j) → p ≡ Nowhere
+    → trace ≡ record { 0 = taken (entriesOf (s .entries) j) (s .next .0) } → resultOf r j o ≡ endLeaves trace s j m
+    → resultOf r j o ≡ nextLeaves (nextDue (entriesOf (s .entries) j)) s j m
+end-next s j m o p trace r f a q h =
+    h ∙ ap (λ (x : Trace). endLeaves x s j m) q ∙ sym (ap (λ (x : Found). nextLeaves x s j m) (sym f ∙ a))

@@ -1,0 +1,13 @@
+-- Every phase, every ending and both closings are reached: each example computes.
+use mathlib.Core.Path.{refl}
+use Rattle.worked.specs.Reached.{Reached}
+use Rattle.worked.proofs.Machine.{machine}
+
+pub reached : Reached
+unfolding machine
+reached =
+    record {
+      resting = refl; request-out = refl; pending = refl; reversal-out = refl;
+      settlement-out = refl; settling = refl; uploading = refl; item-out = refl;
+      end-out = refl; approved = refl; declined = refl; reversed = refl;
+      given-up = refl; unanswered = refl; closed = refl; closed-after-upload = refl }

@@ -1,0 +1,78 @@
+-- Every phase and every ending of a request is reached by some list of calls, shown by example.
+use mathlib.Core.Path.{_≡_}
+use mathlib.Core.List.{List, [], _∷_, _++_}
+use mathlib.Core.Bool.{true}
+use Prim.Native.Nat.{ℕ}
+use lib.ListN.{replicate}
+use Rattle.digits.specs.Numbers.{digitsOf}
+use Rattle.message.specs.Build.{digits, bytes, messageOf}
+use Rattle.writing.specs.Writing.{messageBytes}
+use Rattle.state.specs.declared.Awaited.{Awaited}
+use Rattle.state.specs.declared.Awaited.the-variants as awaited
+use Rattle.state.specs.declared.Phase.{Phase}
+use Rattle.state.specs.declared.Phase.the-variants.{Resting, Waiting, Pending, Settling, Uploading}
+use Rattle.state.specs.declared.State.{State}
+use Rattle.outgoing.specs.Outgoing.{field60}
+use Rattle.terminal.specs.Events.{Event, answers, is-silent, reverses, settles, uploads, run}
+use Rattle.worked.specs.Desk.{opened, keyed, sale, reply, approval, toReversal}
+
+-- a phase without what it holds
+pub data Stage : Type 0 where
+  rests waits-for-request waits-for-reversal waits-for-settlement waits-for-item waits-for-end pends settles-again uploads-on : Stage
+
+abbrev pub awaitedStage : Awaited → Stage
+awaitedStage (awaited.Request q) = waits-for-request
+awaitedStage (awaited.Reversal v) = waits-for-reversal
+awaitedStage (awaited.Settlement x) = waits-for-settlement
+awaitedStage (awaited.Item i) = waits-for-item
+awaitedStage (awaited.End x) = waits-for-end
+
+abbrev pub stage : Phase → Stage
+stage Resting = rests
+stage (Waiting a) = awaitedStage a
+stage (Pending v) = pends
+stage Settling = settles-again
+stage Uploading = uploads-on
+
+-- a terminal with room for one entry, after some calls
+abbrev pub after : List Event → State
+after es = run es (opened 1) .state
+
+abbrev pub stageAfter : List Event → Stage
+stageAfter es = stage (after es .phase)
+
+-- the centre's answer to a settlement of a trace, with its reconciliation digit
+abbrev pub reconciled : ℕ → ℕ → Event
+reconciled trace digit =
+    answers (messageBytes (messageOf 0x0510
+      (digits 11 (digitsOf 6 trace) ∷ bytes 41 (replicate 8 0x31) ∷ bytes 42 (replicate 15 0x32)
+      ∷ digits 48 (replicate 30 0 ++ (digit ∷ replicate 31 0)) ∷ digits 60 (field60 0 (record { 0 = 1 }) 201) ∷ []))) true
+
+-- a code to an upload item or the upload's end of a trace
+abbrev pub toUpload : ℕ → ℕ → ℕ → Event
+toUpload trace a b = reply 0x0330 22 trace a b []
+
+-- an approved sale that the centre does not find in its totals
+abbrev pub unbalanced : List Event
+unbalanced = sale 100 ∷ approval 22 100 1 ∷ settles ∷ reconciled 2 2 ∷ []
+
+pub record Reached : Type 0 where
+  -- each phase
+  pub resting : stageAfter [] ≡ rests
+  pub request-out : stageAfter (sale 100 ∷ []) ≡ waits-for-request
+  pub pending : stageAfter (sale 100 ∷ is-silent ∷ []) ≡ pends
+  pub reversal-out : stageAfter (sale 100 ∷ is-silent ∷ reverses ∷ []) ≡ waits-for-reversal
+  pub settlement-out : stageAfter (settles ∷ []) ≡ waits-for-settlement
+  pub settling : stageAfter (settles ∷ is-silent ∷ []) ≡ settles-again
+  pub uploading : stageAfter unbalanced ≡ uploads-on
+  pub item-out : stageAfter (unbalanced ++ (uploads ∷ [])) ≡ waits-for-item
+  pub end-out : stageAfter (unbalanced ++ (uploads ∷ toUpload 1 0x30 0x30 ∷ uploads ∷ [])) ≡ waits-for-end
+  -- each ending of a request
+  pub approved : after (sale 100 ∷ approval 22 100 1 ∷ []) .counts .approved ≡ 1
+  pub declined : after (sale 100 ∷ reply 0x0210 22 1 0x30 0x35 [] ∷ []) .counts .declined ≡ 1
+  pub reversed : after (sale 100 ∷ is-silent ∷ reverses ∷ toReversal 1 0x32 0x35 ∷ []) .counts .reversed ≡ 1
+  pub given-up : after (sale 100 ∷ is-silent ∷ reverses ∷ is-silent ∷ reverses ∷ is-silent ∷ reverses ∷ is-silent ∷ []) .counts .«given_up» ≡ 1
+  pub unanswered : after (keyed 25 100 0 ∷ is-silent ∷ []) .counts .unanswered ≡ 1
+  -- both closings
+  pub closed : after (sale 100 ∷ approval 22 100 1 ∷ settles ∷ reconciled 2 1 ∷ []) .batch .0 ≡ 2
+  pub closed-after-upload : after (unbalanced ++ (uploads ∷ toUpload 1 0x30 0x30 ∷ uploads ∷ toUpload 3 0x30 0x30 ∷ [])) .batch .0 ≡ 2
