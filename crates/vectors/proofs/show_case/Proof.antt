@@ -1,0 +1,88 @@
+-- `vectors::show_case` meets its contract.
+use mathlib.Core.Path.{sym}
+use borrow.Author.Needs.{needs}
+use lib.Seq.{length-take-le}
+use native.Mathlib.Omega.{arith}
+use Rattle.vectors.proofs.show_case.Statement.{statement}
+use Rattle.vectors.proofs.show_case.Tie as tie
+
+u16-at-requires : tie.Need-u16-at-requires
+u16-at-requires c κs = search needs
+
+cast-m : tie.Need-cast-m
+cast-m c = search needs
+
+u16-at-requires-2 : tie.Need-u16-at-requires-2
+u16-at-requires-2 c κs = search needs
+
+cast-j : tie.Need-cast-j
+cast-j c = search needs
+
+returns : tie.Need-returns
+returns c = search needs
+
+returns-2 : tie.Need-returns-2
+returns-2 c = search needs
+
+is-whole-requires : tie.Need-is-whole-requires
+is-whole-requires c κs = search needs
+
+returns-3 : tie.Need-returns-3
+returns-3 c = search needs
+
+journal-of-requires : tie.Need-journal-of-requires
+journal-of-requires c κs = search needs
+
+slice-aggregate-put : tie.Need-slice-aggregate-put
+slice-aggregate-put c = search needs
+
+put-requires : tie.Need-put-requires
+put-requires c κs = search needs
+
+array-share-prefix-blank : tie.Need-array-share-prefix-blank
+array-share-prefix-blank c = search needs
+
+slice-aggregate-show : tie.Need-slice-aggregate-show
+slice-aggregate-show c = sym (length-take-le _ _ (omega arith))
+
+array-borrow-prefix-journal : tie.Need-array-borrow-prefix-journal
+array-borrow-prefix-journal c = search needs
+
+slice-aggregate-show-2 : tie.Need-slice-aggregate-show-2
+slice-aggregate-show-2 c = sym (length-take-le _ _ (omega arith))
+
+array-borrow-prefix-message : tie.Need-array-borrow-prefix-message
+array-borrow-prefix-message c = search needs
+
+slice-aggregate-show-3 : tie.Need-slice-aggregate-show-3
+slice-aggregate-show-3 c = sym (length-take-le _ _ (omega arith))
+
+show-requires : tie.Need-show-requires
+show-requires c κs = search needs
+
+returns-4 : tie.Need-returns-4
+returns-4 c = search needs
+
+pub show-case-spec : {M : Type 1} → statement M
+show-case-spec =
+    tie.close
+    (tie.spec
+    u16-at-requires
+    cast-m
+    u16-at-requires-2
+    cast-j
+    returns
+    returns-2
+    is-whole-requires
+    returns-3
+    journal-of-requires
+    slice-aggregate-put
+    put-requires
+    array-share-prefix-blank
+    slice-aggregate-show
+    array-borrow-prefix-journal
+    slice-aggregate-show-2
+    array-borrow-prefix-message
+    slice-aggregate-show-3
+    show-requires
+    returns-4)
