@@ -37,8 +37,13 @@ module _ (s : State) (j m : List ℕ) (n : ℕ) (e : n ≡ firstBroken (rules12 
       let o = f .order in
       let l = o .settings in
       record {
-        entries = omega arith; approved = omega arith; declined = omega arith; reversed = omega arith; given-up = omega arith;
-        unanswered = omega arith }
+        entries = omega arith;
+        approved = omega arith;
+        declined = omega arith;
+        reversed = omega arith;
+        given-up = omega arith;
+        unanswered = omega arith;
+      }
 
   module _ (r : Called) where
     pub no-answer-unfit : (n ≡ 0 → ⊥) → r ≡ refusal n s → resultOf r j m ≡ noAnswer s j m

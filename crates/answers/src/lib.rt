@@ -86,7 +86,10 @@ fn approval_holds(amount: u64, m: Message) -> bool
 {
     let bitmap = m.bitmap;
     let mut digits = [0u8; 6];
-    !approves(m) | (holds_number(m, 4, amount, &mut digits) & field::named(&bitmap, 13) & field::named(&bitmap, 37))
+    !approves(m)
+        | (holds_number(m, 4, amount, &mut digits)
+            & field::named(&bitmap, 13)
+            & field::named(&bitmap, 37))
 }
 
 fn holds_named(a: Awaited, m: Message) -> bool

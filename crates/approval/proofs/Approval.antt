@@ -112,7 +112,7 @@ front-taken n e q h = sym (length-take-le 20 (e ++ drop n (replicate {A = ℕ} 2
 pub filled : (c : Card) {e out : List ℕ} (old : List ℕ) → c .length < 256
     → e ≡ digitsOf (length (take (c .length) (replicate {A = ℕ} 275 0))) (c .number)
     → out ≡ cond (packable (take 20 (e ++ drop (c .length) (replicate {A = ℕ} 275 0))) 10)
-      (pack (take 20 (e ++ drop (c .length) (replicate {A = ℕ} 275 0)))) old
+    (pack (take 20 (e ++ drop (c .length) (replicate {A = ℕ} 275 0)))) old
     → out ≡ zeroFilled c
 unfolding zeroFilled
 filled c {e} old h d q =
@@ -120,8 +120,8 @@ filled c {e} old h d q =
     let l : length (take (c .length) z) ≡ c .length = length-take-le (c .length) z (omega arith) in
     let k : e ≡ digitsOf (c .length) (c .number) = rw l at d in
     let s : take 20 (e ++ drop (c .length) z) ≡ filledDigits c =
-        rw k (cut-same 20 (digitsOf (c .length) (c .number)) (replicate 20 0) (zeros-replicate 20) (omega arith)
-        (drop (c .length) z) (zeros-drop (c .length) z (zeros-replicate 275)) (omega (arith, length-drop (c .length) z))) in
+    rw k (cut-same 20 (digitsOf (c .length) (c .number)) (replicate 20 0) (zeros-replicate 20) (omega arith)
+    (drop (c .length) z) (zeros-drop (c .length) z (zeros-replicate 275)) (omega (arith, length-drop (c .length) z))) in
     q ∙ rw (s, filled-packable c)
 
 -- the parts of an entry, made one by one
@@ -130,10 +130,21 @@ pub entry-is : (q : Request) (m : Message) {card date authorisation reference : 
     → authorisation ≡ cond (copies m 38 6) (fieldOf m 38 .bytes) (replicate 6 0x20)
     → reference ≡ cond (copies m 37 12) (fieldOf m 37 .bytes) (replicate 12 0)
     → _≡_ {A = Entry}
-      (record {
-        kind = q .kind; voided = 0; mark = 0; resends = 0; trace = q .trace; amount = q .amount; digits = q .card .length; card = card;
-        date = date; authorisation = authorisation; reference = reference; reserved = replicate 4 0 })
-      (approvedEntry q m)
+    (record {
+      kind = q .kind;
+      voided = 0;
+      mark = 0;
+      resends = 0;
+      trace = q .trace;
+      amount = q .amount;
+      digits = q .card .length;
+      card = card;
+      date = date;
+      authorisation = authorisation;
+      reference = reference;
+      reserved = replicate 4 0;
+    })
+    (approvedEntry q m)
 unfolding approvedEntry fieldOr
 entry-is q m c d a r = rw (c, d, a, r)
 

@@ -174,8 +174,7 @@ located-all (f ∷ fs) x row from cs bs {r} {p} {f = g} e l =
         (rw (← a, drop-drop 1 row cs, add-one) (sym (set-split cs row (x .field .count) (omega arith))), rw (← b, ← c))
     go false e ih =
         let z : row + 0 ≡ row = omega arith in
-        let t = ih e (omega arith) in
-        (
+        let t = ih e (omega arith) in (
           rw (getD-drop row cs 0 0, z, drop-drop 1 row cs, ← append-snoc (take row cs) (getD cs row 0) (withCount fs x (drop (row + 1) cs)), ← take-suc cs row 0 (omega arith), ← add-one row) (t .0),
           rw (drop-drop (room f) from bs, ← append-assoc (take from bs) (take (room f) (drop from bs)) (withContents fs x (drop (from + room f) bs)), ← take-add from (room f) bs) (t .1),
         )

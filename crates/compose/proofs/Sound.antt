@@ -31,8 +31,11 @@ length-contents : (fs : List Format) (xs : List Item) → distinct fs ≡ true �
 length-contents [] xs d r = refl
 length-contents (f ∷ fs) xs d r =
     length-append (padded (room f) (find xs (f .number) .bytes)) (contentsFor fs xs)
-    ∙ omega (arith, length-padded (room f) (find xs (f .number) .bytes) (fitting-stored f fs xs r .fits),
-    length-contents fs xs (first-distinct f fs xs d .1) (fitting-tail f fs xs d r))
+    ∙ omega (
+      arith,
+      length-padded (room f) (find xs (f .number) .bytes) (fitting-stored f fs xs r .fits),
+      length-contents fs xs (first-distinct f fs xs d .1) (fitting-tail f fs xs d r),
+    )
 
 pub shaped : (i : ℕ) (xs : List Item) → allHeld xs ≡ true → Shaped (messageOf i xs)
 shaped i xs h =

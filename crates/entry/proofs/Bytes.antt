@@ -41,10 +41,21 @@ pub decode-is : (s : List ℕ) {t : Trace} {a : ℕ} {card date authorisation re
     → t ≡ record { 0 = packedNumber 6 (part 4 3 s) } → a ≡ packedNumber 12 (part 7 6 s) → card ≡ part 14 10 s → date ≡ part 24 2 s
     → authorisation ≡ part 26 6 s → reference ≡ part 32 12 s → reserved ≡ part 44 4 s
     → _≡_ {A = Entry}
-      (record {
-        kind = getD s 0 0; voided = getD s 1 0; mark = getD s 2 0; resends = getD s 3 0; trace = t; amount = a; digits = getD s 13 0;
-        card = card; date = date; authorisation = authorisation; reference = reference; reserved = reserved })
-      (decode s)
+    (record {
+      kind = getD s 0 0;
+      voided = getD s 1 0;
+      mark = getD s 2 0;
+      resends = getD s 3 0;
+      trace = t;
+      amount = a;
+      digits = getD s 13 0;
+      card = card;
+      date = date;
+      authorisation = authorisation;
+      reference = reference;
+      reserved = reserved;
+    })
+    (decode s)
 unfolding decode
 decode-is s p q r u v w x = rw (p, q, r, u, v, w, x)
 

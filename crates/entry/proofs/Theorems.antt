@@ -86,11 +86,21 @@ module _ (k v m s : ℕ) (n a : List ℕ) (d : ℕ) (c t u r z : List ℕ) (n-le
       later 20 4 ∙ part-skip t (u ++ (r ++ z)) 2 18 4 t-length ∙ part-skip u (r ++ z) 6 12 4 u-length ∙ part-skip r z 12 0 4 r-length
       ∙ take-all 4 z (omega arith)
 
-
   laid-decodes : {y w : ℕ} → packedNumber 6 n ≡ y → packedNumber 12 a ≡ w
       → decode laid ≡ record {
-        kind = k; voided = v; mark = m; resends = s; trace = record { 0 = y }; amount = w; digits = d; card = c; date = t;
-        authorisation = u; reference = r; reserved = z }
+        kind = k;
+        voided = v;
+        mark = m;
+        resends = s;
+        trace = record { 0 = y };
+        amount = w;
+        digits = d;
+        card = c;
+        date = t;
+        authorisation = u;
+        reference = r;
+        reserved = z;
+      }
   laid-decodes p q =
       decoded laid _ refl refl refl refl (ap (packedNumber 6) at-trace ∙ p) (ap (packedNumber 12) at-amount ∙ q) at-digits at-card
       at-date at-authorisation at-reference at-reserved
@@ -172,8 +182,19 @@ decode-zeros = refl
 abbrev pub remarked : Entry → ℕ → ℕ → ℕ → Entry
 remarked e v m r =
     record {
-      kind = e .kind; voided = v; mark = m; resends = r; trace = e .trace; amount = e .amount; digits = e .digits; card = e .card;
-      date = e .date; authorisation = e .authorisation; reference = e .reference; reserved = e .reserved }
+      kind = e .kind;
+      voided = v;
+      mark = m;
+      resends = r;
+      trace = e .trace;
+      amount = e .amount;
+      digits = e .digits;
+      card = e .card;
+      date = e .date;
+      authorisation = e .authorisation;
+      reference = e .reference;
+      reserved = e .reserved;
+    }
 
 -- byte 1, 2 or 3 changes just the flags
 pub decode-set : (b : List ℕ) (i x : ℕ) → 1 ≤ i → i ≤ 3

@@ -35,12 +35,14 @@ one-failed k v r x l f =
     let e = pends-again (sentTimes k v) (x .state) (x .journal) (x .message) (f .pends) (omega (arith, f .most)) in
     record {
       pends =
-        record {
-          ready = stays-ready (sentTimes k v) (x .state) (x .journal) (x .message) (f .pends);
-          on = rw e (f .pends .on);
-          phase = rw (e, add-one) };
+          record {
+            ready = stays-ready (sentTimes k v) (x .state) (x .journal) (x .message) (f .pends);
+            on = rw e (f .pends .on);
+            phase = rw (e, add-one);
+          };
       most = rw e (f .most);
-      given = rw e (f .given) }
+      given = rw e (f .given);
+    }
 
 all-failed : (k : ℕ) (v : Reversal) (r : Result) → Failed 0 v r r → k < r .state .settings .sendings → Failed k v r (failures k r)
 all-failed zero v r f l = f
@@ -68,10 +70,12 @@ given-up r v h o p z =
     let last = ended (r .state .settings .sendings) v r refl (fits .order .settings .sendings-least) none in
     record {
       leaves = λ k l.
-        let x = failures k r in
-        let f = all-failed k v r none l in
-        (length (messageBytes (reversalMessage (x .state .settings) (x .state .batch) (again (sentTimes k v)))),
-        ap (λ (y : Result). y .outcome) (sends (sentTimes k v) (x .state) (x .journal) (x .message) (f .pends)));
+          let x = failures k r in
+          let f = all-failed k v r none l in (
+            length (messageBytes (reversalMessage (x .state .settings) (x .state .batch) (again (sentTimes k v)))),
+            ap (λ (y : Result). y .outcome) (sends (sentTimes k v) (x .state) (x .journal) (x .message) (f .pends)),
+          );
       pending = λ k l. all-failed k v r none l .pends .phase;
       free = last .free;
-      counted = last .counted }
+      counted = last .counted;
+    }

@@ -73,8 +73,13 @@ pub card-held : (x : Settings) (q : Request) → SettingsShaped x → SettingsHo
     → CardHeld x q
 card-held x q l h a b =
     record {
-      card-low = a; card-high = b; terminal-length = l .terminal-length; merchant-length = l .merchant-length;
-      terminal-printable = h .terminal-printable; merchant-printable = h .merchant-printable }
+      card-low = a;
+      card-high = b;
+      terminal-length = l .terminal-length;
+      merchant-length = l .merchant-length;
+      terminal-printable = h .terminal-printable;
+      merchant-printable = h .merchant-printable;
+    }
 
 -- the entry that was found is in form, and its arrays have their lengths
 original-form : (d : Desk) (es : List Entry) → every (λ i e. inForm e) 0 es ≡ true → (f : Found) → originalOf d es ≡ f
@@ -118,12 +123,17 @@ module _ (d : Desk) (e : Entry) (batch : Batch) (n : ℕ) where
   void-sends t h l =
       let f = in-form e h in
       record {
-        card-low = rw t (f .digits-least); card-high = rw t (f .digits-most);
+        card-low = rw t (f .digits-least);
+        card-high = rw t (f .digits-most);
         original =
-          rw t
-          (record {
-            reference-length = l .reference-length; authorisation-length = l .authorisation-length;
-            reference-printable = λ q. f .reference-printable; authorisation-printable = λ q. f .authorisation-printable }) }
+            rw t
+            (record {
+              reference-length = l .reference-length;
+              authorisation-length = l .authorisation-length;
+              reference-printable = λ q. f .reference-printable;
+              authorisation-printable = λ q. f .authorisation-printable;
+            });
+      }
 
   -- another kind sends the desk's
   desk-sends : takesOriginal (d .kind) ≡ false → DeskHolds d → length (d .authorisation) ≡ 6 → length (d .reference) ≡ 12
@@ -131,14 +141,18 @@ module _ (d : Desk) (e : Entry) (batch : Batch) (n : ℕ) where
   desk-sends t h a r =
       let k = card-holds (d .card) (rw t at (h .card)) in
       record {
-        card-low = rw t (k .least); card-high = rw t (k .most);
+        card-low = rw t (k .least);
+        card-high = rw t (k .most);
         original =
-          rw t
-          (record {
-            reference-length = r; authorisation-length = a;
-            reference-printable = λ q. or-not (eqb (d .kind) 25) (allPrintable (d .reference)) (h .reference) (rw t at q);
-            authorisation-printable =
-              λ q. or-not (eqb (d .kind) 11 || eqb (d .kind) 20) (allPrintable (d .authorisation)) (h .authorisation) (rw t at q) }) }
+            rw t
+            (record {
+              reference-length = r;
+              authorisation-length = a;
+              reference-printable = λ q. or-not (eqb (d .kind) 25) (allPrintable (d .reference)) (h .reference) (rw t at q);
+              authorisation-printable =
+                  λ q. or-not (eqb (d .kind) 11 || eqb (d .kind) 20) (allPrintable (d .authorisation)) (h .authorisation) (rw t at q);
+            });
+      }
 
   request-sends : DeskHolds d → length (d .authorisation) ≡ 6 → length (d .reference) ≡ 12
       → (takesOriginal (d .kind) ≡ true → (inForm e ≡ true) × Shaped e) → Sends d e batch n
@@ -153,17 +167,17 @@ pub started-reads : (d : Desk) (s : State) (j m : List ℕ) (f : Found) (n : ℕ
     → firstBroken (startRules d s (entriesOf (s .entries) j) (entryOf f (entriesOf (s .entries) j)) j m) ≡ 0
     → SettingsShaped (s .settings) → length (d .authorisation) ≡ 6 → length (d .reference) ≡ 12
     → readMessage
-      (messageBytes
-      (requestMessage (s .settings) (s .batch) (requestOf d (entryOf f (entriesOf (s .entries) j)) n)
-      (namedBy d (s .batch) (entryOf f (entriesOf (s .entries) j))))) .outcome ≡ Read
+    (messageBytes
+    (requestMessage (s .settings) (s .batch) (requestOf d (entryOf f (entriesOf (s .entries) j)) n)
+    (namedBy d (s .batch) (entryOf f (entriesOf (s .entries) j))))) .outcome ≡ Read
 started-reads d s j m f n q h z x a r =
     let es = entriesOf (s .entries) j in
     let e = entryOf f es in
     let rs = startRules d s es e j m in
     let found : takesOriginal (d .kind) ≡ true → nowhere f ≡ false =
-        λ t. rw q at (and-false (takesOriginal (d .kind)) (nowhere (originalOf d es)) (passed 19 rs refl z) t) in
+    λ t. rw q at (and-false (takesOriginal (d .kind)) (nowhere (originalOf d es)) (passed 19 rs refl z) t) in
     let w = request-sends d e (s .batch) n (desk-holds d (not-false (deskInForm d) (passed 16 rs refl z))) a r
-        (λ t. (original-form d es (h .order .form) f q (found t), original-shaped (s .entries) j f (found t))) in
+    (λ t. (original-form d es (h .order .form) f q (found t), original-shaped (s .entries) j f (found t))) in
     request-reads (s .settings) (s .batch) (requestOf d e n) (namedBy d (s .batch) e) m
     (card-held (s .settings) (requestOf d e n) x (h .order .settings) (w .card-low) (w .card-high)) (w .original) (h .message-room)
 
@@ -171,16 +185,23 @@ started-reads d s j m f n q h z x a r =
 settings-held : (x : Settings) → SettingsShaped x → SettingsHold x → SettingsHeld x
 settings-held x l h =
     record {
-      terminal-length = l .terminal-length; merchant-length = l .merchant-length;
-      terminal-printable = h .terminal-printable; merchant-printable = h .merchant-printable }
+      terminal-length = l .terminal-length;
+      merchant-length = l .merchant-length;
+      terminal-printable = h .terminal-printable;
+      merchant-printable = h .merchant-printable;
+    }
 
 entry-held : (e : Entry) → inForm e ≡ true → Shaped e → EntryHeld e
 entry-held e h l =
     let f = in-form e h in
     record {
-      card-low = f .digits-least; card-high = f .digits-most;
-      reference-length = l .reference-length; reference-printable = f .reference-printable;
-      authorisation-length = l .authorisation-length; authorisation-printable = f .authorisation-printable }
+      card-low = f .digits-least;
+      card-high = f .digits-most;
+      reference-length = l .reference-length;
+      reference-printable = f .reference-printable;
+      authorisation-length = l .authorisation-length;
+      authorisation-printable = f .authorisation-printable;
+    }
 
 module _ (s : State) (j m : List ℕ) (h : Fit s j m) (x : SettingsShaped (s .settings)) where
   -- a settlement

@@ -44,8 +44,10 @@ module _ {Shaped : Type 0} {s : State} {j m : List ℕ} where
   pub told-sent : (bs : List ℕ) {t : State} {i : List ℕ} → (Shaped → readMessage bs .outcome ≡ Read) → Told Shaped s j m (sent bs t i m)
   told-sent bs r =
       record {
-        when-refused = λ n e. never (cc); when-quiet = λ e. never (cc);
-        when-sent = λ h k e. leaves-bytes bs m k (r h) (same-count (length bs) k e) }
+        when-refused = λ n e. never (cc);
+        when-quiet = λ e. never (cc);
+        when-sent = λ h k e. leaves-bytes bs m k (r h) (same-count (length bs) k e);
+      }
 
   -- a call that is refused by the first rule broken, or does what is said
   pub told-judged : (n : ℕ) (done : Result) → (n ≡ 0 → Told Shaped s j m done) → Told Shaped s j m (judged n s j m done)

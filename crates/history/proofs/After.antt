@@ -49,14 +49,20 @@ same-bytes b c e = cc
 pub lawful-quiet : (a : Account) → Lawful history.quiet a
 lawful-quiet a =
     record {
-      settlements = λ b e. absurd (quiet-not b e); no-request = λ b e. absurd (quiet-not b e);
-      no-settlement = λ b e. absurd (quiet-not b e); reversals = λ b e. absurd (quiet-not b e) }
+      settlements = λ b e. absurd (quiet-not b e);
+      no-request = λ b e. absurd (quiet-not b e);
+      no-settlement = λ b e. absurd (quiet-not b e);
+      reversals = λ b e. absurd (quiet-not b e);
+    }
 
 lawful-refused : (n : ℕ) (a : Account) → Lawful (history.refused n) a
 lawful-refused n a =
     record {
-      settlements = λ b e. absurd (refused-not n b e); no-request = λ b e. absurd (refused-not n b e);
-      no-settlement = λ b e. absurd (refused-not n b e); reversals = λ b e. absurd (refused-not n b e) }
+      settlements = λ b e. absurd (refused-not n b e);
+      no-request = λ b e. absurd (refused-not n b e);
+      no-settlement = λ b e. absurd (refused-not n b e);
+      reversals = λ b e. absurd (refused-not n b e);
+    }
 
 pub lawful-left : (b : List ℕ) (a : Account) → LawfulMessage (messageIn b) a → Lawful (left b) a
 lawful-left b a h =
@@ -64,7 +70,8 @@ lawful-left b a h =
       settlements = λ c e. rw (same-bytes b c e) (h .settlement);
       no-request = λ c e. rw (same-bytes b c e) (h .after-request);
       no-settlement = λ c e. rw (same-bytes b c e) (h .after-settlement);
-      reversals = λ c e. rw (same-bytes b c e) (h .after-reversal) }
+      reversals = λ c e. rw (same-bytes b c e) (h .after-reversal);
+    }
 
 -- after a call
 pub record After (l : ℕ) (e : Event) (a : Account) (r : Result) : Type 0 where

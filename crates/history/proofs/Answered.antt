@@ -72,9 +72,11 @@ module _ (l : ℕ) (good : Bool) (b : List ℕ) (read : readMessage b .outcome �
       let k = approved-kind q r ∙ sym (h .shape .asks .kind-is) in
       let w = approved-amount q r ∙ sym (h .shape .asks .amount-is) in
       record {
-        sendings-set = h .sendings-set; shaped = h .shaped;
+        sendings-set = h .sendings-set;
+        shaped = h .shaped;
         books = rw t (one-approved (s .counts) _ rest head 0 opened (approvedEntry q r) k w);
-        shape = (record { ended = refl; few = omega arith }, h .shape .done) }
+        shape = (record { ended = refl; few = omega arith }, h .shape .done);
+      }
 
   request-decided : approvalHolds (q .amount) (messageIn b) ≡ true
       → TiedAfter l (onRequest good (messageIn b) q s j) (accountOf (request head (decided good (messageIn b) head) 0 ∷ rest) (a .last))
@@ -84,9 +86,9 @@ module _ (l : ℕ) (good : Bool) (b : List ℕ) (read : readMessage b .outcome �
     where
       go : (x y : Bool) → approves (messageIn b) ≡ x
           → TiedAfter l
-            (cond x (cond y (answering.approved q (messageIn b) s j) (changed (doubted BadMac q s) j))
-            (changed (inPhase Resting (oneDeclined (s .counts)) s) j))
-            (accountOf (request head (cond x (cond y approved (history.doubted head)) declined) 0 ∷ rest) (a .last))
+          (cond x (cond y (answering.approved q (messageIn b) s j) (changed (doubted BadMac q s) j))
+          (changed (inPhase Resting (oneDeclined (s .counts)) s) j))
+          (accountOf (request head (cond x (cond y approved (history.doubted head)) declined) 0 ∷ rest) (a .last))
       go true true e = approved-tied n e
       go true false e =
           doubted-tied l s j (h .sendings-set) (h .shaped) head (a .last) rest (h .shape .done) BadMac q (h .shape .asks .kind-is) opened
@@ -196,9 +198,11 @@ item-answered l good b s j a i h =
     let d = h .shape in
     rw (not-closed l good b a (d .never-closes), heard-same l good b l (a .requests) (d .done))
     (record {
-      sendings-set = h .sendings-set; shaped = h .shaped;
+      sendings-set = h .sendings-set;
+      shaped = h .shaped;
       books = rw (marked-totals (s .entries) i (cond (approves (messageIn b)) 2 3) j) (h .books);
-      shape = d .done })
+      shape = d .done;
+    })
 
 pub answered-tied : (w : Awaited) (l : ℕ) (good : Bool) (b : List ℕ) → readMessage b .outcome ≡ Read
     → (s : State) (j m : List ℕ) (a : Account) → Fit (during (Waiting w) s) j m → Tied l (during (Waiting w) s) j a

@@ -51,7 +51,8 @@ original-voided n q es j = go (takesOriginal (q .kind)) (firstOf (isOriginal (or
     go true (At i) =
         record {
           room = length-set-byte i 1 1 j;
-          totals = rw (set-voided n i 1 j) (totals-changed (withVoided 1) (voided-totals 1) i (entriesOf n j)) }
+          totals = rw (set-voided n i 1 j) (totals-changed (withVoided 1) (voided-totals 1) i (entriesOf n j));
+        }
     go true Nowhere = record { room = refl; totals = refl }
     go false f = record { room = refl; totals = refl }
 
@@ -82,7 +83,7 @@ entry-in-form b q r f h e =
 pub approved-totals : (b : List ℕ) (q : Request) (s : State) (j m : List ℕ) → readMessage b .outcome ≡ Read
     → Fit (during (Waiting (awaited.Request q)) s) j m → approvalHolds (q .amount) (messageIn b) ≡ true → approves (messageIn b) ≡ true
     → totalsOf (entriesOf (s .entries + 1) (approved q (messageIn b) s j .journal))
-      ≡ withEntry (totalsOf (entriesOf (s .entries) j)) (approvedEntry q (messageIn b))
+    ≡ withEntry (totalsOf (entriesOf (s .entries) j)) (approvedEntry q (messageIn b))
 unfolding approved
 approved-totals b q s j m r h n e =
     let c = s .entries in
@@ -92,7 +93,7 @@ approved-totals b q s j m r h n e =
     let p = place-left (s .settings .limit) c (entriesOf c j) q (h .order .phase-kept) in
     let room : entrySize * c + entrySize ≤ length k = rw (v .room) (omega (arith, h .journal-room, p)) in
     let y : entriesOf (c + 1) (putEntry c w k) ≡ entriesOf c k ++ (w ∷ []) =
-        rw (add-one c) (put-appends c w k (shaped q (messageIn b)) (entry-in-form b q r (h .order .phase-form) n e) room) in
+    rw (add-one c) (put-appends c w k (shaped q (messageIn b)) (entry-in-form b q r (h .order .phase-form) n e) room) in
     rw (y, totals-last (entriesOf c k) w, v .totals)
 
 -- it has the request's kind and amount

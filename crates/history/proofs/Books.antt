@@ -50,9 +50,16 @@ unfolding totalsOf
 no-books =
     record {
       counted =
-        record {
-          sent-is = refl; approved-is = refl; declined-is = refl; reversed-is = refl; given-up-is = refl; unanswered-is = refl };
-      summed = record { debit-is = refl; debits-is = refl; credit-is = refl; credits-is = refl } }
+          record {
+            sent-is = refl;
+            approved-is = refl;
+            declined-is = refl;
+            reversed-is = refl;
+            given-up-is = refl;
+            unanswered-is = refl;
+          };
+      summed = record { debit-is = refl; debits-is = refl; credit-is = refl; credits-is = refl };
+    }
 
 -- the same, where one request more waits
 pub record Opened (c : Counts) (t : Totals) (rs : List Request) : Type 0 where
@@ -86,7 +93,11 @@ waits unanswered e = let z : _≡_ {A = ℕ} 0 1 = cc in absurd (omega arith)
 unsummed : (t : Totals) (r : Request) (rs : List Request) → isApproved (r .fate) ≡ false → Summed t rs → Summed t (r ∷ rs)
 unsummed t r rs e h =
     record {
-      debit-is = rw e (omega arith); debits-is = rw e (omega arith); credit-is = rw e (omega arith); credits-is = rw e (omega arith) }
+      debit-is = rw e (omega arith);
+      debits-is = rw e (omega arith);
+      credit-is = rw e (omega arith);
+      credits-is = rw e (omega arith);
+    }
 
 module _ (c : Counts) (t : Totals) (rs : List Request) where
   pub opens : (r : Request) → isWaiting (r .fate) ≡ true → Books c t (r ∷ rs) → Opened c t rs
@@ -102,25 +113,29 @@ module _ (c : Counts) (t : Totals) (rs : List Request) where
         given-up-is = omega (arith, rw (w .not-given-up) at (h .given-up-is));
         unanswered-is = omega (arith, rw (w .not-unanswered) at (h .unanswered-is));
         summed =
-          record {
-            debit-is = omega (arith, rw (w .not-approved) at (s .debit-is));
-            debits-is = omega (arith, rw (w .not-approved) at (s .debits-is));
-            credit-is = omega (arith, rw (w .not-approved) at (s .credit-is));
-            credits-is = omega (arith, rw (w .not-approved) at (s .credits-is)) } }
+            record {
+              debit-is = omega (arith, rw (w .not-approved) at (s .debit-is));
+              debits-is = omega (arith, rw (w .not-approved) at (s .debits-is));
+              credit-is = omega (arith, rw (w .not-approved) at (s .credit-is));
+              credits-is = omega (arith, rw (w .not-approved) at (s .credits-is));
+            };
+      }
 
   pub reopens : (r : Request) → isWaiting (r .fate) ≡ true → Opened c t rs → Books c t (r ∷ rs)
   reopens r e h =
       let w = waits (r .fate) e in
       record {
         counted =
-          record {
-            sent-is = omega arith;
-            approved-is = rw (w .not-approved) (omega arith);
-            declined-is = rw (w .not-declined) (omega arith);
-            reversed-is = rw (w .not-reversed) (omega arith);
-            given-up-is = rw (w .not-given-up) (omega arith);
-            unanswered-is = rw (w .not-unanswered) (omega arith) };
-        summed = unsummed t r rs (w .not-approved) (h .summed) }
+            record {
+              sent-is = omega arith;
+              approved-is = rw (w .not-approved) (omega arith);
+              declined-is = rw (w .not-declined) (omega arith);
+              reversed-is = rw (w .not-reversed) (omega arith);
+              given-up-is = rw (w .not-given-up) (omega arith);
+              unanswered-is = rw (w .not-unanswered) (omega arith);
+            };
+        summed = unsummed t r rs (w .not-approved) (h .summed);
+      }
 
   -- a request leaves
   pub one-sent : (m : Message) → Books c t rs → Books (oneSent c) t (request m deciding 0 ∷ rs)
@@ -128,47 +143,77 @@ module _ (c : Counts) (t : Totals) (rs : List Request) where
       let h = b .counted in
       record {
         counted =
-          record {
-            sent-is = omega arith; approved-is = omega arith; declined-is = omega arith;
-            reversed-is = omega arith; given-up-is = omega arith; unanswered-is = omega arith };
-        summed = unsummed t (request m deciding 0) rs refl (b .summed) }
+            record {
+              sent-is = omega arith;
+              approved-is = omega arith;
+              declined-is = omega arith;
+              reversed-is = omega arith;
+              given-up-is = omega arith;
+              unanswered-is = omega arith;
+            };
+        summed = unsummed t (request m deciding 0) rs refl (b .summed);
+      }
 
   module _ (m : Message) (n : ℕ) (h : Opened c t rs) where
     pub one-declined : Books (oneDeclined c) t (request m declined n ∷ rs)
     one-declined =
         record {
           counted =
-            record {
-              sent-is = omega arith; approved-is = omega arith; declined-is = omega arith;
-              reversed-is = omega arith; given-up-is = omega arith; unanswered-is = omega arith };
-          summed = unsummed t (request m declined n) rs refl (h .summed) }
+              record {
+                sent-is = omega arith;
+                approved-is = omega arith;
+                declined-is = omega arith;
+                reversed-is = omega arith;
+                given-up-is = omega arith;
+                unanswered-is = omega arith;
+              };
+          summed = unsummed t (request m declined n) rs refl (h .summed);
+        }
 
     pub one-reversed : Books (oneReversed c) t (request m reversed n ∷ rs)
     one-reversed =
         record {
           counted =
-            record {
-              sent-is = omega arith; approved-is = omega arith; declined-is = omega arith;
-              reversed-is = omega arith; given-up-is = omega arith; unanswered-is = omega arith };
-          summed = unsummed t (request m reversed n) rs refl (h .summed) }
+              record {
+                sent-is = omega arith;
+                approved-is = omega arith;
+                declined-is = omega arith;
+                reversed-is = omega arith;
+                given-up-is = omega arith;
+                unanswered-is = omega arith;
+              };
+          summed = unsummed t (request m reversed n) rs refl (h .summed);
+        }
 
     pub one-given-up : Books (oneGivenUp c) t (request m given-up n ∷ rs)
     one-given-up =
         record {
           counted =
-            record {
-              sent-is = omega arith; approved-is = omega arith; declined-is = omega arith;
-              reversed-is = omega arith; given-up-is = omega arith; unanswered-is = omega arith };
-          summed = unsummed t (request m given-up n) rs refl (h .summed) }
+              record {
+                sent-is = omega arith;
+                approved-is = omega arith;
+                declined-is = omega arith;
+                reversed-is = omega arith;
+                given-up-is = omega arith;
+                unanswered-is = omega arith;
+              };
+          summed = unsummed t (request m given-up n) rs refl (h .summed);
+        }
 
     pub one-unanswered : Books (oneUnanswered c) t (request m unanswered n ∷ rs)
     one-unanswered =
         record {
           counted =
-            record {
-              sent-is = omega arith; approved-is = omega arith; declined-is = omega arith;
-              reversed-is = omega arith; given-up-is = omega arith; unanswered-is = omega arith };
-          summed = unsummed t (request m unanswered n) rs refl (h .summed) }
+              record {
+                sent-is = omega arith;
+                approved-is = omega arith;
+                declined-is = omega arith;
+                reversed-is = omega arith;
+                given-up-is = omega arith;
+                unanswered-is = omega arith;
+              };
+          summed = unsummed t (request m unanswered n) rs refl (h .summed);
+        }
 
     -- an approval, whose entry enters the totals
     summed-more : (e : Entry) → e .kind ≡ kindIn m → e .amount ≡ amountIn m → Summed (withEntry t e) (request m approved n ∷ rs)
@@ -179,14 +224,21 @@ module _ (c : Counts) (t : Totals) (rs : List Request) where
           debit-is = rw (k, a) (omega arith);
           debits-is = rw k (omega arith);
           credit-is = rw (k, a) (omega arith);
-          credits-is = rw k (omega arith) }
+          credits-is = rw k (omega arith);
+        }
 
     pub one-approved : (e : Entry) → e .kind ≡ kindIn m → e .amount ≡ amountIn m
         → Books (oneApproved c) (withEntry t e) (request m approved n ∷ rs)
     one-approved e k a =
         record {
           counted =
-            record {
-              sent-is = omega arith; approved-is = omega arith; declined-is = omega arith;
-              reversed-is = omega arith; given-up-is = omega arith; unanswered-is = omega arith };
-          summed = summed-more e k a }
+              record {
+                sent-is = omega arith;
+                approved-is = omega arith;
+                declined-is = omega arith;
+                reversed-is = omega arith;
+                given-up-is = omega arith;
+                unanswered-is = omega arith;
+              };
+          summed = summed-more e k a;
+        }

@@ -49,12 +49,16 @@ signed-after l batch s j m a h =
     let c = cond (adopts s) batch (s .batch) in
     judged-after l (signs-on batch) a (firstBroken rs) s j m _ h
     (λ z.
-      record {
-        tied =
+    record {
+      tied =
           record {
-            sendings-set = h .sendings-set; shaped = h .shaped; books = h .books;
-            shape = other-batch (s .phase) l (s .settings) (s .batch) c a (passed 11 rs refl z) (h .shape) };
-        lawful = lawful-quiet a })
+            sendings-set = h .sendings-set;
+            shaped = h .shaped;
+            books = h .books;
+            shape = other-batch (s .phase) l (s .settings) (s .batch) c a (passed 11 rs refl z) (h .shape);
+          };
+      lawful = lawful-quiet a;
+    })
 
 -- no answer
 silent-in : (p : Phase) (l : ℕ) (s : State) (j m : List ℕ) (a : Account) → Tied l (during p s) j a
@@ -92,9 +96,10 @@ power-after l s j m a h =
     let c = poweredIn (s .phase) s j in
     judged-after l has-power a (firstBroken (rules12 s j m)) s j m (withoutPower c m) h
     (λ z.
-      record {
-        tied = off-tied l (c .state) (c .journal) (afterSilence l a) (powered-in (s .phase) l s j a h);
-        lawful = lawful-quiet a })
+    record {
+      tied = off-tied l (c .state) (c .journal) (afterSilence l a) (powered-in (s .phase) l s j a h);
+      lawful = lawful-quiet a;
+    })
 
 -- an answer
 answer-in : (p : Phase) (l : ℕ) (b : List ℕ) (good : Bool) (s : State) (j m : List ℕ) (a : Account) → readMessage b .outcome ≡ Read
@@ -105,7 +110,7 @@ answer-in (Waiting w) l b good s j m a r f h =
   where
     go : (x : Bool) → isAnswer (s .settings) (s .batch) (traceSent (entriesOf (s .entries) j) w) w (messageIn b) ≡ x
         → After l (answers b good) a
-          (cond x (quietly (answered good (messageIn b) w (during (Waiting w) s) j) m) (refused 22 (during (Waiting w) s) j m))
+        (cond x (quietly (answered good (messageIn b) w (during (Waiting w) s) j) m) (refused 22 (during (Waiting w) s) j m))
     go true e = record { tied = answered-tied w l good b r (during (Waiting w) s) j m a f h e; lawful = lawful-quiet a }
     go false e = refused-after l (answers b good) a 22 _ j m h
 answer-in (Pending v) l b good s j m a r f h = refused-after l (answers b good) a 14 _ j m h

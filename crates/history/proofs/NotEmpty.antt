@@ -275,15 +275,31 @@ fresh-fits : (x : Settings) (j m : List ℕ) → settingsInForm x ≡ true → e
 unfolding totalsOf
 fresh-fits x j m f r l =
     record {
-      message-room = l; journal-room = r;
+      message-room = l;
+      journal-room = r;
       order =
-        record {
-          few = omega arith; settings = settings-hold x f;
-          batch-least = omega arith; batch-most = omega arith; next-least = omega arith; next-most = omega arith;
-          sent-most = omega arith; phase-form = refl;
-          form = refl; voided = refl; unmarked = refl; resends = refl; silent = refl; apart = refl;
-          debit-most = omega arith; credit-most = omega arith;
-          balance = refl; approvals = refl; phase-kept = refl } }
+          record {
+            few = omega arith;
+            settings = settings-hold x f;
+            batch-least = omega arith;
+            batch-most = omega arith;
+            next-least = omega arith;
+            next-most = omega arith;
+            sent-most = omega arith;
+            phase-form = refl;
+            form = refl;
+            voided = refl;
+            unmarked = refl;
+            resends = refl;
+            silent = refl;
+            apart = refl;
+            debit-most = omega arith;
+            credit-most = omega arith;
+            balance = refl;
+            approvals = refl;
+            phase-kept = refl;
+          };
+    }
 
 -- what a call of the history gave
 abbrev NotUnfit : Call → History → Type 0

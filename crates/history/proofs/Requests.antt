@@ -83,7 +83,7 @@ all-few l (r ∷ rs) d = (d .0 .few, all-few l rs (d .1))
 -- each request has one fate
 one-fate : (f : Fate)
     → cond (isApproved f) 1 0 + cond (isDeclined f) 1 0 + cond (isReversed f) 1 0 + cond (isGivenUp f) 1 0
-      + cond (isUnanswered f) 1 0 + cond (isWaiting f) 1 0 ≡ 1
+    + cond (isUnanswered f) 1 0 + cond (isWaiting f) 1 0 ≡ 1
 one-fate deciding = refl
 one-fate (pending n) = refl
 one-fate (out n v) = refl

@@ -88,7 +88,7 @@ module _ (b : List ℕ) (i : ℕ) (xs : List Item) (r : Reads i xs (readMessage 
       → batch .0 ≤ 999999 → kind ≤ 99 → code ≤ 999 → Says x batch trace i kind code (messageIn b)
   says x batch trace kind code h u v w =
       let part = number-read 60 (field60 kind batch code) (omega arith) (omega arith) (h .has-kind) (h .kind-held)
-          (field60-digits kind batch code) in
+      (field60-digits kind batch code) in
       record {
         indicator = r .indicator;
         trace-bytes = ap (λ f. f .bytes) (r .fields 11 (h .has-trace) ∙ h .trace-held);
@@ -96,4 +96,5 @@ module _ (b : List ℕ) (i : ℕ) (xs : List Item) (r : Reads i xs (readMessage 
         merchant-bytes = ap (λ f. f .bytes) (r .fields 42 (h .has-merchant) ∙ h .merchant-held);
         batch-number = part 2 6 (batch .0) (omega arith) refl (omega arith) (omega arith);
         kind-number = part 0 2 kind (omega arith) refl (omega arith) (omega arith);
-        code-number = part 8 3 code (omega arith) refl (omega arith) (omega arith) }
+        code-number = part 8 3 code (omega arith) refl (omega arith) (omega arith);
+      }

@@ -126,15 +126,26 @@ module _ (x : Settings) (batch : Batch) (m : List ℕ) (room : largest ≤ lengt
       let r = left-reads i xs m (request-listed (q .kind)) (request-held x batch q o c g) room in
       let k = kind-small (q .kind) (h .kind-listed) in
       let w : Holds x batch (q .trace) (q .kind) 0 xs =
-          record {
-            has-trace = refl; has-terminal = refl; has-merchant = refl; has-kind = refl;
-            trace-held = refl; terminal-held = refl; merchant-held = refl; kind-held = refl } in
+      record {
+        has-trace = refl;
+        has-terminal = refl;
+        has-merchant = refl;
+        has-kind = refl;
+        trace-held = refl;
+        terminal-held = refl;
+        merchant-held = refl;
+        kind-held = refl;
+      } in
       let s = says _ i xs r x batch (q .trace) (q .kind) 0 w small k (omega arith) in
       let a = number-read _ i xs r 4 (digitsOf 12 (q .amount)) (omega arith) (omega arith) refl refl (digitsOf-digits 12 (q .amount))
-          0 12 (q .amount) (omega arith) refl (omega arith) (omega (arith, h .amount-most)) in
+      0 12 (q .amount) (omega arith) refl (omega arith) (omega (arith, h .amount-most)) in
       record {
-        said = s; typed = request-typed (q .kind) _ (s .indicator); kind-is = kind-said s; amount-is = amount-said _ (q .amount) a;
-        amount-bytes = ap (λ f. f .bytes) (r .fields 4 refl) }
+        said = s;
+        typed = request-typed (q .kind) _ (s .indicator);
+        kind-is = kind-said s;
+        amount-is = amount-said _ (q .amount) a;
+        amount-bytes = ap (λ f. f .bytes) (r .fields 4 refl);
+      }
 
   pub reversal-says : (v : Reversal) → CardHeld x (v .request) → RequestHolds (v .request)
       → Says x batch (v .request .trace) 0x0400 (v .request .kind) 0 (messageIn (handedOut (messageBytes (reversalMessage x batch v)) m))
@@ -144,8 +155,15 @@ module _ (x : Settings) (batch : Batch) (m : List ℕ) (room : largest ≤ lengt
       says _ 0x0400 xs (left-reads 0x0400 xs m reversal-listed (reversal-held x batch v c) room) x batch (v .request .trace)
       (v .request .kind) 0
       (record {
-        has-trace = refl; has-terminal = refl; has-merchant = refl; has-kind = refl;
-        trace-held = refl; terminal-held = refl; merchant-held = refl; kind-held = refl })
+        has-trace = refl;
+        has-terminal = refl;
+        has-merchant = refl;
+        has-kind = refl;
+        trace-held = refl;
+        terminal-held = refl;
+        merchant-held = refl;
+        kind-held = refl;
+      })
       small (kind-small (v .request .kind) (h .kind-listed)) (omega arith)
 
   pub settlement-settles : (trace : Trace) (t : Totals) → SettingsHeld x → Sayable t
@@ -157,15 +175,23 @@ module _ (x : Settings) (batch : Batch) (m : List ℕ) (room : largest ≤ lengt
       let sum = number-read _ 0x0500 xs r 48 (field48 t) (omega arith) (omega arith) refl refl (field48-digits t) in
       record {
         said =
-          says _ 0x0500 xs r x batch trace 0 201
-          (record {
-            has-trace = refl; has-terminal = refl; has-merchant = refl; has-kind = refl;
-            trace-held = refl; terminal-held = refl; merchant-held = refl; kind-held = refl })
-          small (omega arith) (omega arith);
+            says _ 0x0500 xs r x batch trace 0 201
+            (record {
+              has-trace = refl;
+              has-terminal = refl;
+              has-merchant = refl;
+              has-kind = refl;
+              trace-held = refl;
+              terminal-held = refl;
+              merchant-held = refl;
+              kind-held = refl;
+            })
+            small (omega arith) (omega arith);
         debit-amount = sum 0 12 (t .debit) (omega arith) refl (omega arith) (omega (arith, f .debit-most));
         debit-count = sum 12 3 (t .debits) (omega arith) refl (omega arith) (omega (arith, f .debits-most));
         credit-amount = sum 15 12 (t .credit) (omega arith) refl (omega arith) (omega (arith, f .credit-most));
-        credit-count = sum 27 3 (t .credits) (omega arith) refl (omega arith) (omega (arith, f .credits-most)) }
+        credit-count = sum 27 3 (t .credits) (omega arith) refl (omega arith) (omega (arith, f .credits-most));
+      }
 
   pub item-says : (e : Entry) → SettingsHeld x → EntryHeld e → isKind (e .kind) ≡ true
       → Says x batch (e .trace) 0x0320 (e .kind) 201 (messageIn (handedOut (messageBytes (itemMessage x batch e)) m))
@@ -174,8 +200,15 @@ module _ (x : Settings) (batch : Batch) (m : List ℕ) (room : largest ≤ lengt
       let xs = itemFields x batch e in
       says _ 0x0320 xs (left-reads 0x0320 xs m upload-listed (item-held x batch h e g) room) x batch (e .trace) (e .kind) 201
       (record {
-        has-trace = refl; has-terminal = refl; has-merchant = refl; has-kind = refl;
-        trace-held = refl; terminal-held = refl; merchant-held = refl; kind-held = refl })
+        has-trace = refl;
+        has-terminal = refl;
+        has-merchant = refl;
+        has-kind = refl;
+        trace-held = refl;
+        terminal-held = refl;
+        merchant-held = refl;
+        kind-held = refl;
+      })
       small (kind-small (e .kind) k) (omega arith)
 
   pub end-says : (trace : Trace) → SettingsHeld x
@@ -185,6 +218,13 @@ module _ (x : Settings) (batch : Batch) (m : List ℕ) (room : largest ≤ lengt
       let xs = endFields x batch trace in
       says _ 0x0320 xs (left-reads 0x0320 xs m upload-listed (end-held x batch h trace) room) x batch trace 0 202
       (record {
-        has-trace = refl; has-terminal = refl; has-merchant = refl; has-kind = refl;
-        trace-held = refl; terminal-held = refl; merchant-held = refl; kind-held = refl })
+        has-trace = refl;
+        has-terminal = refl;
+        has-merchant = refl;
+        has-kind = refl;
+        trace-held = refl;
+        terminal-held = refl;
+        merchant-held = refl;
+        kind-held = refl;
+      })
       small (omega arith) (omega arith)

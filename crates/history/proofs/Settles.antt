@@ -49,8 +49,11 @@ use Rattle.history.proofs.Starts.{fit-first}
 settings-held : (l : ℕ) (s : State) (j m : List ℕ) (a : Account) → Tied l s j a → Fit s j m → SettingsHeld (s .settings)
 settings-held l s j m a h f =
     record {
-      terminal-length = h .shaped .terminal-length; merchant-length = h .shaped .merchant-length;
-      terminal-printable = f .order .settings .terminal-printable; merchant-printable = f .order .settings .merchant-printable }
+      terminal-length = h .shaped .terminal-length;
+      merchant-length = h .shaped .merchant-length;
+      terminal-printable = f .order .settings .terminal-printable;
+      merchant-printable = f .order .settings .merchant-printable;
+    }
 
 -- field 48 has room for the totals of a journal in order
 sayable : (s : State) (j m : List ℕ) → Fit s j m → Sayable (totalsOf (entriesOf (s .entries) j))
@@ -61,8 +64,11 @@ sayable s j m f =
     let k = f .order .few in
     let x = f .order .settings .limit-most in
     record {
-      debit-most = f .order .debit-most; credit-most = f .order .credit-most;
-      debits-most = omega (arith, count-bounded debitEntry es); credits-most = omega (arith, count-bounded creditEntry es) }
+      debit-most = f .order .debit-most;
+      credit-most = f .order .credit-most;
+      debits-most = omega (arith, count-bounded debitEntry es);
+      credits-most = omega (arith, count-bounded creditEntry es);
+    }
 
 -- the totals of the journal are those of the batch's approved requests
 carries : {x : Settings} {batch : Batch} {trace : Trace} {t : Totals} {m : Message} {rs : List Request} → Settles x batch trace t m
@@ -72,7 +78,8 @@ carries w h =
       debit-amount = w .debit-amount ∙ ap (λ (n : ℕ). Is n) (h .debit-is);
       debit-count = w .debit-count ∙ ap (λ (n : ℕ). Is n) (h .debits-is);
       credit-amount = w .credit-amount ∙ ap (λ (n : ℕ). Is n) (h .credit-is);
-      credit-count = w .credit-count ∙ ap (λ (n : ℕ). Is n) (h .credits-is) }
+      credit-count = w .credit-count ∙ ap (λ (n : ℕ). Is n) (h .credits-is);
+    }
 
 module _ (l : ℕ) (s : State) (j : List ℕ) (a : Account) (h : Tied l s j a) (done : AllDone l (a .requests)) (b : List ℕ) where
   -- a settlement leaves
@@ -86,16 +93,22 @@ module _ (l : ℕ) (s : State) (j : List ℕ) (a : Account) (h : Tied l s j a) (
   settlement-lawful t c =
       lawful-left b a
       (record {
-        settlement = λ x. c; after-request = no (t .is-request); after-settlement = λ x. none-reversing l (a .requests) done;
-        after-reversal = no (t .is-reversal) })
+        settlement = λ x. c;
+        after-request = no (t .is-request);
+        after-settlement = λ x. none-reversing l (a .requests) done;
+        after-reversal = no (t .is-reversal);
+      })
 
   -- an upload's message leaves
   upload-lawful : (d : Bool) → Typed false false false d (messageIn b) → Lawful (left b) a
   upload-lawful d t =
       lawful-left b a
       (record {
-        settlement = no (t .is-settlement); after-request = no (t .is-request); after-settlement = no (t .is-settlement);
-        after-reversal = no (t .is-reversal) })
+        settlement = no (t .is-settlement);
+        after-request = no (t .is-request);
+        after-settlement = no (t .is-settlement);
+        after-reversal = no (t .is-reversal);
+      })
 
 pub settle-after : (l : ℕ) (s : State) (j m : List ℕ) (a : Account) → Tied l s j a → After l settles a (settle s j m)
 unfolding settle
@@ -106,16 +119,17 @@ settle-after l s j m a h =
     let trace : Trace = record { 0 = taken es (s .next .0) } in
     judged-after l settles a (firstBroken rs) s j m _ h
     (λ z.
-      let f = fit-first s j m _ refl z in
-      let w = settlement-settles (s .settings) (s .batch) m (f .message-room) (f .order .batch-most) trace t
-          (settings-held l s j m a h f) (sayable s j m f) in
-      let done = idle l (s .settings) (s .batch) a (s .phase) (passed 11 rs refl z) (passed 12 rs refl z) (h .shape) in
-      let b = handedOut (messageBytes (settlementMessage (s .settings) (s .batch) trace t)) m in
-      record {
-        tied = settlement-tied l s j a h done b trace (w .said);
-        lawful =
+    let f = fit-first s j m _ refl z in
+    let w = settlement-settles (s .settings) (s .batch) m (f .message-room) (f .order .batch-most) trace t
+    (settings-held l s j m a h f) (sayable s j m f) in
+    let done = idle l (s .settings) (s .batch) a (s .phase) (passed 11 rs refl z) (passed 12 rs refl z) (h .shape) in
+    let b = handedOut (messageBytes (settlementMessage (s .settings) (s .batch) trace t)) m in
+    record {
+      tied = settlement-tied l s j a h done b trace (w .said);
+      lawful =
           settlement-lawful l s j a h done b (settlement-typed (messageIn b) (w .said .indicator))
-          (carries w (h .books .summed)) })
+          (carries w (h .books .summed));
+    })
 
 -- a resend changes no total
 resent-totals : (n i : ℕ) (e : Entry) (j : List ℕ) → totalsOf (entriesOf n (resent i e j)) ≡ totalsOf (entriesOf n j)
@@ -133,9 +147,13 @@ entry-held : (n i : ℕ) (j : List ℕ) → InForm (entryAt (entriesOf n j) i) �
 entry-held n i j f =
     let w = entry-shaped n i j in
     record {
-      card-low = f .digits-least; card-high = f .digits-most;
-      reference-length = w .reference-length; reference-printable = f .reference-printable;
-      authorisation-length = w .authorisation-length; authorisation-printable = f .authorisation-printable }
+      card-low = f .digits-least;
+      card-high = f .digits-most;
+      reference-length = w .reference-length;
+      reference-printable = f .reference-printable;
+      authorisation-length = w .authorisation-length;
+      authorisation-printable = f .authorisation-printable;
+    }
 
 module _ (l : ℕ) (s : State) (j m : List ℕ) (a : Account) (h : Tied l (during Uploading s) j a) (f : Fit (during Uploading s) j m) where
   held : SettingsHeld (s .settings)
@@ -148,16 +166,20 @@ module _ (l : ℕ) (s : State) (j m : List ℕ) (a : Account) (h : Tied l (durin
       let k = next-at es i e in
       let g = in-form x (every-at (λ i e. inForm e) 0 es (f .order .form) i (k .below)) in
       let said = item-says (s .settings) (s .batch) m (f .message-room) (f .order .batch-most) x held (entry-held (s .entries) i j g)
-          (g .kind-listed) in
+      (g .kind-listed) in
       let b = handedOut (messageBytes (itemMessage (s .settings) (s .batch) x)) m in
       let t = item-typed (messageIn b) (said .indicator) (said .code-number) in
       record {
         tied =
-          rw (left-other (messageIn b) (a .requests) false false t)
-          (record {
-            sendings-set = h .sendings-set; shaped = h .shaped; books = rw (resent-totals (s .entries) i x j) (h .books);
-            shape = record { done = h .shape; never-closes = other-closes t } });
-        lawful = upload-lawful l (during Uploading s) j a h (h .shape) b false t }
+            rw (left-other (messageIn b) (a .requests) false false t)
+            (record {
+              sendings-set = h .sendings-set;
+              shaped = h .shaped;
+              books = rw (resent-totals (s .entries) i x j) (h .books);
+              shape = record { done = h .shape; never-closes = other-closes t };
+            });
+        lawful = upload-lawful l (during Uploading s) j a h (h .shape) b false t;
+      }
 
   end-after : After l uploads a (nextLeaves Nowhere (during Uploading s) j m)
   end-after =
@@ -167,10 +189,15 @@ module _ (l : ℕ) (s : State) (j m : List ℕ) (a : Account) (h : Tied l (durin
       let t = end-typed (messageIn b) (said .indicator) (said .code-number) in
       record {
         tied =
-          rw (left-other (messageIn b) (a .requests) false true t)
-          (record {
-            sendings-set = h .sendings-set; shaped = h .shaped; books = h .books; shape = record { done = h .shape; said = said } });
-        lawful = upload-lawful l (during Uploading s) j a h (h .shape) b true t }
+            rw (left-other (messageIn b) (a .requests) false true t)
+            (record {
+              sendings-set = h .sendings-set;
+              shaped = h .shaped;
+              books = h .books;
+              shape = record { done = h .shape; said = said };
+            });
+        lawful = upload-lawful l (during Uploading s) j a h (h .shape) b true t;
+      }
 
   next-after : (n : Found) → nextDue (entriesOf (s .entries) j) ≡ n → After l uploads a (nextLeaves n (during Uploading s) j m)
   next-after (At i) e = item-after i e

@@ -47,8 +47,11 @@ module _ (l : ℕ) (s : State) (j : List ℕ) (set : s .settings .sendings ≡ l
       → Tied l (during (Pending v) s) j (accountOf (request m (pending (v .sendings)) (v .sendings) ∷ rest) last)
   pending-tied v h o =
       record {
-        sendings-set = set; shaped = shaped; books = reopens (s .counts) totals rest _ refl o;
-        shape = record { message = m; rest = rest; requests-are = refl; done = done; few = h } }
+        sendings-set = set;
+        shaped = shaped;
+        books = reopens (s .counts) totals rest _ refl o;
+        shape = record { message = m; rest = rest; requests-are = refl; done = done; few = h };
+      }
 
   pub doubted-tied : (r : Reason) (q : Asked) → kindIn m ≡ q .kind → Opened (s .counts) totals rest
       → Tied l (doubted r q s) j (accountOf (request m (history.doubted m) 0 ∷ rest) last)
@@ -94,7 +97,7 @@ silent-tied (awaited.Request q) l s j a h =
 silent-tied (awaited.Reversal v) l s j a h =
     let d = h .shape in
     let o = opens (s .counts) _ (d .rest) (request (d .message) (out (v .sendings) (d .reversal)) (v .sendings)) refl
-        (rw (d .requests-are) at (h .books)) in
+    (rw (d .requests-are) at (h .books)) in
     rw (d .requests-are, silent-same l l (d .rest) (d .done))
     (failed-tied l s j (h .sendings-set) (h .shaped) (d .message) (a .last) (d .rest) (d .done) v (d .few) o)
 silent-tied (awaited.Settlement trace) l s j a h =
@@ -103,9 +106,11 @@ silent-tied (awaited.Settlement trace) l s j a h =
 silent-tied (awaited.Item i) l s j a h =
     rw (silent-same l l (a .requests) (h .shape .done))
     (record {
-      sendings-set = h .sendings-set; shaped = h .shaped;
+      sendings-set = h .sendings-set;
+      shaped = h .shaped;
       books = rw (marked-totals (s .entries) i (silentMark (s .settings .sendings) (entryAt (entriesOf (s .entries) j) i)) j) (h .books);
-      shape = h .shape .done })
+      shape = h .shape .done;
+    })
 silent-tied (awaited.End trace) l s j a h =
     rw (silent-same l l (a .requests) (h .shape .done))
     (record { sendings-set = h .sendings-set; shaped = h .shaped; books = h .books; shape = h .shape .done })

@@ -54,19 +54,30 @@ module _ (l : ℕ) (e : Event) (s : State) (j : List ℕ) (a : Account) (q : Ask
   request-tied =
       rw (left-request (messageIn b) (a .requests) (asks .typed))
       (record {
-        sendings-set = h .sendings-set; shaped = h .shaped; books = one-sent (s .counts) _ (a .requests) (messageIn b) (h .books);
+        sendings-set = h .sendings-set;
+        shaped = h .shaped;
+        books = one-sent (s .counts) _ (a .requests) (messageIn b) (h .books);
         shape =
-          record {
-            message = messageIn b; rest = a .requests; requests-are = refl; done = done; asks = asks;
-            never-closes = other-closes (asks .typed) } })
+            record {
+              message = messageIn b;
+              rest = a .requests;
+              requests-are = refl;
+              done = done;
+              asks = asks;
+              never-closes = other-closes (asks .typed);
+            };
+      })
 
   request-lawful : Lawful (left b) a
   request-lawful =
       let t = asks .typed in
       lawful-left b a
       (record {
-        settlement = no (t .is-settlement); after-request = λ x. none-reversing l (a .requests) done;
-        after-settlement = no (t .is-settlement); after-reversal = no (t .is-reversal) })
+        settlement = no (t .is-settlement);
+        after-request = λ x. none-reversing l (a .requests) done;
+        after-settlement = no (t .is-settlement);
+        after-reversal = no (t .is-reversal);
+      })
 
 module _ (l : ℕ) (d : Desk) (s : State) (j m : List ℕ) (a : Account) (h : Tied l s j a) (authorisation : length (d .authorisation) ≡ 6)
     (reference : length (d .reference) ≡ 12) where
@@ -85,17 +96,18 @@ module _ (l : ℕ) (d : Desk) (s : State) (j m : List ℕ) (a : Account) (h : Ti
       let rs = startRules d s es e j m in
       judged-after l (starts d) a (firstBroken rs) s j m _ h
       (λ z.
-        let u = unbroken d s e j m z in
-        let w = may-leave d s j m (h .shaped .terminal-length) (h .shaped .merchant-length) reference authorisation
-            (taken es (s .next .0)) u in
-        let f = u .fits in
-        let asks = request-asks (s .settings) (s .batch) m (f .message-room) (f .order .batch-most) q o (w .card) (w .original)
-            (request-holds q (request-form z f)) in
-        let done = idle l (s .settings) (s .batch) a (s .phase) (passed 11 rs refl z) (passed 12 rs refl z) (h .shape) in
-        let b = handedOut (messageBytes (requestMessage (s .settings) (s .batch) q o)) m in
-        record {
-          tied = request-tied l (starts d) s j a q b h done asks;
-          lawful = request-lawful l (starts d) s j a q b h done asks })
+      let u = unbroken d s e j m z in
+      let w = may-leave d s j m (h .shaped .terminal-length) (h .shaped .merchant-length) reference authorisation
+      (taken es (s .next .0)) u in
+      let f = u .fits in
+      let asks = request-asks (s .settings) (s .batch) m (f .message-room) (f .order .batch-most) q o (w .card) (w .original)
+      (request-holds q (request-form z f)) in
+      let done = idle l (s .settings) (s .batch) a (s .phase) (passed 11 rs refl z) (passed 12 rs refl z) (h .shape) in
+      let b = handedOut (messageBytes (requestMessage (s .settings) (s .batch) q o)) m in
+      record {
+        tied = request-tied l (starts d) s j a q b h done asks;
+        lawful = request-lawful l (starts d) s j a q b h done asks;
+      })
 
 -- a pending reversal leaves
 module _ (l : ℕ) (s : State) (j m : List ℕ) (a : Account) (v : Reversal) (h : Tied l (during (Pending v) s) j a)
@@ -105,9 +117,13 @@ module _ (l : ℕ) (s : State) (j m : List ℕ) (a : Account) (v : Reversal) (h 
       let w = reversal-holds v (f .order .phase-form) in
       let x = f .order .settings in
       record {
-        card-low = w .card-least; card-high = w .card-most;
-        terminal-length = h .shaped .terminal-length; merchant-length = h .shaped .merchant-length;
-        terminal-printable = x .terminal-printable; merchant-printable = x .merchant-printable }
+        card-low = w .card-least;
+        card-high = w .card-most;
+        terminal-length = h .shaped .terminal-length;
+        merchant-length = h .shaped .merchant-length;
+        terminal-printable = x .terminal-printable;
+        merchant-printable = x .merchant-printable;
+      }
 
   few-more : again v .sendings ≤ l
   few-more = let k = ltb-true (v .sendings) (s .settings .sendings) (f .order .phase-kept) in let t = h .sendings-set in omega arith
@@ -122,26 +138,38 @@ module _ (l : ℕ) (s : State) (j m : List ℕ) (a : Account) (v : Reversal) (h 
       let o = opens (s .counts) _ (d .rest) (request (d .message) (pending k) k) refl (rw (d .requests-are) at (h .books)) in
       rw (left-reversal (messageIn b) (a .requests) t, d .requests-are)
       (record {
-        sendings-set = h .sendings-set; shaped = h .shaped;
+        sendings-set = h .sendings-set;
+        shaped = h .shaped;
         books = reopens (s .counts) _ (d .rest) (request (d .message) (out (k + 1) (messageIn b)) (k + 1)) refl o;
         shape =
-          record {
-            message = d .message; reversal = messageIn b; rest = d .rest; requests-are = refl; done = d .done; few = few-more;
-            said = said; never-closes = other-closes t } })
+            record {
+              message = d .message;
+              reversal = messageIn b;
+              rest = d .rest;
+              requests-are = refl;
+              done = d .done;
+              few = few-more;
+              said = said;
+              never-closes = other-closes t;
+            };
+      })
 
   reversal-lawful : (b : List ℕ) → Typed false true false false (messageIn b) → Lawful (left b) a
   reversal-lawful b t =
       lawful-left b a
       (record {
-        settlement = no (t .is-settlement); after-request = no (t .is-request); after-settlement = no (t .is-settlement);
+        settlement = no (t .is-settlement);
+        after-request = no (t .is-request);
+        after-settlement = no (t .is-settlement);
         after-reversal =
-          λ x. one-reversing l (request (h .shape .message) (pending (v .sendings)) (v .sendings)) (h .shape .rest) (a .requests) refl
-          (h .shape .requests-are) (h .shape .done) })
+            λ x. one-reversing l (request (h .shape .message) (pending (v .sendings)) (v .sendings)) (h .shape .rest) (a .requests) refl
+            (h .shape .requests-are) (h .shape .done);
+      })
 
   reversal-after : After l reverses a (sendFrom (Pending v) (during (Pending v) s) j m)
   reversal-after =
       let said = reversal-says (s .settings) (s .batch) m (f .message-room) (f .order .batch-most) (again v) card-held
-          (reversal-holds v (f .order .phase-form)) in
+      (reversal-holds v (f .order .phase-form)) in
       let b = handedOut (messageBytes (reversalMessage (s .settings) (s .batch) (again v))) m in
       record { tied = reversal-tied b said; lawful = reversal-lawful b (reversal-typed (messageIn b) (said .indicator)) }
 

@@ -31,8 +31,13 @@ begun-holds : (x : Settings) (j : List ℕ) → SettingsShaped x → Holds (x .s
 begun-holds x j w =
     record {
       tied =
-        record { sendings-set = refl; shaped = w; books = no-books; shape = tt };
-      settlements = tt; no-request = tt; no-settlement = tt; reversals = tt; limited = tt }
+          record { sendings-set = refl; shaped = w; books = no-books; shape = tt };
+      settlements = tt;
+      no-request = tt;
+      no-settlement = tt;
+      reversals = tt;
+      limited = tt;
+    }
 
 one-holds : (l : ℕ) (t : Turn) (r : Run) → EventShaped (t .event) → Holds l r
     → Holds l (noted t r (call (t .event) (r .state) (r .journal) (t .message)))
@@ -44,7 +49,8 @@ one-holds l t r w h =
       no-request = (k .lawful .no-request, h .no-request);
       no-settlement = (k .lawful .no-settlement, h .no-settlement);
       reversals = (k .lawful .reversals, h .reversals);
-      limited = (bounded (k .tied) .few, h .limited) }
+      limited = (bounded (k .tied) .few, h .limited);
+    }
 
 all-hold : (ts : List Turn) (l : ℕ) (r : Run) → TurnsShaped ts → Holds l r → Holds l (runs ts r)
 all-hold [] l r w h = h
@@ -57,7 +63,11 @@ stands l r h =
       counts = counts-are (r .state .counts) (account l (r .history) .requests) (h .tied .books .counted);
       balance = balanced (account l (r .history) .requests);
       one-waits = bounded (h .tied) .one-waits;
-      no-request = h .no-request; no-settlement = h .no-settlement; reversals = h .reversals; limited = h .limited }
+      no-request = h .no-request;
+      no-settlement = h .no-settlement;
+      reversals = h .reversals;
+      limited = h .limited;
+    }
 
 pub demand3 : Demand3
 demand3 x j ts w v = stands (x .sendings) (runs ts (begun x j)) (all-hold ts (x .sendings) (begun x j) v (begun-holds x j w))

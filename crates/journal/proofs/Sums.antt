@@ -173,8 +173,11 @@ totals-last es e =
 abbrev gathered : Totals → List Entry → Totals
 gathered t es =
     record {
-      debit = t .debit + sumOf debitEntry (λ e. e .amount) es; debits = t .debits + sumOf debitEntry (λ e. 1) es;
-      credit = t .credit + sumOf creditEntry (λ e. e .amount) es; credits = t .credits + sumOf creditEntry (λ e. 1) es }
+      debit = t .debit + sumOf debitEntry (λ e. e .amount) es;
+      debits = t .debits + sumOf debitEntry (λ e. 1) es;
+      credit = t .credit + sumOf creditEntry (λ e. e .amount) es;
+      credits = t .credits + sumOf creditEntry (λ e. 1) es;
+    }
 
 gathered-none : (t : Totals) → gathered t [] ≡ t
 gathered-none t = rw (add-zero (t .debit), add-zero (t .debits), add-zero (t .credit), add-zero (t .credits))
@@ -198,14 +201,23 @@ pub record Gathering (es : List Entry) (i : ℕ) (left : List Entry) (t : Totals
 pub gathering-none : (es : List Entry) → Gathering es 0 es (record { debit = 0; debits = 0; credit = 0; credits = 0 })
 gathering-none es =
     record {
-      eq = gathered-all es; debit-bound = omega arith; credit-bound = omega arith; debits-bound = omega arith; credits-bound = omega arith }
+      eq = gathered-all es;
+      debit-bound = omega arith;
+      credit-bound = omega arith;
+      debits-bound = omega arith;
+      credits-bound = omega arith;
+    }
 
 pub gathering-room : {es left : List Entry} {i : ℕ} {t : Totals} (e : Entry) → Gathering es i left t
     → i < 65535 → e .amount < 1000000000000 → Room t e
 gathering-room e r h a =
     record {
-      debit-small = omega (arith, r .debit-bound); credit-small = omega (arith, r .credit-bound);
-      debits-small = omega (arith, r .debits-bound); credits-small = omega (arith, r .credits-bound); amount-small = a }
+      debit-small = omega (arith, r .debit-bound);
+      credit-small = omega (arith, r .credit-bound);
+      debits-small = omega (arith, r .debits-bound);
+      credits-small = omega (arith, r .credits-bound);
+      amount-small = a;
+    }
 
 pub gathering-more : {es left : List Entry} {i : ℕ} {t : Totals} {e : Entry} → Gathering es i (e ∷ left) t → e .amount < 1000000000000
     → Gathering es (i + 1) left (withEntry t e)

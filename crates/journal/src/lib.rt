@@ -18,10 +18,7 @@ pub enum Found {
 // What an entry is looked for by.
 pub enum Query {
     Trace(Trace),
-    Original {
-        kind: u8,
-        trace: Trace,
-    },
+    Original { kind: u8, trace: Trace },
     Due(u8),
 }
 

@@ -56,12 +56,26 @@ more-order : (q : Request) (s : State) (es fs : List Entry) → InOrder (during 
     → totalsOf fs .debit ≤ 999999999999 → totalsOf fs .credit ≤ 999999999999 → InOrder (oneMore s) fs
 more-order q s es fs h l p d c =
     record {
-      few = omega arith; settings = h .settings;
-      batch-least = h .batch-least; batch-most = h .batch-most; next-least = h .next-least; next-most = h .next-most;
-      sent-most = h .sent-most; phase-form = refl;
-      form = p .form; voided = p .voided; unmarked = p .unmarked; resends = p .resends; silent = p .silent; apart = p .apart;
-      debit-most = d; credit-most = c;
-      balance = omega arith; approvals = omega arith; phase-kept = refl }
+      few = omega arith;
+      settings = h .settings;
+      batch-least = h .batch-least;
+      batch-most = h .batch-most;
+      next-least = h .next-least;
+      next-most = h .next-most;
+      sent-most = h .sent-most;
+      phase-form = refl;
+      form = p .form;
+      voided = p .voided;
+      unmarked = p .unmarked;
+      resends = p .resends;
+      silent = p .silent;
+      apart = p .apart;
+      debit-most = d;
+      credit-most = c;
+      balance = omega arith;
+      approvals = omega arith;
+      phase-kept = refl;
+    }
 
 -- the entry of an approval has the request's values
 record IsOf (q : Request) (e : Entry) : Type 0 where
@@ -77,7 +91,10 @@ entry-of q a s f =
     record {
       shaped = s;
       new = record { in-form = f; unvoided = refl; unmarked = refl; unsent = refl };
-      kind = refl; amount = refl; trace = refl }
+      kind = refl;
+      amount = refl;
+      trace = refl;
+    }
 
 written-fit : (q : Request) (e : Entry) (s : State) (j k m : List ℕ) → Fit (during (Waiting (awaited.Request q)) s) j m → IsOf q e
     → KeepsPlain (s .entries) (s .settings .sendings) j k → Fit (oneMore s) (putEntry (s .entries) e k) m
@@ -90,14 +107,15 @@ written-fit q e s j k m h o v =
     let t = sums-last es e (rw (v .totals) (h .order .debit-most)) (rw (v .totals) (h .order .credit-most)) p in
     let r : entrySize * n + entrySize ≤ length k = rw (v .room) (omega (arith, h .journal-room, w .place)) in
     let y : entriesOf (n + 1) (putEntry n e k) ≡ es ++ (e ∷ []) =
-        rw (add-one n) (put-appends n e k (o .shaped) (o .new .in-form) r) in
+    rw (add-one n) (put-appends n e k (o .shaped) (o .new .in-form) r) in
     record {
       message-room = h .message-room;
       journal-room = rw (length-put n e k (length-encode e (o .shaped)), v .room) (h .journal-room);
       order =
-        rw y
-        (more-order q s (entriesOf n j) (es ++ (e ∷ [])) (h .order) (w .place)
-        (plain-last (s .settings .sendings) es e (v .plain) (o .new) f) (t .0) (t .1)) }
+          rw y
+          (more-order q s (entriesOf n j) (es ++ (e ∷ [])) (h .order) (w .place)
+          (plain-last (s .settings .sendings) es e (v .plain) (o .new) f) (t .0) (t .1));
+    }
 
 pub approved-fit : (q : Request) (a : Message) (s : State) (j m : List ℕ) → Fit (during (Waiting (awaited.Request q)) s) j m
     → Shaped (approvedEntry q a) → inForm (approvedEntry q a) ≡ true

@@ -108,7 +108,7 @@ module _ (a : Message) (good : Bool) (enters : EntersForm a) (s : State) (j m : 
     where
       go : (x y : Bool) → approves a ≡ x
           → FitsAfter (cond x (cond y (approved q a s j) (changed (doubted BadMac q s) j))
-            (changed (inPhase Resting (oneDeclined (s .counts)) s) j)) m
+          (changed (inPhase Resting (oneDeclined (s .counts)) s) j)) m
       go true true e = approved-fit q a s j m h (shaped q a) (enters q (h .order .phase-form) n e)
       go true false e = doubted-fit s j m BadMac q h
       go false y e = declined-fit s j m q h

@@ -71,15 +71,16 @@ plain-voided : (l i : ℕ) (es : List Entry) → Plain l es → isVoidable (entr
 plain-voided l i es h v =
     record {
       form =
-        every-after (λ m e. inForm e) (λ m e. inForm e) (withVoided 1) 0 i es (h .form) (λ m k o p. p)
-        (λ k. voided-form 1 (entryAt es i) (omega arith) (every-at (λ m e. inForm e) 0 es (h .form) i k));
+          every-after (λ m e. inForm e) (λ m e. inForm e) (withVoided 1) 0 i es (h .form) (λ m k o p. p)
+          (λ k. voided-form 1 (entryAt es i) (omega arith) (every-at (λ m e. inForm e) 0 es (h .form) i k));
       voided =
-        every-after (λ m e. keepsVoided e) (λ m e. keepsVoided e) (withVoided 1) 0 i es (h .voided) (λ m k o p. p)
-        (λ k. voided-voidable 1 (entryAt es i) v);
+          every-after (λ m e. keepsVoided e) (λ m e. keepsVoided e) (withVoided 1) 0 i es (h .voided) (λ m k o p. p)
+          (λ k. voided-voidable 1 (entryAt es i) v);
       unmarked = every-changed (λ m e. keepsUnmarked false e) (withVoided 1) (λ m e. voided-unmarked 1 e) i 0 es ∙ h .unmarked;
       resends = every-changed (λ m e. keepsResends l e) (withVoided 1) (λ m e. voided-resends 1 e l) i 0 es ∙ h .resends;
       silent = every-changed (λ m e. keepsSilent l false e) (withVoided 1) (λ m e. voided-silent 1 e l) i 0 es ∙ h .silent;
-      apart = distinct-changed (withVoided 1) (voided-trace 1) i es ∙ h .apart }
+      apart = distinct-changed (withVoided 1) (voided-trace 1) i es ∙ h .apart;
+    }
 
 -- what the voiding of an original keeps
 pub record KeepsPlain (n l : ℕ) (j k : List ℕ) : Type 0 where
@@ -110,7 +111,8 @@ original-kept n l q j h = go (takesOriginal (q .kind)) (firstOf original 0 (entr
           room = length-set-byte i 1 1 j;
           plain = rw c (plain-voided l i es h (rw k (original-voidable (q .kind))));
           totals = rw c (totals-changed (withVoided 1) (voided-totals 1) i es);
-          absent-same = λ x. rw c (absent-changed (withVoided 1) (voided-trace 1) x i es) }
+          absent-same = λ x. rw c (absent-changed (withVoided 1) (voided-trace 1) x i es);
+        }
 
     go : (b : Bool) (f : Found) → firstOf original 0 (entriesOf n j) ≡ f → KeepsPlain n l j (cond b (voidedAt f j) j)
     go true (At i) e = one i e
@@ -154,7 +156,8 @@ plain-last l es e h n a =
       unmarked = every-more (keepsUnmarked false) es e (h .unmarked) (new-unmarked e n);
       resends = every-more (keepsResends l) es e (h .resends) (new-resends e n l);
       silent = every-more (keepsSilent l false) es e (h .silent) (new-silent e n l);
-      apart = distinct-last es e ∙ rw (h .apart, a) }
+      apart = distinct-last es e ∙ rw (h .apart, a);
+    }
 
 -- sums that one amount more does not carry past rule 21
 pub sums-last : (es : List Entry) (e : Entry) → totalsOf es .debit ≤ 999999999999 → totalsOf es .credit ≤ 999999999999

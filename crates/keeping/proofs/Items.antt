@@ -68,25 +68,34 @@ marked-order s es i x h a b c =
     let n = next-at es i (item-next (nextDue es) i (h .phase-kept)) in
     let t = totals-changed (withMark x) (mark-totals x) i es in
     record {
-      few = h .few; settings = h .settings;
-      batch-least = h .batch-least; batch-most = h .batch-most; next-least = h .next-least; next-most = h .next-most;
-      sent-most = h .sent-most; phase-form = refl;
+      few = h .few;
+      settings = h .settings;
+      batch-least = h .batch-least;
+      batch-most = h .batch-most;
+      next-least = h .next-least;
+      next-most = h .next-most;
+      sent-most = h .sent-most;
+      phase-form = refl;
       form =
-        every-after (λ m e. inForm e) (λ m e. inForm e) (withMark x) 0 i es (h .form) (λ m k o p. p)
-        (λ k. mark-form x (entryAt es i) b (every-at (λ m e. inForm e) 0 es (h .form) i k));
+          every-after (λ m e. inForm e) (λ m e. inForm e) (withMark x) 0 i es (h .form) (λ m k o p. p)
+          (λ k. mark-form x (entryAt es i) b (every-at (λ m e. inForm e) 0 es (h .form) i k));
       voided = every-changed (λ m e. keepsVoided e) (withMark x) (λ m e. mark-voided x e) i 0 es ∙ h .voided;
       unmarked =
-        every-after (λ m e. keepsUnmarked true e) (λ m e. keepsUnmarked true e) (withMark x) 0 i es (h .unmarked) (λ m k o p. p)
-        (λ k. mark-unmarked x (entryAt es i) (n .due));
+          every-after (λ m e. keepsUnmarked true e) (λ m e. keepsUnmarked true e) (withMark x) 0 i es (h .unmarked) (λ m k o p. p)
+          (λ k. mark-unmarked x (entryAt es i) (n .due));
       resends =
-        every-after (λ m e. keepsResends l e) (λ m e. keepsResends l e) (withMark x) 0 i es (h .resends) (λ m k o p. p)
-        (λ k. mark-resends x (entryAt es i) l a (every-at (λ m e. keepsResends l e) 0 es (h .resends) i k));
+          every-after (λ m e. keepsResends l e) (λ m e. keepsResends l e) (withMark x) 0 i es (h .resends) (λ m k o p. p)
+          (λ k. mark-resends x (entryAt es i) l a (every-at (λ m e. keepsResends l e) 0 es (h .resends) i k));
       silent =
-        every-after (λ m e. keepsSilent l (isAt (At i) m) e) (λ m e. keepsSilent l false e) (withMark x) 0 i es (h .silent)
-        (λ m k o. not-item l i (0 + m) (entryAt es m) (λ q. o (omega arith))) (λ k. mark-silent x (entryAt es i) l c);
+          every-after (λ m e. keepsSilent l (isAt (At i) m) e) (λ m e. keepsSilent l false e) (withMark x) 0 i es (h .silent)
+          (λ m k o. not-item l i (0 + m) (entryAt es m) (λ q. o (omega arith))) (λ k. mark-silent x (entryAt es i) l c);
       apart = distinct-changed (withMark x) (mark-trace x) i es ∙ h .apart;
-      debit-most = rw t (h .debit-most); credit-most = rw t (h .credit-most);
-      balance = h .balance; approvals = h .approvals; phase-kept = refl }
+      debit-most = rw t (h .debit-most);
+      credit-most = rw t (h .credit-most);
+      balance = h .balance;
+      approvals = h .approvals;
+      phase-kept = refl;
+    }
 
 -- silence: a mark 1 that is left has a resend left
 silent-bounds : (l : ℕ) (e : Entry) → (1 ≤ silentMark l e) × (silentMark l e ≤ 4)
@@ -118,7 +127,8 @@ module _ (s : State) (j m : List ℕ) (i : ℕ) (h : Fit (during (Waiting (await
       record {
         message-room = h .message-room;
         journal-room = rw (length-set-byte i 2 x j) (h .journal-room);
-        order = rw (set-mark (s .entries) i x j) (marked-order s (entriesOf (s .entries) j) i x (h .order) a b c) }
+        order = rw (set-mark (s .entries) i x j) (marked-order s (entriesOf (s .entries) j) i x (h .order) a b c);
+      }
 
   pub silent-item :
       Fit (during Uploading s) (marked i (silentMark (s .settings .sendings) (entryAt (entriesOf (s .entries) j) i)) j) m

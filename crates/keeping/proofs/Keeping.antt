@@ -33,4 +33,5 @@ keeping =
       power-returns = λ s j m h. stays s j m (powerReturned s j m) h (power-returned-fits s j m);
       sends-reversal = λ s j m h. stays s j m (sendReversal s j m) h (send-reversal-fits s j m);
       settles = λ s j m h. stays s j m (settle s j m) h (settle-fits s j m);
-      uploads = λ s j m h. stays s j m (sendNextUpload s j m) h (upload-fits s j m) }
+      uploads = λ s j m h. stays s j m (sendNextUpload s j m) h (upload-fits s j m);
+    }

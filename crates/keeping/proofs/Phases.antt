@@ -48,15 +48,31 @@ pub moved : (p : Phase) (c : Counts) (s : State) (j m : List ℕ) → Fit s j m 
 moved p c s j m f w =
     let h = f .order in
     record {
-      message-room = f .message-room; journal-room = f .journal-room;
+      message-room = f .message-room;
+      journal-room = f .journal-room;
       order =
-        record {
-          few = h .few; settings = h .settings;
-          batch-least = h .batch-least; batch-most = h .batch-most; next-least = h .next-least; next-most = h .next-most;
-          sent-most = omega arith; phase-form = w .phase-form;
-          form = h .form; voided = h .voided; unmarked = w .unmarked; resends = h .resends; silent = w .silent; apart = h .apart;
-          debit-most = h .debit-most; credit-most = h .credit-most;
-          balance = w .balance; approvals = w .approved-same ∙ h .approvals; phase-kept = w .phase-kept } }
+          record {
+            few = h .few;
+            settings = h .settings;
+            batch-least = h .batch-least;
+            batch-most = h .batch-most;
+            next-least = h .next-least;
+            next-most = h .next-most;
+            sent-most = omega arith;
+            phase-form = w .phase-form;
+            form = h .form;
+            voided = h .voided;
+            unmarked = w .unmarked;
+            resends = h .resends;
+            silent = w .silent;
+            apart = h .apart;
+            debit-most = h .debit-most;
+            credit-most = h .credit-most;
+            balance = w .balance;
+            approvals = w .approved-same ∙ h .approvals;
+            phase-kept = w .phase-kept;
+          };
+    }
 
 -- no mark stands as the upload begins
 upload-begins : (e : Entry) → keepsUnmarked false e ≡ true → keepsUnmarked true e ≡ true
@@ -81,26 +97,43 @@ module _ (s : State) (j m : List ℕ) where
     where
       go : (b : Bool) → eqb (q .kind) 25 ≡ b
           → Fit (cond b (inPhase Resting (oneUnanswered (s .counts)) s)
-            (during (Pending (record { request = q; reason = r; sendings = 0 })) s)) j m
+          (during (Pending (record { request = q; reason = r; sendings = 0 })) s)) j m
       go true e =
           moved Resting (oneUnanswered (s .counts)) (during (Waiting (awaited.Request q)) s) j m h
           (record {
-            sent-same = refl; approved-same = refl; phase-form = refl; unmarked = h .order .unmarked; silent = h .order .silent;
-            balance = omega arith; phase-kept = refl })
+            sent-same = refl;
+            approved-same = refl;
+            phase-form = refl;
+            unmarked = h .order .unmarked;
+            silent = h .order .silent;
+            balance = omega arith;
+            phase-kept = refl;
+          })
       go false e =
           moved (Pending (record { request = q; reason = r; sendings = 0 })) (s .counts) (during (Waiting (awaited.Request q)) s) j m h
           (record {
-            sent-same = refl; approved-same = refl; phase-form = reversal-form q r 0 (h .order .phase-form) e;
-            unmarked = h .order .unmarked; silent = h .order .silent; balance = h .order .balance;
-            phase-kept = lt-ltb 0 (s .settings .sendings) (h .order .settings .sendings-least) })
+            sent-same = refl;
+            approved-same = refl;
+            phase-form = reversal-form q r 0 (h .order .phase-form) e;
+            unmarked = h .order .unmarked;
+            silent = h .order .silent;
+            balance = h .order .balance;
+            phase-kept = lt-ltb 0 (s .settings .sendings) (h .order .settings .sendings-least);
+          })
 
   pub declined-fit : (q : Request) → Fit (during (Waiting (awaited.Request q)) s) j m
       → Fit (inPhase Resting (oneDeclined (s .counts)) s) j m
   declined-fit q h =
       moved Resting (oneDeclined (s .counts)) (during (Waiting (awaited.Request q)) s) j m h
       (record {
-        sent-same = refl; approved-same = refl; phase-form = refl; unmarked = h .order .unmarked; silent = h .order .silent;
-        balance = omega arith; phase-kept = refl })
+        sent-same = refl;
+        approved-same = refl;
+        phase-form = refl;
+        unmarked = h .order .unmarked;
+        silent = h .order .silent;
+        balance = omega arith;
+        phase-kept = refl;
+      })
 
   -- a reversal's sending failed
   pub failed-fit : (v : Reversal) → Fit (during (Waiting (awaited.Reversal v)) s) j m → Fit (failed v s) j m
@@ -112,22 +145,39 @@ module _ (s : State) (j m : List ℕ) where
       go true e =
           moved Resting (oneGivenUp (s .counts)) (during (Waiting (awaited.Reversal v)) s) j m h
           (record {
-            sent-same = refl; approved-same = refl; phase-form = refl; unmarked = h .order .unmarked; silent = h .order .silent;
-            balance = omega arith; phase-kept = refl })
+            sent-same = refl;
+            approved-same = refl;
+            phase-form = refl;
+            unmarked = h .order .unmarked;
+            silent = h .order .silent;
+            balance = omega arith;
+            phase-kept = refl;
+          })
       go false e =
           moved (Pending v) (s .counts) (during (Waiting (awaited.Reversal v)) s) j m h
           (record {
-            sent-same = refl; approved-same = refl; phase-form = h .order .phase-form;
-            unmarked = h .order .unmarked; silent = h .order .silent; balance = h .order .balance;
-            phase-kept = lt-ltb (v .sendings) (s .settings .sendings) (leb-false _ _ e) })
+            sent-same = refl;
+            approved-same = refl;
+            phase-form = h .order .phase-form;
+            unmarked = h .order .unmarked;
+            silent = h .order .silent;
+            balance = h .order .balance;
+            phase-kept = lt-ltb (v .sendings) (s .settings .sendings) (leb-false _ _ e);
+          })
 
   pub reversed-fit : (v : Reversal) → Fit (during (Waiting (awaited.Reversal v)) s) j m
       → Fit (inPhase Resting (oneReversed (s .counts)) s) j m
   reversed-fit v h =
       moved Resting (oneReversed (s .counts)) (during (Waiting (awaited.Reversal v)) s) j m h
       (record {
-        sent-same = refl; approved-same = refl; phase-form = refl; unmarked = h .order .unmarked; silent = h .order .silent;
-        balance = omega arith; phase-kept = refl })
+        sent-same = refl;
+        approved-same = refl;
+        phase-form = refl;
+        unmarked = h .order .unmarked;
+        silent = h .order .silent;
+        balance = omega arith;
+        phase-kept = refl;
+      })
 
   -- a pending reversal leaves again
   pub again-fit : (v : Reversal) → Fit (during (Pending v) s) j m → Fit (during (Waiting (awaited.Reversal (again v))) s) j m
@@ -135,34 +185,56 @@ module _ (s : State) (j m : List ℕ) where
       let l : v .sendings < s .settings .sendings = ltb-true (v .sendings) (s .settings .sendings) (h .order .phase-kept) in
       moved (Waiting (awaited.Reversal (again v))) (s .counts) (during (Pending v) s) j m h
       (record {
-        sent-same = refl; approved-same = refl; phase-form = again-form v (h .order .phase-form);
-        unmarked = h .order .unmarked; silent = h .order .silent; balance = h .order .balance;
-        phase-kept = within-yes 1 (v .sendings + 1) (s .settings .sendings) (omega arith) (omega arith) })
+        sent-same = refl;
+        approved-same = refl;
+        phase-form = again-form v (h .order .phase-form);
+        unmarked = h .order .unmarked;
+        silent = h .order .silent;
+        balance = h .order .balance;
+        phase-kept = within-yes 1 (v .sendings + 1) (s .settings .sendings) (omega arith) (omega arith);
+      })
 
   -- a settlement unanswered, or answered by an upload; the upload's end, not closed
   pub settling-fit : (x : Trace) → Fit (during (Waiting (awaited.Settlement x)) s) j m → Fit (during Settling s) j m
   settling-fit x h =
       moved Settling (s .counts) (during (Waiting (awaited.Settlement x)) s) j m h
       (record {
-        sent-same = refl; approved-same = refl; phase-form = refl; unmarked = h .order .unmarked; silent = h .order .silent;
-        balance = h .order .balance; phase-kept = refl })
+        sent-same = refl;
+        approved-same = refl;
+        phase-form = refl;
+        unmarked = h .order .unmarked;
+        silent = h .order .silent;
+        balance = h .order .balance;
+        phase-kept = refl;
+      })
 
   pub uploading-fit : (x : Trace) → Fit (during (Waiting (awaited.Settlement x)) s) j m → Fit (during Uploading s) j m
   uploading-fit x h =
       moved Uploading (s .counts) (during (Waiting (awaited.Settlement x)) s) j m h
       (record {
-        sent-same = refl; approved-same = refl; phase-form = refl;
+        sent-same = refl;
+        approved-same = refl;
+        phase-form = refl;
         unmarked =
-          every-implies (λ i e. keepsUnmarked false e) (λ i e. keepsUnmarked true e) (λ i e. upload-begins e)
-          0 (entriesOf (s .entries) j) (h .order .unmarked);
-        silent = h .order .silent; balance = h .order .balance; phase-kept = refl })
+            every-implies (λ i e. keepsUnmarked false e) (λ i e. keepsUnmarked true e) (λ i e. upload-begins e)
+            0 (entriesOf (s .entries) j) (h .order .unmarked);
+        silent = h .order .silent;
+        balance = h .order .balance;
+        phase-kept = refl;
+      })
 
   pub ending-fit : (x : Trace) → Fit (during (Waiting (awaited.End x)) s) j m → Fit (during Uploading s) j m
   ending-fit x h =
       moved Uploading (s .counts) (during (Waiting (awaited.End x)) s) j m h
       (record {
-        sent-same = refl; approved-same = refl; phase-form = refl; unmarked = h .order .unmarked; silent = h .order .silent;
-        balance = h .order .balance; phase-kept = refl })
+        sent-same = refl;
+        approved-same = refl;
+        phase-form = refl;
+        unmarked = h .order .unmarked;
+        silent = h .order .silent;
+        balance = h .order .balance;
+        phase-kept = refl;
+      })
 
   -- a closed batch
   pub closed-fit : Fit s j m → Fit (closed s) j m
@@ -170,47 +242,111 @@ module _ (s : State) (j m : List ℕ) where
   closed-fit h =
       let f = following-range (s .batch .0) in
       record {
-        message-room = h .message-room; journal-room = h .journal-room;
+        message-room = h .message-room;
+        journal-room = h .journal-room;
         order =
-          record {
-            few = omega arith; settings = h .order .settings;
-            batch-least = f .0; batch-most = f .1; next-least = h .order .next-least; next-most = h .order .next-most;
-            sent-most = omega arith; phase-form = refl;
-            form = refl; voided = refl; unmarked = refl; resends = refl; silent = refl; apart = refl;
-            debit-most = omega arith; credit-most = omega arith;
-            balance = refl; approvals = refl; phase-kept = refl } }
+            record {
+              few = omega arith;
+              settings = h .order .settings;
+              batch-least = f .0;
+              batch-most = f .1;
+              next-least = h .order .next-least;
+              next-most = h .order .next-most;
+              sent-most = omega arith;
+              phase-form = refl;
+              form = refl;
+              voided = refl;
+              unmarked = refl;
+              resends = refl;
+              silent = refl;
+              apart = refl;
+              debit-most = omega arith;
+              credit-most = omega arith;
+              balance = refl;
+              approvals = refl;
+              phase-kept = refl;
+            };
+      }
 
   -- another trace is next
   pub next-fit : (x : Trace) → 1 ≤ x .0 → x .0 ≤ 999999 → Fit s j m
       → Fit (record {
-        settings = s .settings; «signed_on» = s .«signed_on»; batch = s .batch; next = x; entries = s .entries; counts = s .counts;
-        phase = s .phase }) j m
+        settings = s .settings;
+        «signed_on» = s .«signed_on»;
+        batch = s .batch;
+        next = x;
+        entries = s .entries;
+        counts = s .counts;
+        phase = s .phase;
+      }) j m
   next-fit x a b f =
       let h = f .order in
       record {
-        message-room = f .message-room; journal-room = f .journal-room;
+        message-room = f .message-room;
+        journal-room = f .journal-room;
         order =
-          record {
-            few = h .few; settings = h .settings; batch-least = h .batch-least; batch-most = h .batch-most; next-least = a; next-most = b;
-            sent-most = h .sent-most; phase-form = h .phase-form; form = h .form; voided = h .voided; unmarked = h .unmarked;
-            resends = h .resends; silent = h .silent; apart = h .apart; debit-most = h .debit-most; credit-most = h .credit-most;
-            balance = h .balance; approvals = h .approvals; phase-kept = h .phase-kept } }
+            record {
+              few = h .few;
+              settings = h .settings;
+              batch-least = h .batch-least;
+              batch-most = h .batch-most;
+              next-least = a;
+              next-most = b;
+              sent-most = h .sent-most;
+              phase-form = h .phase-form;
+              form = h .form;
+              voided = h .voided;
+              unmarked = h .unmarked;
+              resends = h .resends;
+              silent = h .silent;
+              apart = h .apart;
+              debit-most = h .debit-most;
+              credit-most = h .credit-most;
+              balance = h .balance;
+              approvals = h .approvals;
+              phase-kept = h .phase-kept;
+            };
+      }
 
   -- signing on or off, perhaps in another batch
   pub signed-fit : (on : Bool) (batch : Batch) → 1 ≤ batch .0 → batch .0 ≤ 999999 → Fit s j m
       → Fit (record {
-        settings = s .settings; «signed_on» = on; batch = batch; next = s .next; entries = s .entries; counts = s .counts;
-        phase = s .phase }) j m
+        settings = s .settings;
+        «signed_on» = on;
+        batch = batch;
+        next = s .next;
+        entries = s .entries;
+        counts = s .counts;
+        phase = s .phase;
+      }) j m
   signed-fit on batch a b f =
       let h = f .order in
       record {
-        message-room = f .message-room; journal-room = f .journal-room;
+        message-room = f .message-room;
+        journal-room = f .journal-room;
         order =
-          record {
-            few = h .few; settings = h .settings; batch-least = a; batch-most = b; next-least = h .next-least; next-most = h .next-most;
-            sent-most = h .sent-most; phase-form = h .phase-form; form = h .form; voided = h .voided; unmarked = h .unmarked;
-            resends = h .resends; silent = h .silent; apart = h .apart; debit-most = h .debit-most; credit-most = h .credit-most;
-            balance = h .balance; approvals = h .approvals; phase-kept = h .phase-kept } }
+            record {
+              few = h .few;
+              settings = h .settings;
+              batch-least = a;
+              batch-most = b;
+              next-least = h .next-least;
+              next-most = h .next-most;
+              sent-most = h .sent-most;
+              phase-form = h .phase-form;
+              form = h .form;
+              voided = h .voided;
+              unmarked = h .unmarked;
+              resends = h .resends;
+              silent = h .silent;
+              apart = h .apart;
+              debit-most = h .debit-most;
+              credit-most = h .credit-most;
+              balance = h .balance;
+              approvals = h .approvals;
+              phase-kept = h .phase-kept;
+            };
+      }
 
   pub off-fit : Fit s j m → Fit (signedOff s) j m
   off-fit h = signed-fit false (s .batch) (h .order .batch-least) (h .order .batch-most) h

@@ -28,4 +28,5 @@ sent-fits bs s j m h =
     record {
       message-room = simp (length-append, length-drop) (omega (arith, h .message-room));
       journal-room = h .journal-room;
-      order = h .order }
+      order = h .order;
+    }

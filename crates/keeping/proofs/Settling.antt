@@ -27,15 +27,27 @@ settles-from : (p : Phase) → isWaiting p ≡ false → isPending p ≡ false �
 settles-from Resting w v u s j m x a b h =
     moved (Waiting (awaited.Settlement x)) (s .counts) (during Resting s) j m h
     (record {
-      sent-same = refl; approved-same = refl; phase-form = within-yes 1 (x .0) 999999 a b;
-      unmarked = h .order .unmarked; silent = h .order .silent; balance = h .order .balance; phase-kept = refl })
+      sent-same = refl;
+      approved-same = refl;
+      phase-form = within-yes 1 (x .0) 999999 a b;
+      unmarked = h .order .unmarked;
+      silent = h .order .silent;
+      balance = h .order .balance;
+      phase-kept = refl;
+    })
 settles-from (Waiting y) w v u s j m x a b h = absurd (true≢false w)
 settles-from (Pending r) w v u s j m x a b h = absurd (true≢false v)
 settles-from Settling w v u s j m x a b h =
     moved (Waiting (awaited.Settlement x)) (s .counts) (during Settling s) j m h
     (record {
-      sent-same = refl; approved-same = refl; phase-form = within-yes 1 (x .0) 999999 a b;
-      unmarked = h .order .unmarked; silent = h .order .silent; balance = h .order .balance; phase-kept = refl })
+      sent-same = refl;
+      approved-same = refl;
+      phase-form = within-yes 1 (x .0) 999999 a b;
+      unmarked = h .order .unmarked;
+      silent = h .order .silent;
+      balance = h .order .balance;
+      phase-kept = refl;
+    })
 settles-from Uploading w v u s j m x a b h = absurd (true≢false u)
 
 settled-fits : (s : State) (j m : List ℕ) (x : Trace) → 1 ≤ x .0 → x .0 ≤ 999999 → Fit s j m

@@ -42,15 +42,31 @@ requested-fit q s j m f r k l =
     let h = f .order in
     let n = following-range (q .trace .0) in
     record {
-      message-room = f .message-room; journal-room = f .journal-room;
+      message-room = f .message-room;
+      journal-room = f .journal-room;
       order =
-        record {
-          few = h .few; settings = h .settings;
-          batch-least = h .batch-least; batch-most = h .batch-most; next-least = n .0; next-most = n .1;
-          sent-most = omega arith; phase-form = r;
-          form = h .form; voided = h .voided; unmarked = h .unmarked; resends = h .resends; silent = h .silent; apart = h .apart;
-          debit-most = h .debit-most; credit-most = h .credit-most;
-          balance = omega arith; approvals = h .approvals; phase-kept = k } }
+          record {
+            few = h .few;
+            settings = h .settings;
+            batch-least = h .batch-least;
+            batch-most = h .batch-most;
+            next-least = n .0;
+            next-most = n .1;
+            sent-most = omega arith;
+            phase-form = r;
+            form = h .form;
+            voided = h .voided;
+            unmarked = h .unmarked;
+            resends = h .resends;
+            silent = h .silent;
+            apart = h .apart;
+            debit-most = h .debit-most;
+            credit-most = h .credit-most;
+            balance = omega arith;
+            approvals = h .approvals;
+            phase-kept = k;
+          };
+    }
 
 -- rules 11, 12 and 13 leave one phase
 resting : (p : Phase) → isWaiting p ≡ false → isPending p ≡ false → isClosing p ≡ false → p ≡ Resting
@@ -81,7 +97,8 @@ original-found d es h (At i) q n v =
     record {
       is-form = every-at (λ i e. inForm e) 0 es h i (omega (arith, f .below));
       trace = original-trace (originalKind (d .kind)) (d .original .0) (entryAt es i) (rw z at (f .holds));
-      left = rw q (not-false _ v) }
+      left = rw q (not-false _ v);
+    }
 
 -- what the desk gives is judged: its kind, and its card where the kind takes no original
 desk-holds : (d : Desk) → deskInForm d ≡ true → (isKind (d .kind) ≡ true) × ((takesOriginal (d .kind) || isCard (d .card)) ≡ true)
@@ -96,10 +113,16 @@ module _ (d : Desk) (es : List Entry) (e : Entry) (n : ℕ) (least : 1 ≤ n) (m
       let x = o .trace in
       rw t
       (record {
-        kind-listed = kind; amount-least = f .amount-least; amount-most = f .amount-most;
-        card-least = f .digits-least; card-most = f .digits-most; card-below = number-below (e .digits) (e .card);
-        trace-least = least; trace-most = most;
-        original-form = rw t (within-yes 1 (d .original .0) 999999 (omega arith) (omega arith)) })
+        kind-listed = kind;
+        amount-least = f .amount-least;
+        amount-most = f .amount-most;
+        card-least = f .digits-least;
+        card-most = f .digits-most;
+        card-below = number-below (e .digits) (e .card);
+        trace-least = least;
+        trace-most = most;
+        original-form = rw t (within-yes 1 (d .original .0) 999999 (omega arith) (omega arith));
+      })
 
   -- another kind has the desk's
   desk-request-holds : takesOriginal (d .kind) ≡ false → isCard (d .card) ≡ true → within 1 (d .amount) 9999999999 ≡ true
@@ -109,9 +132,16 @@ module _ (d : Desk) (es : List Entry) (e : Entry) (n : ℕ) (least : 1 ≤ n) (m
       let w = within-bounds 1 (d .amount) 9999999999 a in
       rw t
       (record {
-        kind-listed = kind; amount-least = w .0; amount-most = w .1;
-        card-least = k .least; card-most = k .most; card-below = k .below;
-        trace-least = least; trace-most = most; original-form = rw t })
+        kind-listed = kind;
+        amount-least = w .0;
+        amount-most = w .1;
+        card-least = k .least;
+        card-most = k .most;
+        card-below = k .below;
+        trace-least = least;
+        trace-most = most;
+        original-form = rw t;
+      })
 
   request-of-holds : (takesOriginal (d .kind) || isCard (d .card)) ≡ true
       → (not (takesOriginal (d .kind)) && not (within 1 (d .amount) 9999999999)) ≡ false
@@ -158,12 +188,12 @@ started-fits d s j m f h q z =
     let desk = desk-holds d (not-false (deskInForm d) (passed 16 rs refl z)) in
     let full = or-false (leb (s .settings .limit) (s .entries)) (leb 900000 (s .counts .sent)) (passed 18 rs refl z) in
     let o : takesOriginal (d .kind) ≡ true → IsOriginal d es e =
-        λ t. original-found d es (h .order .form) f q
-        (rw q at (and-false (takesOriginal (d .kind)) (nowhere (originalOf d es)) (passed 19 rs refl z) t))
-        (and-false (takesOriginal (d .kind)) (not (eqb (e .voided) 0)) (passed 20 rs refl z) t) in
+    λ t. original-found d es (h .order .form) f q
+    (rw q at (and-false (takesOriginal (d .kind)) (nowhere (originalOf d es)) (passed 19 rs refl z) t))
+    (and-false (takesOriginal (d .kind)) (not (eqb (e .voided) 0)) (passed 20 rs refl z) t) in
     let range = taken-range es (s .next .0) (h .order .next-least) (h .order .next-most) in
     let free = taken-free es (s .next .0) (h .order .next-least) (h .order .next-most)
-        (omega (arith, length-entries-le (s .entries) j, h .order .few, h .order .settings .limit-most)) in
+    (omega (arith, length-entries-le (s .entries) j, h .order .few, h .order .settings .limit-most)) in
     requested-fit (requestOf d e n) s j m (subst (λ (p : Phase). Fit (during p s) j m) g h)
     (request-back (requestOf d e n)
     (request-of-holds d es e n (range .0) (range .1) (desk .0) (desk .1) (passed 15 rs refl z) o))

@@ -88,16 +88,21 @@ module _ (s : State) (j m : List ℕ) (i : ℕ) (h : Fit (during Uploading s) j 
       let l = s .settings .sendings in
       moved (Waiting (awaited.Item i)) (s .counts) (during Uploading s) j m h
       (record {
-        sent-same = refl; approved-same = refl; phase-form = refl; unmarked = h .order .unmarked;
+        sent-same = refl;
+        approved-same = refl;
+        phase-form = refl;
+        unmarked = h .order .unmarked;
         silent =
-          every-implies (λ k e. keepsSilent l false e) (λ k e. keepsSilent l (isAt (At i) k) e)
-          (λ k e. silent-awaited l (isAt (At i) k) e) 0 (entriesOf (s .entries) j) (h .order .silent);
-        balance = h .order .balance; phase-kept = rw n (eq-eqb i i refl) })
+            every-implies (λ k e. keepsSilent l false e) (λ k e. keepsSilent l (isAt (At i) k) e)
+            (λ k e. silent-awaited l (isAt (At i) k) e) 0 (entriesOf (s .entries) j) (h .order .silent);
+        balance = h .order .balance;
+        phase-kept = rw n (eq-eqb i i refl);
+      })
 
   -- once more: byte 3 grows by one, at most to L
   resent-order : entryAt (entriesOf (s .entries) j) i .mark ≡ 1
       → InOrder (during (Waiting (awaited.Item i)) s)
-        (changed i (withResends (entryAt (entriesOf (s .entries) j) i .resends + 1)) (entriesOf (s .entries) j))
+      (changed i (withResends (entryAt (entriesOf (s .entries) j) i .resends + 1)) (entriesOf (s .entries) j))
   resent-order k =
       let es = entriesOf (s .entries) j in
       let e = entryAt es i in
@@ -107,27 +112,35 @@ module _ (s : State) (j m : List ℕ) (i : ℕ) (h : Fit (during Uploading s) j 
       let r = next-at es i n in
       let t = totals-changed (withResends x) (resends-totals x) i es in
       let left = resend-left l e k (every-at (λ k e. keepsResends l e) 0 es (o .resends) i (r .below))
-          (every-at (λ k e. keepsSilent l false e) 0 es (o .silent) i (r .below)) in
+      (every-at (λ k e. keepsSilent l false e) 0 es (o .silent) i (r .below)) in
       record {
-        few = o .few; settings = o .settings;
-        batch-least = o .batch-least; batch-most = o .batch-most; next-least = o .next-least; next-most = o .next-most;
-        sent-most = o .sent-most; phase-form = refl;
+        few = o .few;
+        settings = o .settings;
+        batch-least = o .batch-least;
+        batch-most = o .batch-most;
+        next-least = o .next-least;
+        next-most = o .next-most;
+        sent-most = o .sent-most;
+        phase-form = refl;
         form = every-changed (λ k e. inForm e) (withResends x) (λ k e. resends-form x e) i 0 es ∙ o .form;
         voided = every-changed (λ k e. keepsVoided e) (withResends x) (λ k e. resends-voided x e) i 0 es ∙ o .voided;
         unmarked =
-          every-after (λ k e. keepsUnmarked true e) (λ k e. keepsUnmarked true e) (withResends x) 0 i es (o .unmarked) (λ k b d p. p)
-          (λ b. resends-unmarked x e (r .due));
+            every-after (λ k e. keepsUnmarked true e) (λ k e. keepsUnmarked true e) (withResends x) 0 i es (o .unmarked) (λ k b d p. p)
+            (λ b. resends-unmarked x e (r .due));
         resends =
-          every-after (λ k e. keepsResends l e) (λ k e. keepsResends l e) (withResends x) 0 i es (o .resends) (λ k b d p. p)
-          (λ b. resends-resends x e l left k);
+            every-after (λ k e. keepsResends l e) (λ k e. keepsResends l e) (withResends x) 0 i es (o .resends) (λ k b d p. p)
+            (λ b. resends-resends x e l left k);
         silent =
-          every-after (λ k e. keepsSilent l false e) (λ k e. keepsSilent l (isAt (At i) k) e) (withResends x) 0 i es (o .silent)
-          (λ k b d. silent-awaited l (isAt (At i) (0 + k)) (entryAt es k))
-          (λ b. rw (eq-eqb i (0 + i) (omega arith)) (silent-here l (withResends x e)));
+            every-after (λ k e. keepsSilent l false e) (λ k e. keepsSilent l (isAt (At i) k) e) (withResends x) 0 i es (o .silent)
+            (λ k b d. silent-awaited l (isAt (At i) (0 + k)) (entryAt es k))
+            (λ b. rw (eq-eqb i (0 + i) (omega arith)) (silent-here l (withResends x e)));
         apart = distinct-changed (withResends x) (resends-trace x) i es ∙ o .apart;
-        debit-most = rw t (o .debit-most); credit-most = rw t (o .credit-most);
-        balance = o .balance; approvals = o .approvals;
-        phase-kept = rw (next-resent x i es, n) (eq-eqb i i refl) }
+        debit-most = rw t (o .debit-most);
+        credit-most = rw t (o .credit-most);
+        balance = o .balance;
+        approvals = o .approvals;
+        phase-kept = rw (next-resent x i es, n) (eq-eqb i i refl);
+      }
 
   again-fit : entryAt (entriesOf (s .entries) j) i .mark ≡ 1
       → Fit (during (Waiting (awaited.Item i)) s) (setByte i 3 (entryAt (entriesOf (s .entries) j) i .resends + 1) j) m
@@ -136,7 +149,8 @@ module _ (s : State) (j m : List ℕ) (i : ℕ) (h : Fit (during Uploading s) j 
       record {
         message-room = h .message-room;
         journal-room = rw (length-set-byte i 3 x j) (h .journal-room);
-        order = rw (set-resends (s .entries) i x j) (resent-order k) }
+        order = rw (set-resends (s .entries) i x j) (resent-order k);
+      }
 
   item-fit : Fit (during (Waiting (awaited.Item i)) s) (resent i (entryAt (entriesOf (s .entries) j) i) j) m
   unfolding resent
@@ -146,7 +160,7 @@ module _ (s : State) (j m : List ℕ) (i : ℕ) (h : Fit (during Uploading s) j 
     where
       go : (b : Bool) → eqb (entryAt (entriesOf (s .entries) j) i .mark) 0 ≡ b → entryAt (entriesOf (s .entries) j) i .mark ≤ 1
           → Fit (during (Waiting (awaited.Item i)) s)
-            (cond b j (setByte i 3 (entryAt (entriesOf (s .entries) j) i .resends + 1) j)) m
+          (cond b j (setByte i 3 (entryAt (entriesOf (s .entries) j) i .resends + 1) j)) m
       go true e k = first-fit
       go false e k = let z = eqb-false (entryAt (entriesOf (s .entries) j) i .mark) 0 e in again-fit (omega arith)
 
@@ -158,8 +172,14 @@ end-fit s j m x a b h n =
     next-fit (during (Waiting (awaited.End x)) s) j m (record { 0 = following (x .0) }) (r .0) (r .1)
     (moved (Waiting (awaited.End x)) (s .counts) (during Uploading s) j m h
     (record {
-      sent-same = refl; approved-same = refl; phase-form = within-yes 1 (x .0) 999999 a b;
-      unmarked = h .order .unmarked; silent = h .order .silent; balance = h .order .balance; phase-kept = rw n }))
+      sent-same = refl;
+      approved-same = refl;
+      phase-form = within-yes 1 (x .0) 999999 a b;
+      unmarked = h .order .unmarked;
+      silent = h .order .silent;
+      balance = h .order .balance;
+      phase-kept = rw n;
+    }))
 
 next-fits : (s : State) (j m : List ℕ) → Fit (during Uploading s) j m → (f : Found) → nextDue (entriesOf (s .entries) j) ≡ f
     → Fits (nextLeaves f (during Uploading s) j m)

@@ -32,7 +32,7 @@ sent-reads-back i xs o l h r =
       indicator = k .indicator;
       named = λ n p q. rw (k .bitmap) (names-has xs n p q);
       fields = λ n g. let p = held-number (named n (find xs n)) (found-held xs n h g) in
-        k .fields n (names-has xs n (p .0) (p .1) ∙ g) ∙ held-field i xs n h;
+          k .fields n (names-has xs n (p .0) (p .1) ∙ g) ∙ held-field i xs n h;
     })
 
 pub request-reads-back : RequestReadsBack

@@ -58,7 +58,7 @@ module _ (x : Settings) (batch : Batch) (q : Request) (h : CardHeld x q) where
         merchant-held (x .merchant) (h .merchant-length) (h .merchant-printable),
         currency-held (0x31 ∷ 0x35 ∷ 0x36 ∷ []) refl currency-printable,
         field60-held (q .kind) batch 0,
-        mac-held
+        mac-held,
       )
 
 original-held : (kind : ℕ) (o : Original) → OriginalHeld kind o → allHeld (originalFields kind o) ≡ true

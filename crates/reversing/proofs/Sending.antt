@@ -113,8 +113,13 @@ module _ (s : State) (j m : List ℕ) (n : ℕ) (e : n ≡ firstBroken (sendReve
       let k : phaseInForm (s .phase) ≡ true = o .phase-form in
       let h = reversal-holds v (rw f at k) in
       rw q (record {
-        card-low = h .card-least; card-high = h .card-most; terminal-length = lt; merchant-length = lm;
-        terminal-printable = o .settings .terminal-printable; merchant-printable = o .settings .merchant-printable })
+        card-low = h .card-least;
+        card-high = h .card-most;
+        terminal-length = lt;
+        merchant-length = lm;
+        terminal-printable = o .settings .terminal-printable;
+        merchant-printable = o .settings .merchant-printable;
+      })
 
 -- the message, its length and the bytes in the buffer are those of the reversal
 pub left : (s t : State) (v : Reversal) (j m : List ℕ) (b : Message) (k : ℕ) (o : List ℕ)

@@ -52,8 +52,15 @@ settings-hold x e =
     let n = within-bounds 1 (x .sendings) 9 (f .1) in
     let r = within-bounds 1 (x .refund) 9999999999 (d .1) in
     record {
-      limit-least = l .0; limit-most = l .1; sendings-least = n .0; sendings-most = n .1; refund-least = r .0; refund-most = r .1;
-      terminal-printable = b .1; merchant-printable = a .1 }
+      limit-least = l .0;
+      limit-most = l .1;
+      sendings-least = n .0;
+      sendings-most = n .1;
+      refund-least = r .0;
+      refund-most = r .1;
+      terminal-printable = b .1;
+      merchant-printable = a .1;
+    }
 
 -- a request's values in their ranges
 pub record RequestHolds (q : Request) : Type 0 where
@@ -91,8 +98,16 @@ request-holds q e =
     let k = card-holds (q .card) (d .1) in
     let t = within-bounds 1 (q .trace .0) 999999 (b .1) in
     record {
-      kind-listed = f .0; amount-least = m .0; amount-most = m .1; card-least = k .least; card-most = k .most; card-below = k .below;
-      trace-least = t .0; trace-most = t .1; original-form = a .1 }
+      kind-listed = f .0;
+      amount-least = m .0;
+      amount-most = m .1;
+      card-least = k .least;
+      card-most = k .most;
+      card-below = k .below;
+      trace-least = t .0;
+      trace-most = t .1;
+      original-form = a .1;
+    }
 
 pub reversal-holds : (v : Reversal) → reversalInForm v ≡ true → RequestHolds (v .request)
 unfolding reversalInForm
@@ -151,7 +166,10 @@ in-order s es e =
     record {
       few = leb-true (s .entries) (s .settings .limit) (a .0);
       settings = settings-hold (s .settings) (a .1 .0);
-      batch-least = b .0; batch-most = b .1; next-least = n .0; next-most = n .1;
+      batch-least = b .0;
+      batch-most = b .1;
+      next-least = n .0;
+      next-most = n .1;
       sent-most = leb-true (c .sent) 900000 (q .1);
       phase-form = p .1;
       form = a .1 .1 .1 .0;
@@ -164,7 +182,8 @@ in-order s es e =
       credit-most = leb-true (totalsOf es .credit) 999999999999 (t .1);
       balance = eqb-true (c .sent) whole (u .0);
       approvals = eqb-true (c .approved) (s .entries) (u .1);
-      phase-kept = a .1 .1 .1 .1 .1 .1 .1 .1 .1 .1 .1 .0 }
+      phase-kept = a .1 .1 .1 .1 .1 .1 .1 .1 .1 .1 .1 .0;
+    }
 
 -- the buffers are long enough
 pub record Fit (s : State) (j m : List ℕ) : Type 0 where
@@ -192,4 +211,5 @@ fit s j m e = go (tooShort s j m) (inOrder s (entriesOf (s .entries) j)) refl re
         record {
           message-room = ltb-false (length m) largest (h .0);
           journal-room = ltb-false (length j) (entrySize * s .settings .limit) (h .1);
-          order = in-order s (entriesOf (s .entries) j) q }
+          order = in-order s (entriesOf (s .entries) j) q;
+        }

@@ -85,19 +85,21 @@ every-both p q i (e ∷ es) = rw (every-both p q (suc i) es) (cross (p i e) (q i
 
 pub every-fits : (l : ℕ) (up : Bool) (item : Found) (es : List Entry)
     → every (fitsAt l up item) 0 es
-      ≡ (every (λ i e. inForm e) 0 es && every (λ i e. keepsVoided e) 0 es && every (λ i e. keepsUnmarked up e) 0 es
-        && every (λ i e. keepsResends l e) 0 es && every (λ i e. keepsSilent l (isAt item i) e) 0 es)
+    ≡ (every (λ i e. inForm e) 0 es && every (λ i e. keepsVoided e) 0 es && every (λ i e. keepsUnmarked up e) 0 es
+    && every (λ i e. keepsResends l e) 0 es && every (λ i e. keepsSilent l (isAt item i) e) 0 es)
 unfolding fits
 every-fits l up item es =
-    rw (every-both (λ i e. inForm e && keepsVoided e && keepsUnmarked up e && keepsResends l e) (λ i e. keepsSilent l (isAt item i) e) 0 es,
+    rw (
+      every-both (λ i e. inForm e && keepsVoided e && keepsUnmarked up e && keepsResends l e) (λ i e. keepsSilent l (isAt item i) e) 0 es,
       every-both (λ i e. inForm e && keepsVoided e && keepsUnmarked up e) (λ i e. keepsResends l e) 0 es,
       every-both (λ i e. inForm e && keepsVoided e) (λ i e. keepsUnmarked up e) 0 es,
-      every-both (λ i e. inForm e) (λ i e. keepsVoided e) 0 es)
+      every-both (λ i e. inForm e) (λ i e. keepsVoided e) 0 es,
+    )
 
 -- the tests of rule 2 one after another, where the entries are no more than the limit
 pub joined : (a b f g h k m d s w p : Bool)
     → (a && b && (f && g && h && k && m) && d && s && w && p)
-      ≡ (a && (b && (f && (g && (h && (k && (m && (d && (s && (w && (p && true)))))))))))
+    ≡ (a && (b && (f && (g && (h && (k && (m && (d && (s && (w && (p && true)))))))))))
 joined false b f g h k m d s w p = refl
 joined true false f g h k m d s w p = refl
 joined true true false g h k m d s w p = refl
@@ -113,18 +115,18 @@ joined true true true true true true true true true true true = refl
 
 pub in-order-is : (s : State) (es : List Entry) → s .entries ≤ s .settings .limit
     → (settingsInForm (s .settings) && stateInForm s
-      && every (fitsAt (s .settings .sendings) (inUpload (s .phase)) (awaitedItem (s .phase))) 0 es
-      && distinct es && sumsKept (totalsOf es) && balanced (s .counts) (waiting (s .phase)) (s .entries)
-      && phaseKept (s .settings) (s .entries) es (s .phase))
-      ≡ inOrder s es
+    && every (fitsAt (s .settings .sendings) (inUpload (s .phase)) (awaitedItem (s .phase))) 0 es
+    && distinct es && sumsKept (totalsOf es) && balanced (s .counts) (waiting (s .phase)) (s .entries)
+    && phaseKept (s .settings) (s .entries) es (s .phase))
+    ≡ inOrder s es
 unfolding inOrder
 in-order-is s es h =
     rw (le-leb (s .entries) (s .settings .limit) h, every-fits (s .settings .sendings) (inUpload (s .phase)) (awaitedItem (s .phase)) es)
-      (joined (settingsInForm (s .settings)) (stateInForm s) (every (λ i e. inForm e) 0 es) (every (λ i e. keepsVoided e) 0 es)
-        (every (λ i e. keepsUnmarked (inUpload (s .phase)) e) 0 es) (every (λ i e. keepsResends (s .settings .sendings) e) 0 es)
-        (every (λ i e. keepsSilent (s .settings .sendings) (isAt (awaitedItem (s .phase)) i) e) 0 es) (distinct es)
-        (sumsKept (totalsOf es)) (balanced (s .counts) (waiting (s .phase)) (s .entries))
-        (phaseKept (s .settings) (s .entries) es (s .phase)))
+    (joined (settingsInForm (s .settings)) (stateInForm s) (every (λ i e. inForm e) 0 es) (every (λ i e. keepsVoided e) 0 es)
+    (every (λ i e. keepsUnmarked (inUpload (s .phase)) e) 0 es) (every (λ i e. keepsResends (s .settings .sendings) e) 0 es)
+    (every (λ i e. keepsSilent (s .settings .sendings) (isAt (awaitedItem (s .phase)) i) e) 0 es) (distinct es)
+    (sumsKept (totalsOf es)) (balanced (s .counts) (waiting (s .phase)) (s .entries))
+    (phaseKept (s .settings) (s .entries) es (s .phase)))
 
 pub too-many : (s : State) (es : List Entry) → s .settings .limit < s .entries → false ≡ inOrder s es
 unfolding inOrder
@@ -154,6 +156,6 @@ all-kept s j m true g h e t = rw (le-ltb (length m) largest g, le-ltb (length j)
 -- an awaited request's tests, where its trace is looked for
 pub request-kept-is : (limit n : ℕ) (es : List Entry) (q : Request)
     → (ltb n limit && not (past (q .kind) (q .amount) (totalsOf es)) && originalLeft (q .kind) (q .original .0) es
-      && nowhere (firstOf (hasTrace (q .trace .0)) 0 es)) ≡ requestKept limit n es q
+    && nowhere (firstOf (hasTrace (q .trace .0)) 0 es)) ≡ requestKept limit n es q
 unfolding requestKept
 request-kept-is limit n es q = rw (nowhere-absent (q .trace .0) es)

@@ -79,7 +79,10 @@ fn request_in_form(q: Request) -> bool
     let trace = q.trace;
     let original = q.original;
     let number = original.0;
-    let form = kinds::is_kind(q.kind) & is_within(1, q.amount, State::LARGEST_AMOUNT) & is_card(card) & is_number(trace.0);
+    let form = kinds::is_kind(q.kind)
+        & is_within(1, q.amount, State::LARGEST_AMOUNT)
+        & is_card(card)
+        & is_number(trace.0);
     if kinds::takes_original(q.kind) {
         return form & is_number(number);
     }
@@ -124,7 +127,10 @@ fn state_in_form(s: State) -> bool
     let next = s.next;
     let counts = s.counts;
     let phase = s.phase;
-    is_number(batch.0) & is_number(next.0) & (counts.sent <= State::MOST_REQUESTS) & phase_in_form(phase)
+    is_number(batch.0)
+        & is_number(next.0)
+        & (counts.sent <= State::MOST_REQUESTS)
+        & phase_in_form(phase)
 }
 
 fn awaited_in_upload(a: Awaited) -> bool
@@ -328,7 +334,13 @@ pub fn in_order(s: State, journal: &[u8]) -> bool
     }
     settings_in_form(settings)
         & state_in_form(s)
-        & journal::all_fit(journal, n, settings.sendings, in_upload(phase), awaited_item(phase))
+        & journal::all_fit(
+            journal,
+            n,
+            settings.sendings,
+            in_upload(phase),
+            awaited_item(phase),
+        )
         & traces::are_distinct(journal, n)
         & sums_kept(journal::totals_of(journal, n))
         & is_balanced(counts, waiting_in(phase), n)

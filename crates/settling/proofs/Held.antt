@@ -48,7 +48,7 @@ module _ (x : Settings) (batch : Batch) (h : SettingsHeld x) where
         merchant-held (x .merchant) (h .merchant-length) (h .merchant-printable),
         field48-held t,
         currency-held (0x31 ∷ 0x35 ∷ 0x36 ∷ []) refl currency-printable,
-        field60-held 0 batch 201
+        field60-held 0 batch 201,
       )
 
 -- its type is listed

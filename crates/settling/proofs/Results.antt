@@ -32,8 +32,11 @@ module _ (s : State) (j m : List ℕ) (n : ℕ) (e : n ≡ firstBroken (settleRu
     settings-held =
         let x = fits s j m (sym e ∙ z) .order .settings in
         record {
-          terminal-length = lt; merchant-length = lm;
-          terminal-printable = x .terminal-printable; merchant-printable = x .merchant-printable }
+          terminal-length = lt;
+          merchant-length = lm;
+          terminal-printable = x .terminal-printable;
+          merchant-printable = x .merchant-printable;
+        }
 
     -- the message, its length and the bytes in the buffer are those of the settlement
     leaves : (trace : Trace) (t : Totals) (b : Message) (k : ℕ) (o : List ℕ) (after : State)

@@ -67,7 +67,8 @@ keyed d h =
     record {
       card = λ n. or-right (takesOriginal (d .kind)) (isCard (d .card)) n (t .0 .0 .0 .1);
       reference = λ k. not-or (eqb (d .kind) 25) (allPrintable (d .reference)) k (t .0 .1);
-      authorisation = λ k. not-or (eqb (d .kind) 11 || eqb (d .kind) 20) (allPrintable (d .authorisation)) k (t .1) }
+      authorisation = λ k. not-or (eqb (d .kind) 11 || eqb (d .kind) 20) (allPrintable (d .authorisation)) k (t .1);
+    }
 
 -- card and texts, of the original or of the desk
 module _ (d : Desk) (e : Entry) (k : Keyed d) (f : takesOriginal (d .kind) ≡ true → InForm e) where
@@ -88,20 +89,22 @@ module _ (d : Desk) (e : Entry) (k : Keyed d) (f : takesOriginal (d .kind) ≡ t
             reference-length = rw t (w .reference-length);
             authorisation-length = rw t (w .authorisation-length);
             reference-printable = λ s. rw t (f t .reference-printable);
-            authorisation-printable = λ s. rw t (f t .authorisation-printable) }
+            authorisation-printable = λ s. rw t (f t .authorisation-printable);
+          }
       go false t =
           record {
             reference-length = rw t r;
             authorisation-length = rw t a;
             reference-printable = λ s. rw t (k .reference (or-right (takesOriginal (d .kind)) (eqb (d .kind) 25) t s));
-            authorisation-printable = λ s. rw t (k .authorisation (or-right (takesOriginal (d .kind)) (eqb (d .kind) 11 || eqb (d .kind) 20) t s)) }
+            authorisation-printable = λ s. rw t (k .authorisation (or-right (takesOriginal (d .kind)) (eqb (d .kind) 11 || eqb (d .kind) 20) t s));
+          }
 
 -- a request that no rule refuses may leave
 module _ (d : Desk) (s : State) (j m : List ℕ) (terminal : length (s .settings .terminal) ≡ 8) (merchant : length (s .settings .merchant) ≡ 15)
     (reference : length (d .reference) ≡ 12) (authorisation : length (d .authorisation) ≡ 6) where
   pub may-leave : (trace : ℕ) → Unbroken d s (entriesOf (s .entries) j) j m
       → MayLeave s (requestOf d (entryOf (originalOf d (entriesOf (s .entries) j)) (entriesOf (s .entries) j)) trace)
-        (namedBy d (s .batch) (entryOf (originalOf d (entriesOf (s .entries) j)) (entriesOf (s .entries) j))) m
+      (namedBy d (s .batch) (entryOf (originalOf d (entriesOf (s .entries) j)) (entriesOf (s .entries) j))) m
   may-leave trace u =
       let es = entriesOf (s .entries) j in
       let e = entryOf (originalOf d es) es in
@@ -111,8 +114,14 @@ module _ (d : Desk) (s : State) (j m : List ℕ) (terminal : length (s .settings
       let l = card-length d e k f in
       record {
         card = record {
-          card-low = l .0; card-high = l .1; terminal-length = terminal; merchant-length = merchant;
-          terminal-printable = x .terminal-printable; merchant-printable = x .merchant-printable };
+          card-low = l .0;
+          card-high = l .1;
+          terminal-length = terminal;
+          merchant-length = merchant;
+          terminal-printable = x .terminal-printable;
+          merchant-printable = x .merchant-printable;
+        };
         original = texts-held d e k f (s .batch) (entry-of-shaped (originalOf d es) (s .entries) j) reference authorisation;
         room = u .fits .message-room;
-        few = u .few }
+        few = u .few;
+      }

@@ -75,7 +75,8 @@ module _ (d : Desk) (s : State) (e : Entry) (j m : List ℕ) where
         fits = fit s j m (unfit-none s j m (passed 1 rs refl z) (passed 2 rs refl z));
         keyed = yes (deskInForm d) (passed 16 rs refl z);
         few = leb-false 900000 (s .counts .sent) (or-false (leb (s .settings .limit) (s .entries)) (leb 900000 (s .counts .sent)) (passed 18 rs refl z) .1);
-        found = λ t. and-not (takesOriginal (d .kind)) (nowhere (originalOf d es)) t (passed 19 rs refl z) }
+        found = λ t. and-not (takesOriginal (d .kind)) (nowhere (originalOf d es)) t (passed 19 rs refl z);
+      }
     where
       es : List Entry
       es = entriesOf (s .entries) j

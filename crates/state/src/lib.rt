@@ -109,12 +109,15 @@ impl Counts {
 impl State {
     // The most entries that a setting allows, and the most sendings of a reversal.
     pub const MOST_ENTRIES: u32 = 300;
+
     pub const MOST_SENDINGS: u8 = 9;
     // The largest amount of a request, and of a total, in fen.
     pub const LARGEST_AMOUNT: u64 = 9999999999;
+
     pub const LARGEST_TOTAL: u64 = 999999999999;
     // The most card requests of a batch, and the last batch or trace number.
     pub const MOST_REQUESTS: u32 = 900000;
+
     pub const LAST_NUMBER: u32 = 999999;
 
     // A fresh terminal.

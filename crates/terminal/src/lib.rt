@@ -28,10 +28,13 @@ pub struct Step {
 impl Terminal {
     // The bytes of a message buffer, and those of one journal entry.
     pub const MESSAGE: usize = 248;
+
     pub const ENTRY: usize = 48;
     // The largest settings.
     pub const MOST_ENTRIES: u32 = 300;
+
     pub const MOST_SENDINGS: u8 = 9;
+
     pub const LARGEST_REFUND: u64 = 9999999999;
 
     // A fresh terminal of any settings; the calls judge them.

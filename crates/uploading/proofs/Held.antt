@@ -41,7 +41,7 @@ module _ (x : Settings) (batch : Batch) (h : SettingsHeld x) where
         terminal-held (x .terminal) (h .terminal-length) (h .terminal-printable),
         merchant-held (x .merchant) (h .merchant-length) (h .merchant-printable),
         currency-held (0x31 ∷ 0x35 ∷ 0x36 ∷ []) refl currency-printable,
-        field60-held (e .kind) batch 201
+        field60-held (e .kind) batch 201,
       )
 
   pub end-held : (trace : Trace) → allHeld (endFields x batch trace) ≡ true
@@ -50,7 +50,7 @@ module _ (x : Settings) (batch : Batch) (h : SettingsHeld x) where
         trace-held (trace .0),
         terminal-held (x .terminal) (h .terminal-length) (h .terminal-printable),
         merchant-held (x .merchant) (h .merchant-length) (h .merchant-printable),
-        field60-held 0 batch 202
+        field60-held 0 batch 202,
       )
 
 -- their type is listed

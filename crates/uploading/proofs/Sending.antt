@@ -117,7 +117,11 @@ module _ (s : State) (j m : List ℕ) (z : firstBroken (sendNextUploadRules s j 
     settings-held =
         let o = fits .order .settings in
         record {
-          terminal-length = lt; merchant-length = lm; terminal-printable = o .terminal-printable; merchant-printable = o .merchant-printable }
+          terminal-length = lt;
+          merchant-length = lm;
+          terminal-printable = o .terminal-printable;
+          merchant-printable = o .merchant-printable;
+        }
 
     pub end-fields : (trace : Trace) → allHeld (endFields (s .settings) (s .batch) trace) ≡ true
     end-fields trace = end-held (s .settings) (s .batch) settings-held trace
@@ -133,9 +137,13 @@ module _ (s : State) (j m : List ℕ) (z : firstBroken (sendNextUploadRules s j 
             let w = in-form (entryAt es i) (every-at (λ i e. inForm e) 0 es (fits .order .form) i (x .below)) in
             let h = entry-shaped (s .entries) i j in
             record {
-              card-low = w .digits-least; card-high = w .digits-most;
-              reference-length = h .reference-length; reference-printable = w .reference-printable;
-              authorisation-length = h .authorisation-length; authorisation-printable = w .authorisation-printable }
+              card-low = w .digits-least;
+              card-high = w .digits-most;
+              reference-length = h .reference-length;
+              reference-printable = w .reference-printable;
+              authorisation-length = h .authorisation-length;
+              authorisation-printable = w .authorisation-printable;
+            }
 
   pub resends-low : (p : Found) (i : ℕ) (e : Entry) → p ≡ nextDue (entriesOf (s .entries) j) → p ≡ At i → e ≡ entryAt (entriesOf (s .entries) j) i → e .resends < 255
   resends-low p i e f a q =

@@ -64,8 +64,12 @@ module _ {i : ℕ} {xs : List Item} {r : Reading} (reads : Reads i xs r) (n : �
 abbrev pub asked : ℕ → ℕ → Request
 asked amount trace =
     record {
-      kind = 22; amount = amount; card = record { number = 6222021234567890; length = 16 }; trace = record { 0 = trace };
-      original = record { 0 = 0 } }
+      kind = 22;
+      amount = amount;
+      card = record { number = 6222021234567890; length = 16 };
+      trace = record { 0 = trace };
+      original = record { 0 = 0 };
+    }
 
 -- the fields of its approval, and their bytes
 abbrev fields : ℕ → List Item

@@ -7,7 +7,20 @@ pub reached : Reached
 unfolding machine
 reached =
     record {
-      resting = refl; request-out = refl; pending = refl; reversal-out = refl;
-      settlement-out = refl; settling = refl; uploading = refl; item-out = refl;
-      end-out = refl; approved = refl; declined = refl; reversed = refl;
-      given-up = refl; unanswered = refl; closed = refl; closed-after-upload = refl }
+      resting = refl;
+      request-out = refl;
+      pending = refl;
+      reversal-out = refl;
+      settlement-out = refl;
+      settling = refl;
+      uploading = refl;
+      item-out = refl;
+      end-out = refl;
+      approved = refl;
+      declined = refl;
+      reversed = refl;
+      given-up = refl;
+      unanswered = refl;
+      closed = refl;
+      closed-after-upload = refl;
+    }

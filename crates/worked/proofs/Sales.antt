@@ -90,12 +90,13 @@ other-trace n x h = rw (ne-eqb (suc n) x (λ e. omega arith))
 one-sold : (n : ℕ) (j : List ℕ) → n < 100 → entrySize * 300 ≤ length j → Sold n j → Sold (suc n) (putEntry n (entry n) j)
 one-sold n j small room s =
     let e : entriesOf (suc n) (putEntry n (entry n) j) ≡ entriesOf n j ++ (entry n ∷ []) =
-        put-appends n (entry n) j (shaped (asked 9999999999 (suc n)) (answered (suc n)))
-        (entry-form (suc n) (omega arith) (omega arith)) (omega arith) in
+    put-appends n (entry n) j (shaped (asked 9999999999 (suc n)) (answered (suc n)))
+    (entry-form (suc n) (omega arith) (omega arith)) (omega arith) in
     let d : n * 9999999999 + 9999999999 ≡ suc n * 9999999999 = omega arith in
     record {
       free = λ x h. rw (e, absent-last x (entriesOf n j) (entry n), s .free x (omega arith), other-trace n x h);
-      sums = rw (e, totals-last (entriesOf n j) (entry n), s .sums, entry-debit n, d, add-one n) }
+      sums = rw (e, totals-last (entriesOf n j) (entry n), s .sums, entry-debit n, d, add-one n);
+    }
 
 -- rule 21 passes
 not-past : (amount n : ℕ) (j : List ℕ) → Sold n j → n * 9999999999 + amount ≤ 999999999999
@@ -127,12 +128,12 @@ one-after : (n : ℕ) (j m : List ℕ) → n < 100 → Fit (at n) j m → Sold n
 one-after n j m small fit sold =
     let q = asked 9999999999 (suc n) in
     let g = goes 9999999999 n j m fit (omega arith) largest-form (sold .free (suc n) (omega arith))
-        (not-past 9999999999 n j sold (omega arith)) in
+    (not-past 9999999999 n j sold (omega arith)) in
     let r = sent (saleBytes 9999999999 (suc n)) (requested (at n) q) j m in
     let f : Fits r = rw g at (start-fits (desk 9999999999) (at n) j m fit) in
     let a = taken-in n j (r .message) f in
     let h : Fits (quiet (oneMore (requested (at n) q)) (putEntry n (entry n) j) (r .message)) =
-        rw a at (answer-fits (approvalBytes (suc n)) true (requested (at n) q) j (r .message) f) in
+    rw a at (answer-fits (approvalBytes (suc n)) true (requested (at n) q) j (r .message) f) in
     rw (g, a) (record { state = one-more n (omega arith); fits = h; sold = one-sold n j small (fit .journal-room) sold })
 
 next-after : (n : ℕ) (s : State) (j m : List ℕ) → n < 100 → After n s j m
@@ -190,7 +191,7 @@ one-goes s j m h =
     rw (
       h .state,
       goes 99 100 j m (rw (h .state) at (h .fits)) (omega arith) (amount-form .0) (h .sold .free 101 (omega arith))
-        (not-past 99 100 j (h .sold) (omega arith)),
+          (not-past 99 100 j (h .sold) (omega arith)),
       sale-length,
     )
 
@@ -199,7 +200,7 @@ one-is-refused s j m h =
     rw (
       h .state,
       goes-not 100 100 j m (rw (h .state) at (h .fits)) (omega arith) (amount-form .1)
-        (is-past 100 100 j (h .sold) (omega arith)),
+          (is-past 100 100 j (h .sold) (omega arith)),
     )
 
 pub i : run (sale 99 ∷ []) hundred .outcome ≡ Send 76

@@ -27,23 +27,39 @@ use Rattle.worked.proofs.Approvals.{asked}
 abbrev pub at : ℕ → State
 at n =
     record {
-      settings = settings 300; «signed_on» = true; batch = record { 0 = 1 }; next = record { 0 = suc n }; entries = n;
+      settings = settings 300;
+      «signed_on» = true;
+      batch = record { 0 = 1 };
+      next = record { 0 = suc n };
+      entries = n;
       counts = record { sent = n; approved = n; declined = 0; reversed = 0; «given_up» = 0; unanswered = 0 };
-      phase = Resting }
+      phase = Resting;
+    }
 
 abbrev pub desk : ℕ → Desk
 desk amount =
     record {
-      kind = 22; amount = amount; card = record { number = 6222021234567890; length = 16 }; original = record { 0 = 0 };
-      month = 11; day = 15; authorisation = replicate 6 0x33; reference = replicate 12 0x34 }
+      kind = 22;
+      amount = amount;
+      card = record { number = 6222021234567890; length = 16 };
+      original = record { 0 = 0 };
+      month = 11;
+      day = 15;
+      authorisation = replicate 6 0x33;
+      reference = replicate 12 0x34;
+    }
 
 -- the bytes that leave
 abbrev pub saleBytes : ℕ → ℕ → List ℕ
 saleBytes amount trace =
     messageBytes (requestMessage (settings 300) (record { 0 = 1 }) (asked amount trace)
-      (record {
-        batch = record { 0 = 0 }; trace = record { 0 = 0 }; date = 1115; authorisation = replicate 6 0x33;
-        reference = replicate 12 0x34 }))
+    (record {
+      batch = record { 0 = 0 };
+      trace = record { 0 = 0 };
+      date = 1115;
+      authorisation = replicate 6 0x33;
+      reference = replicate 12 0x34;
+    }))
 
 desk-form : (amount : ℕ) → deskInForm (desk amount) ≡ true
 unfolding deskInForm isKind takesOriginal isCard within

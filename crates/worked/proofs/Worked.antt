@@ -15,9 +15,26 @@ unfolding half packedByte pack isPacked halfAllowed formats indicators bit names
     fieldFault fieldsFault namedBytes fieldsBytes messageBytes messageFault writeMessage
 worked =
     record {
-      a = refl; b = refl; c = refl; d = refl; d-fields = refl; e = refl; longest = refl;
-      f = calls.f; f-counts = calls.f-counts;
-      f-settles = calls.f-settles; f-debit = calls.f-debit; f-debits = calls.f-debits;
-      f-credit = calls.f-credit; f-credits = calls.f-credits; g = calls.g; g-free = calls.g-free; h = calls.h;
-      i = sales.i; i-refused = sales.i-refused;
-      j = calls.j; j-refused = calls.j-refused; k = calls.k }
+      a = refl;
+      b = refl;
+      c = refl;
+      d = refl;
+      d-fields = refl;
+      e = refl;
+      longest = refl;
+      f = calls.f;
+      f-counts = calls.f-counts;
+      f-settles = calls.f-settles;
+      f-debit = calls.f-debit;
+      f-debits = calls.f-debits;
+      f-credit = calls.f-credit;
+      f-credits = calls.f-credits;
+      g = calls.g;
+      g-free = calls.g-free;
+      h = calls.h;
+      i = sales.i;
+      i-refused = sales.i-refused;
+      j = calls.j;
+      j-refused = calls.j-refused;
+      k = calls.k;
+    }

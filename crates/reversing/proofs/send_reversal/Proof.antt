@@ -45,10 +45,9 @@ leave-requires c κs =
     let l : length (c .before .before .before .before .before .before .before .before .before .before .before .before .args .s .settings .terminal) ≡ 8 = search needs in
     let k : length (c .before .before .before .before .before .before .before .before .before .before .before .before .args .s .settings .merchant) ≡ 15 = search needs in
     let e = c .before .before .before .before .before .before .before .refusal .ensures in
-    let z = c .before .before .before .before .before .before .if1 .left in
-    (
+    let z = c .before .before .before .before .before .before .if1 .left in (
       held (c .before .before .before .before .before .before .before .before .before .before .before .before .args .s) _ _ _ e _ _ z (c .before .before .before .before .phase .given .1) (c .before .before .again .ensures) l k,
-      room (c .before .before .before .before .before .before .before .before .before .before .before .before .args .s) _ _ _ e z
+      room (c .before .before .before .before .before .before .before .before .before .before .before .before .args .s) _ _ _ e z,
     )
 
 enum-told-3 : tie.Need-enum-told-3

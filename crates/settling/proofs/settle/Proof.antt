@@ -45,7 +45,7 @@ returns-2 c =
     let l : length (c .before .before .before .before .before .before .before .before .before .before .before .before .before .before .before .before .before .before .before .args .s .settings .terminal) ≡ 8 = search needs in
     let k : length (c .before .before .before .before .before .before .before .before .before .before .before .before .before .before .before .before .before .before .before .args .s .settings .merchant) ≡ 15 = search needs in
     is-sent (c .before .before .before .before .before .before .before .before .before .before .before .before .before .before .before .before .before .before .before .args .s) _ _ _ (c .before .before .before .before .before .before .before .before .before .before .before .before .before .before .refusal .ensures) (c .before .before .before .before .before .before .before .before .before .before .before .before .before .if1 .left) l k _ _ _ _ _ _ (c .before .before .before .before .before .before .before .before .take .ensures) (c .before .before .before .before .before .before .totals-of .ensures)
-      (c .before .before .before .before .before .settlement-message .ensures) (c .before .before .before .put-message .ensures .0) (c .before .before .before .put-message .ensures .1) (c .settles .ensures)
+    (c .before .before .before .before .before .settlement-message .ensures) (c .before .before .before .put-message .ensures .0) (c .before .before .before .put-message .ensures .1) (c .settles .ensures)
 
 pub settle-spec : {M : Type 1} → statement M
 settle-spec =

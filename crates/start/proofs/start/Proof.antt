@@ -26,7 +26,7 @@ returns : tie.Need-returns
 returns c =
     let a = c .before .before .before .before .before .before .before .before .before .before .args in
     is-refused (a .d) (a .s) (now (a .journal)) (now (a .message)) (c .before .before .before .before .before .before .original-of .result) (c .before .before .before .before .entry-of .result) _ (c .before .before .before .before .before .before .original-of .ensures)
-        (c .before .before .before .before .entry-of .ensures) (c .before .refusal .ensures) (c .if1 .taken)
+    (c .before .before .before .before .entry-of .ensures) (c .before .refusal .ensures) (c .if1 .taken)
 
 take-requires : tie.Need-take-requires
 take-requires c κs = search needs
@@ -47,8 +47,8 @@ leave-requires c κs =
     let reference : length (a .d .reference) ≡ 12 = search needs in
     let authorisation : length (a .d .authorisation) ≡ 6 = search needs in
     left-may (a .d) (a .s) (now (a .journal)) (now (a .message)) (c .before .before .before .before .before .before .before .before .before .before .before .before .before .original-of .result) (c .before .before .before .before .before .before .before .before .before .before .before .entry-of .result) _ (c .before .before .before .before .before .before .before .before .before .before .before .before .before .original-of .ensures)
-        (c .before .before .before .before .before .before .before .before .before .before .before .entry-of .ensures) (c .before .before .before .before .before .before .before .before .refusal .ensures)
-        terminal merchant reference authorisation (c .before .before .before .before .before .before .before .if1 .left) (c .before .before .before .take .result) _ _ (c .before .before .request-of .ensures) (c .before .named-by .ensures)
+    (c .before .before .before .before .before .before .before .before .before .before .before .entry-of .ensures) (c .before .before .before .before .before .before .before .before .refusal .ensures)
+    terminal merchant reference authorisation (c .before .before .before .before .before .before .before .if1 .left) (c .before .before .before .take .result) _ _ (c .before .before .request-of .ensures) (c .before .named-by .ensures)
 
 same-length-3 : tie.Need-same-length-3
 same-length-3 c = search needs
@@ -60,8 +60,8 @@ returns-2 : tie.Need-returns-2
 returns-2 c =
     let a = c .before .before .before .before .before .before .before .before .before .before .before .before .before .before .before .before .before .before .before .before .args in
     is-left (a .d) (a .s) (now (a .journal)) (now (a .message)) (c .before .before .before .before .before .before .before .before .before .before .before .before .before .before .before .before .original-of .result) (c .before .before .before .before .before .before .before .before .before .before .before .before .before .before .entry-of .result) _ (c .before .before .before .before .before .before .before .before .before .before .before .before .before .before .before .before .original-of .ensures)
-        (c .before .before .before .before .before .before .before .before .before .before .before .before .before .before .entry-of .ensures) (c .before .before .before .before .before .before .before .before .before .before .before .refusal .ensures)
-        (c .before .before .before .before .before .before .before .before .before .before .if1 .left) (c .before .before .before .before .before .before .take .result) _ _ _ _ (c .before .before .before .before .before .before .take .ensures) (c .before .before .before .before .before .request-of .ensures) (c .before .before .before .before .named-by .ensures) (c .before .before .leave .ensures)
+    (c .before .before .before .before .before .before .before .before .before .before .before .before .before .before .entry-of .ensures) (c .before .before .before .before .before .before .before .before .before .before .before .refusal .ensures)
+    (c .before .before .before .before .before .before .before .before .before .before .if1 .left) (c .before .before .before .before .before .before .take .result) _ _ _ _ (c .before .before .before .before .before .before .take .ensures) (c .before .before .before .before .before .request-of .ensures) (c .before .before .before .before .named-by .ensures) (c .before .before .leave .ensures)
 
 pub start-spec : {M : Type 1} → statement M
 start-spec =

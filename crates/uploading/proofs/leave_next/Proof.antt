@@ -16,13 +16,12 @@ entry-at-requires : tie.Need-entry-at-requires
 entry-at-requires c κs = search needs
 
 leave-item-requires : tie.Need-leave-item-requires
-leave-item-requires c κs = 
+leave-item-requires c κs =
     let g = c .before .before .before .before .before .before .before .before .before .before .before .good .0 .1 .1 .0 in
     let l : length (c .before .before .before .before .before .before .before .before .before .before .before .args .s .settings .terminal) ≡ 8 = search needs in
-    let k : length (c .before .before .before .before .before .before .before .before .before .before .before .args .s .settings .merchant) ≡ 15 = search needs in
-    (
+    let k : length (c .before .before .before .before .before .before .before .before .before .before .before .args .s .settings .merchant) ≡ 15 = search needs in (
       resends-low (c .before .before .before .before .before .before .before .before .before .before .before .args .s) _ _ (c .before .before .before .before .before .before .before .before .before .before .before .pre) _ _ _ (c .before .before .before .before .before .before .before .next-due .ensures) (c .before .before .before .before .before .i .given .1) (c .before .before .entry-at .ensures),
-      (item-fields (c .before .before .before .before .before .before .before .before .before .before .before .args .s) _ _ (c .before .before .before .before .before .before .before .before .before .before .before .pre) l k _ _ _ (c .before .before .before .before .before .before .before .next-due .ensures) (c .before .before .before .before .before .i .given .1) (c .before .before .entry-at .ensures), room (c .before .before .before .before .before .before .before .before .before .before .before .args .s) _ _ (c .before .before .before .before .before .before .before .before .before .before .before .pre))
+      (item-fields (c .before .before .before .before .before .before .before .before .before .before .before .args .s) _ _ (c .before .before .before .before .before .before .before .before .before .before .before .pre) l k _ _ _ (c .before .before .before .before .before .before .before .next-due .ensures) (c .before .before .before .before .before .i .given .1) (c .before .before .entry-at .ensures), room (c .before .before .before .before .before .before .before .before .before .before .before .args .s) _ _ (c .before .before .before .before .before .before .before .before .before .before .before .pre)),
     )
 
 enum-told : tie.Need-enum-told
@@ -32,7 +31,7 @@ take-requires : tie.Need-take-requires
 take-requires c κs = search needs
 
 leave-end-requires : tie.Need-leave-end-requires
-leave-end-requires c κs = 
+leave-end-requires c κs =
     let g = c .before .before .before .before .before .before .before .before .before .before .before .good .0 .1 .1 .0 in
     let l : length (c .before .before .before .before .before .before .before .before .before .before .before .args .s .settings .terminal) ≡ 8 = search needs in
     let k : length (c .before .before .before .before .before .before .before .before .before .before .before .args .s .settings .merchant) ≡ 15 = search needs in
