@@ -199,27 +199,27 @@ allOf (b ∷ bs) = b && allOf bs
 -- 2. Settings, state or journal break a rule: each clause of the page.
 abbrev pub clauses : State → List Entry → List Bool
 clauses s es =
-    -- more entries than the limit
+    -- 2.1 more entries than the limit
     leb (s .entries) (s .settings .limit)
-    -- a value out of its range or form
+    -- 2.2 a value out of its range or form
     ∷ settingsInForm (s .settings)
     ∷ stateInForm s
     ∷ every (λ i e. inForm e) 0 es
-    -- a voided mark on a kind other than 20 or 22
+    -- 2.3 a voided mark on a kind other than 20 or 22
     ∷ every (λ i e. keepsVoided e) 0 es
-    -- a mark or resend other than 0 outside the upload or on an entry not due
+    -- 2.4 a mark or resend other than 0 outside the upload or on an entry not due
     ∷ every (λ i e. keepsUnmarked (inUpload (s .phase)) e) 0 es
-    -- a resend at mark 0 or above L
+    -- 2.5 a resend at mark 0 or above L
     ∷ every (λ i e. keepsResends (s .settings .sendings) e) 0 es
-    -- a mark 1 already resent L times and not awaited
+    -- 2.6 a mark 1 already resent L times and not awaited
     ∷ every (λ i e. keepsSilent (s .settings .sendings) (isAt (awaitedItem (s .phase)) i) e) 0 es
-    -- two entries of one trace
+    -- 2.7 two entries of one trace
     ∷ distinct es
-    -- sums past rule 21
+    -- 2.8 sums past rule 21
     ∷ sumsKept (totalsOf es)
-    -- counts out of balance
+    -- 2.9 counts out of balance
     ∷ balanced (s .counts) (waiting (s .phase)) (s .entries)
-    -- what is awaited or pending
+    -- 2.10 an awaited item, an awaited end, an awaited card request, a pending or awaited reversal (awaitedKept, phaseKept)
     ∷ phaseKept (s .settings) (s .entries) es (s .phase)
     ∷ []
 
