@@ -1,10 +1,9 @@
 -- Laws of the rules of send reversal, and of the reversal that leaves.
 use mathlib.Core.Path.{_≡_, refl, sym, ap, _∙_}
-use mathlib.Core.List.{List, [], _∷_, _++_}
-use mathlib.Core.Bool.{Bool, true, false, cond, not, and-eq-true-iff}
+use mathlib.Core.List.{List, [], _∷_}
+use mathlib.Core.Bool.{Bool, true, false, not}
 use Prim.Native.Nat.{ℕ, _≤_, _<_}
 use native.Mathlib.Omega.{arith}
-use lib.Dec.{ltb}
 use lib.ListN.{length}
 use borrow.Author.Tests.{ltb-true}
 use Rattle.message.specs.Build.{messageOf}
@@ -20,7 +19,7 @@ use Rattle.state.specs.declared.Reversal.{Reversal}
 use Rattle.state.specs.declared.State.{State}
 use Rattle.state.specs.State.{inPhase, isWaiting}
 use Rattle.state.specs.Calls.{Rule, rule, firstBroken, resultOf, refused}
-use Rattle.state.proofs.Choices.{numbered, first-stops, first-goes, refuses, goes}
+use Rattle.state.proofs.Choices.{first-none, first-stops, first-goes, refuses, goes}
 use Rattle.rules.specs.Rules.{rules12, phaseInForm, phaseKept}
 use Rattle.rules.proofs.InOrder.{reversal-holds, Fit, fit}
 use Rattle.compose.specs.Compose.{withAll}
@@ -29,19 +28,6 @@ use Rattle.outgoing.specs.Outgoing.{reversalFields, reversalMessage, lengthOf}
 use Rattle.outgoing.proofs.Leaving.{reversal-held, reversal-is, reversal-listed, written-is}
 use Rattle.journal.specs.Journal.{entriesOf}
 use Rattle.reversing.specs.Reversing.{sendReversalRules, again, leaves, sendFrom, sendReversal}
-
--- where no rule of two lists is broken, none of the first is
-pub first-none : (rs qs : List Rule) → numbered rs ≡ true → firstBroken (rs ++ qs) ≡ 0 → firstBroken rs ≡ 0
-unfolding firstBroken
-first-none [] qs w e = refl
-first-none (r ∷ rs) qs w e =
-    let a = and-eq-true-iff (ltb 0 (r .number)) (numbered rs) .0 w in
-    go (r .broken) (first-none rs qs (a .1)) (ltb-true 0 (r .number) (a .0)) e
-  where
-    go : (b : Bool) → (firstBroken (rs ++ qs) ≡ 0 → firstBroken rs ≡ 0) → 0 < r .number
-        → cond b (r .number) (firstBroken (rs ++ qs)) ≡ 0 → cond b (r .number) (firstBroken rs) ≡ 0
-    go true ih p e = absurd (omega arith)
-    go false ih p e = ih e
 
 -- the rules after 1 and 2
 abbrev own : State → List Rule

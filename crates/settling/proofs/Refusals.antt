@@ -1,31 +1,15 @@
 -- Laws of the rules of settle.
 use mathlib.Core.Path.{_≡_, refl, sym, _∙_}
-use mathlib.Core.List.{List, [], _∷_, _++_}
-use mathlib.Core.Bool.{Bool, true, false, cond, not, and-eq-true-iff}
-use Prim.Native.Nat.{ℕ, _<_}
-use native.Mathlib.Omega.{arith}
-use lib.Dec.{ltb}
-use borrow.Author.Tests.{ltb-true}
+use mathlib.Core.List.{List, [], _∷_}
+use mathlib.Core.Bool.{Bool, true, false, not}
+use Prim.Native.Nat.{ℕ}
 use Rattle.state.specs.declared.State.{State}
 use Rattle.state.specs.State.{isWaiting, isPending}
 use Rattle.state.specs.Calls.{Rule, rule, firstBroken}
-use Rattle.state.proofs.Choices.{numbered, first-stops, first-goes}
+use Rattle.state.proofs.Choices.{first-none, first-stops, first-goes}
 use Rattle.rules.specs.Rules.{rules12}
 use Rattle.rules.proofs.InOrder.{Fit, fit}
 use Rattle.settling.specs.Settling.{isUploading, settleRules}
-
--- where no rule of two lists is broken, none of the first is
-first-none : (rs qs : List Rule) → numbered rs ≡ true → firstBroken (rs ++ qs) ≡ 0 → firstBroken rs ≡ 0
-unfolding firstBroken
-first-none [] qs w e = refl
-first-none (r ∷ rs) qs w e =
-    let a = and-eq-true-iff (ltb 0 (r .number)) (numbered rs) .0 w in
-    go (r .broken) (first-none rs qs (a .1)) (ltb-true 0 (r .number) (a .0)) e
-  where
-    go : (b : Bool) → (firstBroken (rs ++ qs) ≡ 0 → firstBroken rs ≡ 0) → 0 < r .number
-        → cond b (r .number) (firstBroken (rs ++ qs)) ≡ 0 → cond b (r .number) (firstBroken rs) ≡ 0
-    go true ih p e = absurd (omega arith)
-    go false ih p e = ih e
 
 -- the rules after 1 and 2
 abbrev own : State → List Rule

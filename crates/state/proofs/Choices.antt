@@ -56,6 +56,19 @@ first-goes (r ∷ rs) qs n w e h = let a = and-eq-true-iff (ltb 0 (r .number)) (
     go true ih p e = absurd (omega arith)
     go false ih p e = ih e h
 
+-- where no rule of two lists is broken, none of the first is
+pub first-none : (rs qs : List Rule) → numbered rs ≡ true → firstBroken (rs ++ qs) ≡ 0 → firstBroken rs ≡ 0
+unfolding firstBroken
+first-none [] qs w e = refl
+first-none (r ∷ rs) qs w e =
+    let a = and-eq-true-iff (ltb 0 (r .number)) (numbered rs) .0 w in
+    go (r .broken) (first-none rs qs (a .1)) (ltb-true 0 (r .number) (a .0)) e
+  where
+    go : (b : Bool) → (firstBroken (rs ++ qs) ≡ 0 → firstBroken rs ≡ 0) → 0 < r .number
+        → cond b (r .number) (firstBroken (rs ++ qs)) ≡ 0 → cond b (r .number) (firstBroken rs) ≡ 0
+    go true ih p e = absurd (omega arith)
+    go false ih p e = ih e
+
 -- a list with no rule broken: the test of each number fails
 abbrev pub brokenAt : ℕ → List Rule → Bool
 brokenAt n [] = false

@@ -1,12 +1,12 @@
 -- Laws of the rules of send next upload, and of the item or the end that leaves.
 use mathlib.Core.Path.{_≡_, refl, sym, ap, _∙_}
-use mathlib.Core.List.{List, [], _∷_, _++_}
-use mathlib.Core.Bool.{Bool, true, false, cond, not, _||_, and-eq-true-iff}
+use mathlib.Core.List.{List, [], _∷_}
+use mathlib.Core.Bool.{Bool, true, false, not, _||_, and-eq-true-iff}
 use Prim.Native.Nat.{ℕ, _≤_, _<_}
 use native.Mathlib.Omega.{arith}
-use lib.Dec.{ltb, leb, eqb}
+use lib.Dec.{leb, eqb}
 use lib.ListN.{length}
-use borrow.Author.Tests.{ltb-true, leb-true}
+use borrow.Author.Tests.{leb-true}
 use Rattle.message.specs.Build.{messageOf}
 use Rattle.message.specs.Message.{largest}
 use Rattle.message.specs.declared.Message.{Message}
@@ -28,7 +28,7 @@ use Rattle.state.specs.declared.Phase.the-variants.{Waiting, Uploading}
 use Rattle.state.specs.declared.State.{State}
 use Rattle.state.specs.State.{inPhase, isWaiting}
 use Rattle.state.specs.Calls.{Rule, rule, firstBroken, resultOf, refused}
-use Rattle.state.proofs.Choices.{numbered, first-stops, first-goes, refuses, goes}
+use Rattle.state.proofs.Choices.{first-none, first-stops, first-goes, refuses, goes}
 use Rattle.rules.specs.Rules.{rules12}
 use Rattle.rules.proofs.InOrder.{Fit, fit}
 use Rattle.compose.specs.Compose.{allHeld, withAll}
@@ -38,19 +38,6 @@ use Rattle.outgoing.proofs.Leaving.{written-is}
 use Rattle.uploading.specs.Uploading.{itemFields, itemMessage, endFields, endMessage, sendNextUploadRules, resent, itemLeaves, ending, endLeaves, nextLeaves, uploadFrom, sendNextUpload}
 use Rattle.uploading.proofs.Held.{EntryHeld, item-held, end-held, upload-listed}
 use Rattle.outgoing.specs.Leaving.{SettingsHeld}
-
--- where no rule of two lists is broken, none of the first is
-first-none : (rs qs : List Rule) → numbered rs ≡ true → firstBroken (rs ++ qs) ≡ 0 → firstBroken rs ≡ 0
-unfolding firstBroken
-first-none [] qs w e = refl
-first-none (r ∷ rs) qs w e =
-    let a = and-eq-true-iff (ltb 0 (r .number)) (numbered rs) .0 w in
-    go (r .broken) (first-none rs qs (a .1)) (ltb-true 0 (r .number) (a .0)) e
-  where
-    go : (b : Bool) → (firstBroken (rs ++ qs) ≡ 0 → firstBroken rs ≡ 0) → 0 < r .number
-        → cond b (r .number) (firstBroken (rs ++ qs)) ≡ 0 → cond b (r .number) (firstBroken rs) ≡ 0
-    go true ih p e = absurd (omega arith)
-    go false ih p e = ih e
 
 -- the rules after 1 and 2
 abbrev own : State → List Rule
