@@ -1,0 +1,34 @@
+-- `centre::reconciliation` meets its contract.
+use mathlib.Core.Path.{_∙_}
+use borrow.Author.Needs.{needs}
+use Rattle.centre.specs.Centre.{reconciliation}
+use Rattle.centre.proofs.reconciliation.Statement.{statement}
+use Rattle.centre.proofs.reconciliation.Tie as tie
+
+answer-type-requires : tie.Need-answer-type-requires
+answer-type-requires c κs = search needs
+
+typed-requires : tie.Need-typed-requires
+typed-requires c κs = search needs
+
+with-sent-fields-requires : tie.Need-with-sent-fields-requires
+with-sent-fields-requires c κs = search needs
+
+with-field48-requires : tie.Need-with-field48-requires
+with-field48-requires c κs = search needs
+
+returns : tie.Need-returns
+unfolding reconciliation
+returns c =
+    c .with-field48 .ensures
+    ∙ rw (c .before .with-sent-fields .ensures, c .before .before .typed .ensures, c .before .before .before .answer-type .ensures)
+
+pub reconciliation-spec : {M : Type 1} → statement M
+reconciliation-spec =
+    tie.close
+    (tie.spec
+    answer-type-requires
+    typed-requires
+    with-sent-fields-requires
+    with-field48-requires
+    returns)

@@ -1,0 +1,37 @@
+-- `centre::with_approval_fields` meets its contract.
+use borrow.Author.Needs.{needs}
+use Rattle.compose.proofs.Composed.{all-append}
+use Rattle.centre.specs.Centre.{authorisationField, macField}
+use Rattle.centre.proofs.with_approval_fields.Statement.{statement}
+use Rattle.centre.proofs.with_approval_fields.Tie as tie
+
+with-mac-requires : tie.Need-with-mac-requires
+with-mac-requires c κs = search needs
+
+with-authorisation-requires : tie.Need-with-authorisation-requires
+with-authorisation-requires c κs = search needs
+
+with-trace-figures-requires : tie.Need-with-trace-figures-requires
+with-trace-figures-requires c κs = search needs
+
+with-number-requires : tie.Need-with-number-requires
+with-number-requires c κs = search needs
+
+with-digits-sent-requires : tie.Need-with-digits-sent-requires
+with-digits-sent-requires c κs = search needs
+
+returns : tie.Need-returns
+returns c =
+    let a = c .before .before .before .before .before .args in
+    rw (c .with-digits-sent .ensures, c .before .with-number .ensures, c .before .before .with-trace-figures .ensures, c .before .before .before .with-authorisation .ensures, c .before .before .before .before .with-mac .ensures, all-append (authorisationField (a .sent) (a .code)) macField (a .m))
+
+pub with-approval-fields-spec : {M : Type 1} → statement M
+with-approval-fields-spec =
+    tie.close
+    (tie.spec
+    with-mac-requires
+    with-authorisation-requires
+    with-trace-figures-requires
+    with-number-requires
+    with-digits-sent-requires
+    returns)

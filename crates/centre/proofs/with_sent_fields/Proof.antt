@@ -1,0 +1,29 @@
+-- `centre::with_sent_fields` meets its contract.
+use borrow.Author.Needs.{needs}
+use Rattle.centre.proofs.with_sent_fields.Statement.{statement}
+use Rattle.centre.proofs.with_sent_fields.Tie as tie
+
+with-digits-sent-requires : tie.Need-with-digits-sent-requires
+with-digits-sent-requires c κs = search needs
+
+with-bytes-sent-requires : tie.Need-with-bytes-sent-requires
+with-bytes-sent-requires c κs = search needs
+
+with-bytes-sent-requires-2 : tie.Need-with-bytes-sent-requires-2
+with-bytes-sent-requires-2 c κs = search needs
+
+with-digits-sent-requires-2 : tie.Need-with-digits-sent-requires-2
+with-digits-sent-requires-2 c κs = search needs
+
+returns : tie.Need-returns
+returns c = rw (c .with-digits-sent2 .ensures, c .before .with-bytes-sent2 .ensures, c .before .before .with-bytes-sent .ensures, c .before .before .before .with-digits-sent .ensures)
+
+pub with-sent-fields-spec : {M : Type 1} → statement M
+with-sent-fields-spec =
+    tie.close
+    (tie.spec
+    with-digits-sent-requires
+    with-bytes-sent-requires
+    with-bytes-sent-requires-2
+    with-digits-sent-requires-2
+    returns)

@@ -1,0 +1,95 @@
+-- The simulated centre: what it answers to a message that left.
+use mathlib.Core.List.{List, [], _∷_, _++_}
+use mathlib.Core.Bool.{Bool, cond, _&&_}
+use Prim.Native.Nat.{ℕ, _+_}
+use lib.Dec.{eqb}
+use lib.ListN.{getD, replicate}
+use Rattle.digits.specs.Digits.{pack}
+use Rattle.digits.specs.Numbers.{digitsOf}
+use Rattle.field.specs.Table.{among}
+use Rattle.message.specs.Message.{fieldOf}
+use Rattle.message.specs.Build.{Item, digits, bytes, messageOf}
+use Rattle.message.specs.declared.Message.{Message}
+use Rattle.packed.specs.Packed.{numeral}
+use Rattle.parts.specs.Parts.{copies, numberIn}
+use Rattle.compose.specs.Compose.{withAll}
+use Rattle.lines.specs.Hexadecimal.{toHex}
+use Rattle.centre.specs.declared.Left.{Left}
+use Rattle.centre.specs.declared.Left.the-variants.{Nothing, Request, Reversal, Settlement, Upload}
+
+-- what left, by its type
+unfoldable pub leftAs : ℕ → Left
+leftAs i =
+    cond (among i (0x0100 ∷ 0x0200 ∷ 0x0220 ∷ [])) Request
+      (cond (eqb i 0x0400) Reversal
+        (cond (eqb i 0x0500) Settlement
+          (cond (eqb i 0x0320) Upload Nothing)))
+
+-- the type of the answer: its type plus 10
+unfoldable pub answerType : ℕ → ℕ
+answerType i = cond (among i (0x0100 ∷ 0x0200 ∷ 0x0220 ∷ 0x0320 ∷ 0x0400 ∷ 0x0500 ∷ [])) (i + 0x10) 0
+
+-- k digits of field n as a number, from digit i on
+abbrev pub sentNumber : ℕ → ℕ → ℕ → Message → ℕ
+sentNumber n i k m = numeral (numberIn m n i k)
+
+-- field n as sent, of k digits or of k bytes
+abbrev pub digitsSent : ℕ → ℕ → Message → Item
+digitsSent n k m = digits n (digitsOf k (sentNumber n 0 k m))
+
+abbrev pub bytesSent : ℕ → ℕ → Message → Item
+bytesSent n k m = bytes n (cond (copies m n k) (fieldOf m n .bytes) (replicate k 0x20))
+
+-- fields 11, 41, 42, 60 as sent
+abbrev pub sentFields : Message → List Item
+sentFields m = digitsSent 11 6 m ∷ bytesSent 41 8 m ∷ bytesSent 42 15 m ∷ digitsSent 60 11 m ∷ []
+
+-- the trace as so many digits
+abbrev pub traceFigures : ℕ → Message → List ℕ
+traceFigures k m = toHex (pack (digitsOf k (sentNumber 11 0 6 m)))
+
+-- 64, which the key pad judges
+abbrev pub macField : List Item
+macField = bytes 64 (replicate 8 0) ∷ []
+
+-- 38 when the code is 00: the trace's six digits
+unfoldable pub isApproval : List ℕ → Bool
+isApproval code = eqb (getD code 0 0) 0x30 && eqb (getD code 1 0) 0x30
+
+abbrev pub authorisationField : Message → List ℕ → List Item
+authorisationField m code = cond (isApproval code) (bytes 38 (traceFigures 6 m) ∷ []) []
+
+-- to a card request also 4, 13 (the date), 37 (the trace as twelve digits), 38 and 64
+abbrev pub approvalFields : Message → ℕ → List ℕ → List Item
+approvalFields m date code =
+    digitsSent 4 12 m
+    ∷ digits 13 (digitsOf 4 date)
+    ∷ bytes 37 (traceFigures 12 m)
+    ∷ (authorisationField m code ++ macField)
+
+-- to a reversal also 64
+abbrev pub alsoTo : Left → Message → ℕ → List ℕ → List Item
+alsoTo Nothing m date code = []
+alsoTo Request m date code = approvalFields m date code
+alsoTo Reversal m date code = macField
+alsoTo Settlement m date code = []
+alsoTo Upload m date code = []
+
+-- its type plus 10, fields 11, 41, 42, 60 as sent, 39 = code
+abbrev pub replyFields : Message → ℕ → List ℕ → List Item
+replyFields m date code = bytes 39 code ∷ (sentFields m ++ alsoTo (leftAs (m .indicator)) m date code)
+
+unfoldable pub reply : Message → ℕ → List ℕ → Message
+reply m date code = withAll (replyFields m date code) (messageOf (answerType (m .indicator)) [])
+
+-- field 48 as sent with this digit: the totals are its first thirty digits, and 31 zeros follow the digit
+abbrev pub field48With : Message → ℕ → List ℕ
+field48With m digit =
+    digitsOf 15 (sentNumber 48 0 15 m) ++ (digitsOf 15 (sentNumber 48 15 15 m) ++ (digitsOf 1 digit ++ replicate 31 0))
+
+-- 11, 41, 42, 48 as sent with this digit, 60
+abbrev pub reconciliationFields : Message → ℕ → List Item
+reconciliationFields m digit = digits 48 (field48With m digit) ∷ sentFields m
+
+unfoldable pub reconciliation : Message → ℕ → Message
+reconciliation m digit = withAll (reconciliationFields m digit) (messageOf (answerType (m .indicator)) [])

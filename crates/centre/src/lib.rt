@@ -1,0 +1,169 @@
+// The simulated centre: what it answers to a message that left.
+use digits::Number;
+use message::Message;
+ghost use mathlib.Core.Path.{_≡_};
+ghost use Prim.Native.Nat.{_*_, _≤_};
+ghost use Rattle.message.specs.Build.{digits, bytes};
+ghost use Rattle.packed.specs.Packed.{numeral};
+ghost use Rattle.compose.specs.Compose.{withItem, withAll};
+ghost use Rattle.centre.specs.Centre.{leftAs, answerType, sentNumber, digitsSent, bytesSent, sentFields, traceFigures, macField, authorisationField, approvalFields, alsoTo, reply, field48With, reconciliation};
+
+// What left.
+pub enum Left {
+    Nothing,
+    Request,
+    Reversal,
+    Settlement,
+    Upload,
+}
+
+// What left, by its type.
+pub fn left_as(indicator: u16) -> Left
+    ensures { λ r. ⌜ r ≡ leftAs indicator ⌝ }
+{
+    match indicator {
+        0x0100 => Left::Request,
+        0x0200 => Left::Request,
+        0x0220 => Left::Request,
+        0x0400 => Left::Reversal,
+        0x0500 => Left::Settlement,
+        0x0320 => Left::Upload,
+        _ => Left::Nothing,
+    }
+}
+
+fn answer_type(indicator: u16) -> u16
+    ensures { λ r. ⌜ r ≡ answerType indicator ⌝ }
+{
+    match indicator {
+        0x0100 => 0x0110,
+        0x0200 => 0x0210,
+        0x0220 => 0x0230,
+        0x0320 => 0x0330,
+        0x0400 => 0x0410,
+        0x0500 => 0x0510,
+        _ => 0,
+    }
+}
+
+fn numeral(x: Number) -> u64
+    ensures { λ r. ⌜ r ≡ numeral x ⌝ }
+{
+    match x {
+        Number::Is(v) => v,
+        Number::Not => 0,
+    }
+}
+
+// The message with field n as sent, of so many digits.
+fn with_digits_sent(m: Message, n: u8, count: u8, sent: Message) -> Message
+    ensures { λ r. ⌜ r ≡ withItem (digitsSent n count sent) m ⌝ }
+{
+    let x = numeral(parts::number_in(sent, n, 0, count as usize));
+    compose::with_number(m, n, count, x)
+}
+
+// The message with field n as sent, of so many bytes.
+fn with_bytes_sent(m: Message, n: u8, count: usize, sent: Message) -> Message
+    requires { ⌜ count ≤ 15 ⌝ }
+    ensures { λ r. ⌜ r ≡ withItem (bytesSent n count sent) m ⌝ }
+{
+    let mut b = [0x20u8; 15];
+    parts::field_into(sent, n, &mut b[..count]);
+    compose::with_bytes(m, n, &b[..count])
+}
+
+// Fields 11, 41, 42, 60 as sent, from the last to the first.
+fn with_sent_fields(m: Message, sent: Message) -> Message
+    ensures { λ r. ⌜ r ≡ withAll (sentFields sent) m ⌝ }
+{
+    let m60 = with_digits_sent(m, 60, 11, sent);
+    let m42 = with_bytes_sent(m60, 42, 15, sent);
+    let m41 = with_bytes_sent(m42, 41, 8, sent);
+    with_digits_sent(m41, 11, 6, sent)
+}
+
+fn trace_sent(sent: Message) -> u64
+    ensures { λ r. ⌜ r ≡ sentNumber 11 0 6 sent ⌝ }
+{
+    numeral(parts::number_in(sent, 11, 0, 6))
+}
+
+// The message with field n holding the trace as digits, two for each of so many bytes.
+fn with_trace_figures(m: Message, n: u8, pairs: usize, sent: Message) -> Message
+    requires { ⌜ pairs ≤ 6 ⌝ }
+    ensures { λ r. ⌜ r ≡ withItem (bytes n (traceFigures (2 * pairs) sent)) m ⌝ }
+{
+    let end = 2 * pairs;
+    let mut figures = [0u8; 6];
+    let mut text = [0u8; 12];
+    packed::put_number(trace_sent(sent), &mut figures[..pairs]);
+    lines::put_hex(&figures[..pairs], &mut text[..end]);
+    compose::with_bytes(m, n, &text[..end])
+}
+
+fn with_authorisation(m: Message, sent: Message, code: [u8; 2]) -> Message
+    ensures { λ r. ⌜ r ≡ withAll (authorisationField sent code) m ⌝ }
+{
+    if (code[0] == 0x30) & (code[1] == 0x30) {
+        return with_trace_figures(m, 38, 3, sent);
+    }
+    m
+}
+
+fn with_mac(m: Message) -> Message
+    ensures { λ r. ⌜ r ≡ withAll macField m ⌝ }
+{
+    let mac = [0u8; 8];
+    compose::with_bytes(m, 64, &mac)
+}
+
+// What a card request is answered besides.
+fn with_approval_fields(m: Message, sent: Message, date: u16, code: [u8; 2]) -> Message
+    ensures { λ r. ⌜ r ≡ withAll (approvalFields sent date code) m ⌝ }
+{
+    let m38 = with_authorisation(with_mac(m), sent, code);
+    let m37 = with_trace_figures(m38, 37, 6, sent);
+    let m13 = compose::with_number(m37, 13, 4, date as u64);
+    with_digits_sent(m13, 4, 12, sent)
+}
+
+fn with_also(m: Message, left: Left, sent: Message, date: u16, code: [u8; 2]) -> Message
+    ensures { λ r. ⌜ r ≡ withAll (alsoTo left sent date code) m ⌝ }
+{
+    match left {
+        Left::Nothing => m,
+        Left::Request => with_approval_fields(m, sent, date, code),
+        Left::Reversal => with_mac(m),
+        Left::Settlement => m,
+        Left::Upload => m,
+    }
+}
+
+// The answer to a message that left, with this code and on this date.
+pub fn reply(sent: Message, date: u16, code: [u8; 2]) -> Message
+    ensures { λ r. ⌜ r ≡ reply sent date code ⌝ }
+{
+    let left = left_as(sent.indicator);
+    let m = compose::typed(answer_type(sent.indicator));
+    let also = with_also(m, left, sent, date, code);
+    compose::with_bytes(with_sent_fields(also, sent), 39, &code)
+}
+
+fn with_field48(m: Message, sent: Message, digit: u8) -> Message
+    ensures { λ r. ⌜ r ≡ withItem (digits 48 (field48With sent digit)) m ⌝ }
+{
+    let mut ds = [0u8; 62];
+    digits::digits_into(numeral(parts::number_in(sent, 48, 0, 15)), &mut ds[..15]);
+    digits::digits_into(numeral(parts::number_in(sent, 48, 15, 15)), &mut ds[15..30]);
+    digits::digits_into(digit as u64, &mut ds[30..31]);
+    compose::with_digits(m, 48, &ds)
+}
+
+// The answer to a settlement, with this reconciliation digit.
+pub fn reconciliation(sent: Message, digit: u8) -> Message
+    ensures { λ r. ⌜ r ≡ reconciliation sent digit ⌝ }
+{
+    let m = compose::typed(answer_type(sent.indicator));
+    with_field48(with_sent_fields(m, sent), sent, digit)
+}

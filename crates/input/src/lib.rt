@@ -1,0 +1,153 @@
+// Standard input, line by line.
+use libc::STDIN_FILENO;
+ghost use mathlib.Core.Path.{_≡_};
+ghost use Prim.Native.Nat.{_≤_};
+ghost use lib.ListN.{length};
+ghost use Rattle.texts.specs.Text.{Adds};
+ghost use Rattle.input.specs.Input.{beforeFeed, hasFeed, used, lineOf};
+
+// Where the bytes of a chunk that are still to be taken begin and end.
+struct Left {
+    from: usize,
+    end: usize,
+}
+
+// Where the reading of lines stands: the number of the line in hand and how many of its bytes are kept, whether it ended in
+// a line feed, whether the input has ended, and what is left of the chunk.
+pub struct Input {
+    pub number: u64,
+    pub len: usize,
+    pub whole: bool,
+    pub ended: bool,
+    left: Left,
+}
+
+// What a line takes of some bytes.
+struct Taken {
+    len: usize,
+    used: usize,
+    whole: bool,
+}
+
+impl Input {
+    // The most bytes of a line, without its line end.
+    pub const LONGEST: usize = 4096;
+    // A line longer than that is too long whatever follows: one place is for a carriage return, one for a byte too many.
+    pub const ROOM: usize = 4098;
+
+    pub fn new() -> Self {
+        Input {
+            number: 0,
+            len: 0,
+            whole: false,
+            ended: false,
+            left: Left { from: 0, end: 0 },
+        }
+    }
+
+    // The same line, where nothing more comes.
+    fn at_end(self) -> Self
+        ensures { λ r. ⌜ r .len ≡ self .len ⌝ }
+    {
+        Input {
+            number: self.number,
+            len: self.len,
+            whole: false,
+            ended: true,
+            left: Left { from: 0, end: 0 },
+        }
+    }
+}
+
+// Takes the bytes of s up to its first line feed into a line of len bytes, as far as there is room for them.
+fn take_in(s: &[u8], len: usize, line: &mut [u8]) -> Taken
+    ensures { λ r. ⌜ Adds (beforeFeed (now (s .entry))) len (now (line .entry)) (r .len) (now (line .exit)) × (r .used ≡ used (now (s .entry))) × (r .whole ≡ hasFeed (now (s .entry))) ⌝ }
+{
+    let end = bytes::scan::find(s, 0, s.len(), b'\n');
+    let kept = texts::add(&s[..end], len, line);
+    if end < s.len() {
+        return Taken {
+            len: kept,
+            used: end + 1,
+            whole: true,
+        };
+    }
+    Taken {
+        len: kept,
+        used: end,
+        whole: false,
+    }
+}
+
+// What is left of the chunk, or what a read brings where that is nothing.
+fn refilled(left: Left, chunk: &mut [u8]) -> Left
+    ensures { λ r. ⌜ (r .from ≤ r .end) × (r .end ≤ length (now (chunk .entry))) ⌝ }
+{
+    if (left.from < left.end) & (left.end <= chunk.len()) {
+        return left;
+    }
+    let got = libc::read(STDIN_FILENO, chunk);
+    Left {
+        from: 0,
+        end: io::count(got, chunk),
+    }
+}
+
+// Takes what is left of the chunk into the line, up to a line feed.
+fn more(at: Input, chunk: &mut [u8], line: &mut [u8]) -> Input
+    requires { ⌜ at .len ≤ length (now line) ⌝ }
+    ensures { λ r. ⌜ r .len ≤ length (now (line .entry)) ⌝ }
+{
+    let left = refilled(at.left, chunk);
+    let from = left.from;
+    let end = left.end;
+    if from == end {
+        return at.at_end();
+    }
+    let taken = take_in(&chunk[from..end], at.len, line);
+    Input {
+        number: at.number,
+        len: taken.len,
+        whole: taken.whole,
+        ended: false,
+        left: Left {
+            from: from + taken.used,
+            end: end,
+        },
+    }
+}
+
+// Reads the next line: its first bytes stand in line, as many as fit, and the rest of it is dropped. The input has ended
+// where nothing more comes; bytes after the last line feed are a line too. A proved loop has to end, and nothing says that
+// the line does, so the loop counts its turns down.
+pub fn next(input: Input, chunk: &mut [u8], line: &mut [u8]) -> Input
+    ensures { λ r. ⌜ r .len ≤ length (now (line .entry)) ⌝ }
+{
+    let left = input.left;
+    let mut at = Input {
+        number: std::num::wrapping_add_u64(input.number, 1),
+        len: 0,
+        whole: false,
+        ended: false,
+        left: left,
+    };
+    let mut turns = u64::MAX;
+    while turns > 0 {
+        at = more(at, chunk, line);
+        if at.whole | at.ended {
+            return at;
+        }
+        turns -= 1;
+    }
+    at.at_end()
+}
+
+// A line without its line end.
+pub fn line_of(whole: bool, s: &[u8]) -> &[u8]
+    ensures { λ r. ⌜ now r ≡ lineOf whole (now (s .entry)) ⌝ }
+{
+    if whole {
+        return lines::without_return(s);
+    }
+    s
+}

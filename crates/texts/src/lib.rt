@@ -1,0 +1,69 @@
+// A text that grows in a buffer. Each function adds to a text of n bytes at the front of out, as far as out has room, and
+// gives the new number of bytes.
+ghost use mathlib.Core.Path.{_≡_};
+ghost use mathlib.Core.List.{[], _∷_};
+ghost use Prim.Native.Nat.{min};
+ghost use Rattle.lines.specs.Buffer.{decimal};
+ghost use Rattle.lines.specs.Hexadecimal.{toHex};
+ghost use Rattle.texts.specs.Text.{sixDigits, Adds};
+
+fn least(a: usize, b: usize) -> usize
+    ensures { λ r. ⌜ r ≡ min a b ⌝ }
+{
+    if a < b {
+        return a;
+    }
+    b
+}
+
+// Adds the bytes of x.
+pub fn add(x: &[u8], n: usize, out: &mut [u8]) -> usize
+    ensures { λ r. ⌜ Adds (now (x .entry)) n (now (out .entry)) r (now (out .exit)) ⌝ }
+{
+    if out.len() < n {
+        return n;
+    }
+    let k = least(x.len(), out.len() - n);
+    let end = n + k;
+    bytes::copy(&x[..k], &mut out[n..end]);
+    end
+}
+
+// Adds a number in decimal.
+pub fn add_decimal(x: u64, n: usize, out: &mut [u8]) -> usize
+    ensures { λ r. ⌜ Adds (decimal x) n (now (out .entry)) r (now (out .exit)) ⌝ }
+{
+    let mut text = [0u8; 20];
+    let k = lines::put_decimal(x, &mut text);
+    add(&text[..k], n, out)
+}
+
+// Adds the last six digits of a number.
+pub fn add_six(x: u32, n: usize, out: &mut [u8]) -> usize
+    ensures { λ r. ⌜ Adds (sixDigits x) n (now (out .entry)) r (now (out .exit)) ⌝ }
+{
+    let mut digits = [0u8; 3];
+    packed::put_number(x as u64, &mut digits);
+    add_hex(&digits, n, out)
+}
+
+fn add_hex_byte(b: u8, n: usize, out: &mut [u8]) -> usize
+    ensures { λ r. ⌜ Adds (toHex (b ∷ [])) n (now (out .entry)) r (now (out .exit)) ⌝ }
+{
+    let mut text = [0u8; 2];
+    lines::put_hex(&[b], &mut text);
+    add(&text, n, out)
+}
+
+// Adds bytes as hexadecimal capitals.
+pub fn add_hex(s: &[u8], n: usize, out: &mut [u8]) -> usize
+    ensures { λ r. ⌜ Adds (toHex (now (s .entry))) n (now (out .entry)) r (now (out .exit)) ⌝ }
+{
+    let mut at = n;
+    let mut i = 0;
+    while i < s.len() {
+        at = add_hex_byte(s[i], at, out);
+        i += 1;
+    }
+    at
+}

@@ -1,0 +1,2 @@
+-- Laws of words, for the proofs of this crate.
+pub mod Words
