@@ -32,8 +32,6 @@ struct Taken {
 impl Input {
     // The most bytes of a line, without its line end.
     pub const LONGEST: usize = 4096;
-    // A line longer than that is too long whatever follows: one place is for a carriage return, one for a byte too many.
-    pub const ROOM: usize = 4098;
 
     pub fn new() -> Self {
         Input {
@@ -57,6 +55,13 @@ impl Input {
             left: Left { from: 0, end: 0 },
         }
     }
+}
+
+// Room for a line: beyond the longest one place is for a carriage return, and one for a byte too many.
+pub fn buffer() -> [u8; 4098]
+    ensures { λ r. ⌜ 4098 ≡ length r ⌝ }
+{
+    [0; 4098]
 }
 
 // Takes the bytes of s up to its first line feed into a line of len bytes, as far as there is room for them.

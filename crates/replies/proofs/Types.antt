@@ -1,0 +1,44 @@
+-- The types that leave, and those of their answers.
+use mathlib.Core.Path.{_≡_, refl, sym}
+use mathlib.Core.List.{[], _∷_}
+use mathlib.Core.Bool.{Bool, true, false}
+use Prim.Native.Nat.{ℕ, _+_}
+use native.Mathlib.Decide.{ℕ-discrete}
+use lib.Dec.{eqb}
+use borrow.Author.Tests.{ne-eqb}
+use Rattle.field.specs.Table.{among, indicators}
+use Rattle.centre.specs.Centre.{leftAs, answerType}
+use Rattle.centre.specs.declared.Left.{Left}
+use Rattle.centre.specs.declared.Left.the-variants.{Nothing, Request, Reversal, Settlement, Upload}
+
+-- a card request
+abbrev pub isRequest : Left → Bool
+isRequest Nothing = false
+isRequest Request = true
+isRequest Reversal = false
+isRequest Settlement = false
+isRequest Upload = false
+
+-- a type that leaves
+pub record Leaves (i : ℕ) : Type 0 where
+  pub answer : answerType i ≡ i + 0x10
+  pub answer-listed : among (answerType i) indicators ≡ true
+  pub requests : among i (0x0100 ∷ 0x0200 ∷ 0x0220 ∷ []) ≡ isRequest (leftAs i)
+
+pub leaves : (i : ℕ) → (leftAs i ≡ Nothing → ⊥) → Leaves i
+unfolding leftAs answerType indicators
+leaves i h =
+    go (ℕ-discrete i 0x0100) (ℕ-discrete i 0x0200) (ℕ-discrete i 0x0220) (ℕ-discrete i 0x0320) (ℕ-discrete i 0x0400) (ℕ-discrete i 0x0500)
+  where
+    other : (n : ℕ) → (i ≡ n → ⊥) → eqb n i ≡ false
+    other n e = ne-eqb n i (λ q. e (sym q))
+
+    go : Dec (i ≡ 0x0100) → Dec (i ≡ 0x0200) → Dec (i ≡ 0x0220) → Dec (i ≡ 0x0320) → Dec (i ≡ 0x0400) → Dec (i ≡ 0x0500) → Leaves i
+    go (yes e) b c d f g = rw e (record { answer = refl; answer-listed = refl; requests = refl })
+    go (no a) (yes e) c d f g = rw e (record { answer = refl; answer-listed = refl; requests = refl })
+    go (no a) (no b) (yes e) d f g = rw e (record { answer = refl; answer-listed = refl; requests = refl })
+    go (no a) (no b) (no c) (yes e) f g = rw e (record { answer = refl; answer-listed = refl; requests = refl })
+    go (no a) (no b) (no c) (no d) (yes e) g = rw e (record { answer = refl; answer-listed = refl; requests = refl })
+    go (no a) (no b) (no c) (no d) (no f) (yes e) = rw e (record { answer = refl; answer-listed = refl; requests = refl })
+    go (no a) (no b) (no c) (no d) (no f) (no g) =
+        absurd (h (rw (other 0x0100 a, other 0x0200 b, other 0x0220 c, ne-eqb i 0x0320 d, ne-eqb i 0x0400 f, ne-eqb i 0x0500 g)))
