@@ -1,0 +1,153 @@
+-- `script::command_of` meets its contract.
+use borrow.Author.Needs.{needs}
+use Rattle.script.proofs.command_of.Statement.{statement}
+use Rattle.script.proofs.command_of.Tie as tie
+
+enum-told : tie.Need-enum-told
+enum-told c = search needs
+
+enum-told-2 : tie.Need-enum-told-2
+enum-told-2 c = search needs
+
+word-requires : tie.Need-word-requires
+word-requires c κs = search needs
+
+number32-requires : tie.Need-number32-requires
+number32-requires c κs = search needs
+
+enum-told-3 : tie.Need-enum-told-3
+enum-told-3 c = search needs
+
+enum-told-4 : tie.Need-enum-told-4
+enum-told-4 c = search needs
+
+enum-told-5 : tie.Need-enum-told-5
+enum-told-5 c = search needs
+
+enum-told-6 : tie.Need-enum-told-6
+enum-told-6 c = search needs
+
+enum-told-7 : tie.Need-enum-told-7
+enum-told-7 c = search needs
+
+enum-told-8 : tie.Need-enum-told-8
+enum-told-8 c = search needs
+
+word-requires-2 : tie.Need-word-requires-2
+word-requires-2 c κs = search needs
+
+slice-aggregate-same : tie.Need-slice-aggregate-same
+slice-aggregate-same c = search needs
+
+same-requires : tie.Need-same-requires
+same-requires c κs = search needs
+
+enum-told-9 : tie.Need-enum-told-9
+enum-told-9 c = search needs
+
+replied-requires : tie.Need-replied-requires
+replied-requires c κs = search needs
+
+enum-told-10 : tie.Need-enum-told-10
+enum-told-10 c = search needs
+
+word-requires-3 : tie.Need-word-requires-3
+word-requires-3 c κs = search needs
+
+number8-requires : tie.Need-number8-requires
+number8-requires c κs = search needs
+
+enum-told-11 : tie.Need-enum-told-11
+enum-told-11 c = search needs
+
+word-requires-4 : tie.Need-word-requires-4
+word-requires-4 c κs = search needs
+
+month-day-requires : tie.Need-month-day-requires
+month-day-requires c κs = search needs
+
+enum-known-name : tie.Need-enum-known-name
+enum-known-name c = search needs
+
+enum-told-12 : tie.Need-enum-told-12
+enum-told-12 c = search needs
+
+returns : tie.Need-returns
+returns c = search needs
+
+returns-2 : tie.Need-returns-2
+returns-2 c = rw (c .before .before .enum-told2 .given .1, c .number32 .ensures, c .before .word .ensures)
+
+returns-3 : tie.Need-returns-3
+returns-3 c = search needs
+
+returns-4 : tie.Need-returns-4
+returns-4 c = search needs
+
+returns-5 : tie.Need-returns-5
+returns-5 c = search needs
+
+returns-6 : tie.Need-returns-6
+returns-6 c = search needs
+
+returns-7 : tie.Need-returns-7
+returns-7 c = search needs
+
+returns-8 : tie.Need-returns-8
+returns-8 c = rw (c .before .before .before .enum-told8 .given .1, c .same .ensures, c .before .before .word2 .ensures)
+
+returns-9 : tie.Need-returns-9
+returns-9 c = rw (c .before .enum-told9 .given .1) (c .replied .ensures)
+
+returns-10 : tie.Need-returns-10
+returns-10 c = rw (c .before .before .enum-told10 .given .1, c .number8 .ensures, c .before .word3 .ensures)
+
+returns-11 : tie.Need-returns-11
+returns-11 c = rw (c .before .before .enum-told11 .given .1, c .month-day .ensures .0, c .before .word4 .ensures)
+
+returns-12 : tie.Need-returns-12
+returns-12 c = rw (c .before .name .given .1)
+
+returns-13 : tie.Need-returns-13
+returns-13 c = rw (c .enum-told12 .given .1)
+
+pub command-of-spec : {M : Type 1} → statement M
+command-of-spec =
+    tie.close
+    (tie.spec
+    enum-told
+    enum-told-2
+    word-requires
+    number32-requires
+    enum-told-3
+    enum-told-4
+    enum-told-5
+    enum-told-6
+    enum-told-7
+    enum-told-8
+    word-requires-2
+    slice-aggregate-same
+    same-requires
+    enum-told-9
+    replied-requires
+    enum-told-10
+    word-requires-3
+    number8-requires
+    enum-told-11
+    word-requires-4
+    month-day-requires
+    enum-known-name
+    enum-told-12
+    returns
+    returns-2
+    returns-3
+    returns-4
+    returns-5
+    returns-6
+    returns-7
+    returns-8
+    returns-9
+    returns-10
+    returns-11
+    returns-12
+    returns-13)

@@ -1,0 +1,63 @@
+-- `script::values::given` meets its contract.
+use borrow.Author.Needs.{needs}
+use Rattle.script.specs.Script.{given}
+use Rattle.script.proofs.values.given.Statement.{statement}
+use Rattle.script.proofs.values.given.Tie as tie
+
+word-requires : tie.Need-word-requires
+word-requires c κs = search needs
+
+number8-requires : tie.Need-number8-requires
+number8-requires c κs = search needs
+
+word-requires-2 : tie.Need-word-requires-2
+word-requires-2 c κs = search needs
+
+number8-requires-2 : tie.Need-number8-requires-2
+number8-requires-2 c κs = search needs
+
+word-requires-3 : tie.Need-word-requires-3
+word-requires-3 c κs = search needs
+
+number8-requires-3 : tie.Need-number8-requires-3
+number8-requires-3 c κs = search needs
+
+word-requires-4 : tie.Need-word-requires-4
+word-requires-4 c κs = search needs
+
+word-requires-5 : tie.Need-word-requires-5
+word-requires-5 c κs = search needs
+
+word-requires-6 : tie.Need-word-requires-6
+word-requires-6 c κs = search needs
+
+word-requires-7 : tie.Need-word-requires-7
+word-requires-7 c κs = search needs
+
+word-requires-8 : tie.Need-word-requires-8
+word-requires-8 c κs = search needs
+
+keyed-requires : tie.Need-keyed-requires
+keyed-requires c κs = search needs
+
+returns : tie.Need-returns
+unfolding given
+returns c = rw (c .keyed .ensures, c .before .word8 .ensures, c .before .before .word7 .ensures, c .before .before .before .word6 .ensures, c .before .before .before .before .word5 .ensures, c .before .before .before .before .before .word4 .ensures, c .before .before .before .before .before .before .number83 .ensures, c .before .before .before .before .before .before .before .word3 .ensures, c .before .before .before .before .before .before .before .before .number82 .ensures, c .before .before .before .before .before .before .before .before .before .word2 .ensures, c .before .before .before .before .before .before .before .before .before .before .number8 .ensures, c .before .before .before .before .before .before .before .before .before .before .before .word .ensures)
+
+pub given-spec : {M : Type 1} → statement M
+given-spec =
+    tie.close
+    (tie.spec
+    word-requires
+    number8-requires
+    word-requires-2
+    number8-requires-2
+    word-requires-3
+    number8-requires-3
+    word-requires-4
+    word-requires-5
+    word-requires-6
+    word-requires-7
+    word-requires-8
+    keyed-requires
+    returns)

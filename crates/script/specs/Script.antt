@@ -1,0 +1,111 @@
+-- A line of a script as a command, with settings and desk data beside it.
+use mathlib.Core.List.{List, []}
+use mathlib.Core.Bool.{cond}
+use Prim.Native.Nat.{ℕ, _/_, _%_}
+use lib.ListN.{length, getD, replicate}
+use Rattle.digits.specs.declared.Number.{Number}
+use Rattle.digits.specs.declared.Number.the-variants.{Is, Not}
+use Rattle.packed.specs.Packed.{numeral}
+use Rattle.state.specs.declared.Card.{Card}
+use Rattle.state.specs.declared.Settings.{Settings}
+use Rattle.start.specs.declared.Desk.{Desk}
+use Rattle.texts.specs.Text.{text}
+use Rattle.words.specs.Words.{wordAt, sameWord, numberIn, numberUpTo, isText, textIn}
+use Rattle.script.specs.declared.Name.{Name}
+use Rattle.script.specs.declared.Name.the-variants as name
+use Rattle.script.specs.declared.Fault.the-variants as fault
+use Rattle.script.specs.declared.Verdict.{Verdict}
+use Rattle.script.specs.declared.Verdict.the-variants.{Fine, Wrong}
+use Rattle.script.specs.declared.Command.{Command}
+use Rattle.script.specs.declared.Command.the-variants as command
+use Rattle.script.specs.declared.Line.{Line}
+use Rattle.script.specs.Shapes.{nameOf, shapesOf, isEmpty, faultFrom}
+
+-- numbers of 8, 32 and 64 bits, and a date MMDD; 0 where a word is none
+unfoldable pub number8 : List ℕ → ℕ
+number8 w = numeral (numberUpTo 255 w)
+
+unfoldable pub number32 : List ℕ → ℕ
+number32 w = numeral (numberUpTo 4294967295 w)
+
+unfoldable pub number64 : List ℕ → ℕ
+number64 w = numeral (numberUpTo 999999999999999999 w)
+
+unfoldable pub monthDay : List ℕ → ℕ
+monthDay w = numeral (numberIn 4 w)
+
+-- a card is a word of digits; another word is none
+abbrev pub cardOf : Number → ℕ → Card
+cardOf (Is x) n = record { number = x; length = n }
+cardOf Not n = record { number = 0; length = 0 }
+
+unfoldable pub cardIn : List ℕ → Card
+cardIn w = cardOf (numberIn 19 w) (length w)
+
+-- a text of n bytes; where a word is none, n zeros, which no call takes
+unfoldable pub textOr : ℕ → List ℕ → List ℕ
+textOr n w = cond (isText n w) (textIn w) (replicate n 0)
+
+-- the desk's data from its words; an empty word is none
+unfoldable pub keyed : ℕ → List ℕ → List ℕ → List ℕ → List ℕ → List ℕ → ℕ → ℕ → Desk
+keyed kind amount card trace reference authorisation month day =
+    record {
+      kind = kind; amount = number64 amount; card = cardIn card; original = record { 0 = number32 trace };
+      month = month; day = day; authorisation = textOr 6 authorisation; reference = textOr 12 reference }
+
+-- start KIND AMOUNT CARD TRACE REFERENCE AUTHORISATION MONTH DAY
+unfoldable pub given : List ℕ → Desk
+given s =
+    keyed (number8 (wordAt 1 s)) (wordAt 2 s) (wordAt 3 s) (wordAt 4 s) (wordAt 5 s) (wordAt 6 s)
+      (number8 (wordAt 7 s)) (number8 (wordAt 8 s))
+
+-- what the desk keyed; where a line is no start, that has no meaning
+abbrev pub deskOf : Name → List ℕ → Desk
+deskOf (name.Request kind) s = keyed kind (wordAt 1 s) (wordAt 2 s) [] [] [] 0 0
+deskOf (name.Void kind) s = keyed kind [] [] (wordAt 1 s) [] [] 0 0
+deskOf (name.Authorised kind) s =
+    keyed kind (wordAt 1 s) (wordAt 2 s) [] [] (wordAt 3 s) (monthDay (wordAt 4 s) / 100) (monthDay (wordAt 4 s) % 100)
+deskOf name.Refund s =
+    keyed 25 (wordAt 1 s) (wordAt 2 s) [] (wordAt 3 s) [] (monthDay (wordAt 4 s) / 100) (monthDay (wordAt 4 s) % 100)
+deskOf name.Start s = given s
+deskOf name.Terminal s = given s
+deskOf name.SignedOn s = given s
+deskOf name.Answer s = given s
+deskOf name.Reply s = given s
+deskOf name.Reconcile s = given s
+deskOf name.Date s = given s
+deskOf (name.Plain p) s = given s
+deskOf name.Unknown s = given s
+
+-- terminal LIMIT SENDINGS REFUND TERMINAL MERCHANT
+unfoldable pub settingsIn : List ℕ → Settings
+settingsIn s =
+    record {
+      limit = number32 (wordAt 1 s); sendings = number8 (wordAt 2 s); refund = number64 (wordAt 3 s);
+      terminal = textOr 8 (wordAt 4 s); merchant = textOr 15 (wordAt 5 s) }
+
+-- the command of a line whose words are fine
+abbrev pub commandOf : Name → List ℕ → Command
+commandOf name.Terminal s = command.Terminal
+commandOf name.SignedOn s = command.SignedOn (record { 0 = number32 (wordAt 1 s) })
+commandOf (name.Request kind) s = command.Start
+commandOf (name.Void kind) s = command.Start
+commandOf (name.Authorised kind) s = command.Start
+commandOf name.Refund s = command.Start
+commandOf name.Start s = command.Start
+commandOf name.Answer s = command.Answer (sameWord (wordAt 2 s) (text "good"))
+commandOf name.Reply s = command.Reply (getD (wordAt 1 s) 0 0) (getD (wordAt 1 s) 1 0) (isEmpty (wordAt 2 s))
+commandOf name.Reconcile s = command.Reconcile (number8 (wordAt 1 s))
+commandOf name.Date s = command.Date (monthDay (wordAt 1 s))
+commandOf (name.Plain p) s = command.Plain p
+commandOf name.Unknown s = command.Wrong fault.Unknown
+
+abbrev pub judgedCommand : Verdict → Name → List ℕ → Command
+judgedCommand Fine n s = commandOf n s
+judgedCommand (Wrong f) n s = command.Wrong f
+
+unfoldable pub parsed : List ℕ → Line
+parsed s =
+    record {
+      command = judgedCommand (faultFrom 1 (shapesOf (nameOf (wordAt 0 s))) s) (nameOf (wordAt 0 s)) s;
+      settings = settingsIn s; desk = deskOf (nameOf (wordAt 0 s)) s }

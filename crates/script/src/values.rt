@@ -1,0 +1,164 @@
+// What words say: numbers, cards, a desk's data and settings.
+use crate::Name;
+use digits::Number;
+use parts::Trace;
+use start::Desk;
+use state::Card;
+use state::Settings;
+ghost use mathlib.Core.Path.{_≡_};
+ghost use Prim.Native.Nat.{_<_};
+ghost use Rattle.packed.specs.Packed.{numeral};
+ghost use Rattle.script.specs.Script.{number8, number32, number64, monthDay, cardIn, keyed, deskOf, settingsIn};
+
+fn numeral(x: Number) -> u64
+    ensures { λ r. ⌜ r ≡ numeral x ⌝ }
+{
+    match x {
+        Number::Is(v) => v,
+        Number::Not => 0,
+    }
+}
+
+// Numbers of 8, 32 and 64 bits; 0 where a word is none.
+pub fn number8(w: &[u8]) -> u8
+    ensures { λ r. ⌜ r ≡ number8 (now (w .entry)) ⌝ }
+{
+    numeral(words::number_up_to(255, w)) as u8
+}
+
+pub fn number32(w: &[u8]) -> u32
+    ensures { λ r. ⌜ r ≡ number32 (now (w .entry)) ⌝ }
+{
+    numeral(words::number_up_to(4294967295, w)) as u32
+}
+
+fn number64(w: &[u8]) -> u64
+    ensures { λ r. ⌜ r ≡ number64 (now (w .entry)) ⌝ }
+{
+    numeral(words::number_up_to(999999999999999999, w))
+}
+
+// A date MMDD as a number.
+pub fn month_day(w: &[u8]) -> u16
+    ensures { λ r. ⌜ (r ≡ monthDay (now (w .entry))) × (r < 10000) ⌝ }
+{
+    numeral(words::number_in(4, w)) as u16
+}
+
+fn card_in(w: &[u8]) -> Card
+    ensures { λ r. ⌜ r ≡ cardIn (now (w .entry)) ⌝ }
+{
+    match words::number_in(19, w) {
+        Number::Is(x) => Card {
+            number: x,
+            length: w.len() as u8,
+        },
+        Number::Not => Card {
+            number: 0,
+            length: 0,
+        },
+    }
+}
+
+// A desk's data from its words; an empty word is none.
+fn keyed(kind: u8, amount: &[u8], card: &[u8], trace: &[u8], reference: &[u8], authorisation: &[u8], month: u8, day: u8) -> Desk
+    ensures { λ r. ⌜ r ≡ keyed kind (now (amount .entry)) (now (card .entry)) (now (trace .entry)) (now (reference .entry)) (now (authorisation .entry)) month day ⌝ }
+{
+    let mut field37 = [0u8; 12];
+    let mut field38 = [0u8; 6];
+    words::text_into(reference, &mut field37);
+    words::text_into(authorisation, &mut field38);
+    let original = Trace(number32(trace));
+    Desk {
+        kind: kind,
+        amount: number64(amount),
+        card: card_in(card),
+        original: original,
+        month: month,
+        day: day,
+        authorisation: field38,
+        reference: field37,
+    }
+}
+
+fn requested(kind: u8, s: &[u8]) -> Desk
+    ensures { λ r. ⌜ r ≡ deskOf (Name.Request kind) (now (s .entry)) ⌝ }
+{
+    let none = &s[..0];
+    keyed(kind, words::word(s, 1), words::word(s, 2), none, none, none, 0, 0)
+}
+
+fn voiding(kind: u8, s: &[u8]) -> Desk
+    ensures { λ r. ⌜ r ≡ deskOf (Name.Void kind) (now (s .entry)) ⌝ }
+{
+    let none = &s[..0];
+    keyed(kind, none, none, words::word(s, 1), none, none, 0, 0)
+}
+
+fn authorised(kind: u8, s: &[u8]) -> Desk
+    ensures { λ r. ⌜ r ≡ deskOf (Name.Authorised kind) (now (s .entry)) ⌝ }
+{
+    let none = &s[..0];
+    let date = month_day(words::word(s, 4));
+    let month = (date / 100) as u8;
+    let day = (date % 100) as u8;
+    keyed(kind, words::word(s, 1), words::word(s, 2), none, none, words::word(s, 3), month, day)
+}
+
+fn refunded(s: &[u8]) -> Desk
+    ensures { λ r. ⌜ r ≡ deskOf Name.Refund (now (s .entry)) ⌝ }
+{
+    let none = &s[..0];
+    let date = month_day(words::word(s, 4));
+    let month = (date / 100) as u8;
+    let day = (date % 100) as u8;
+    keyed(25, words::word(s, 1), words::word(s, 2), none, words::word(s, 3), none, month, day)
+}
+
+// Every datum, as `start` gives it.
+fn given(s: &[u8]) -> Desk
+    ensures { λ r. ⌜ r ≡ deskOf Name.Start (now (s .entry)) ⌝ }
+{
+    let kind = number8(words::word(s, 1));
+    let month = number8(words::word(s, 7));
+    let day = number8(words::word(s, 8));
+    keyed(kind, words::word(s, 2), words::word(s, 3), words::word(s, 4), words::word(s, 5), words::word(s, 6), month, day)
+}
+
+// What the desk keyed on a line of this name; where it is no start, that has no meaning.
+pub fn desk_of(name: Name, s: &[u8]) -> Desk
+    ensures { λ r. ⌜ r ≡ deskOf name (now (s .entry)) ⌝ }
+{
+    match name {
+        Name::Request(kind) => requested(kind, s),
+        Name::Void(kind) => voiding(kind, s),
+        Name::Authorised(kind) => authorised(kind, s),
+        Name::Refund => refunded(s),
+        Name::Start => given(s),
+        Name::Terminal => given(s),
+        Name::SignedOn => given(s),
+        Name::Answer => given(s),
+        Name::Reply => given(s),
+        Name::Reconcile => given(s),
+        Name::Date => given(s),
+        Name::Plain(_) => given(s),
+        Name::Unknown => given(s),
+    }
+}
+
+// The settings of a line `terminal`; of another line they have no meaning.
+pub fn settings_in(s: &[u8]) -> Settings
+    ensures { λ r. ⌜ r ≡ settingsIn (now (s .entry)) ⌝ }
+{
+    let mut terminal = [0u8; 8];
+    let mut merchant = [0u8; 15];
+    words::text_into(words::word(s, 4), &mut terminal);
+    words::text_into(words::word(s, 5), &mut merchant);
+    Settings {
+        limit: number32(words::word(s, 1)),
+        sendings: number8(words::word(s, 2)),
+        refund: number64(words::word(s, 3)),
+        terminal: terminal,
+        merchant: merchant,
+    }
+}
