@@ -1,0 +1,2 @@
+-- Laws of the lines that a rehearsal writes.
+pub mod Lines
