@@ -1,0 +1,2 @@
+-- Laws of the calls, for the proofs of this crate.
+pub mod Calls
