@@ -7,7 +7,7 @@ ghost use Rattle.texts.specs.Text.{Adds};
 ghost use Rattle.input.specs.Input.{beforeFeed, hasFeed, used, lineOf};
 
 // Where the bytes of a chunk that are still to be taken begin and end.
-struct Left {
+pub struct Left {
     from: usize,
     end: usize,
 }

@@ -6,17 +6,11 @@ use native.Mathlib.Omega.{arith}
 use Rattle.vectors.proofs.show_case.Statement.{statement}
 use Rattle.vectors.proofs.show_case.Tie as tie
 
-u16-at-requires : tie.Need-u16-at-requires
-u16-at-requires c κs = search needs
+message-length-requires : tie.Need-message-length-requires
+message-length-requires c κs = search needs
 
-cast-m : tie.Need-cast-m
-cast-m c = search needs
-
-u16-at-requires-2 : tie.Need-u16-at-requires-2
-u16-at-requires-2 c κs = search needs
-
-cast-j : tie.Need-cast-j
-cast-j c = search needs
+journal-of-requires : tie.Need-journal-of-requires
+journal-of-requires c κs = search needs
 
 returns : tie.Need-returns
 returns c = search needs
@@ -29,9 +23,6 @@ is-whole-requires c κs = search needs
 
 returns-3 : tie.Need-returns-3
 returns-3 c = search needs
-
-journal-of-requires : tie.Need-journal-of-requires
-journal-of-requires c κs = search needs
 
 slice-aggregate-put : tie.Need-slice-aggregate-put
 slice-aggregate-put c = search needs
@@ -67,15 +58,12 @@ pub show-case-spec : {M : Type 1} → statement M
 show-case-spec =
     tie.close
     (tie.spec
-    u16-at-requires
-    cast-m
-    u16-at-requires-2
-    cast-j
+    message-length-requires
+    journal-of-requires
     returns
     returns-2
     is-whole-requires
     returns-3
-    journal-of-requires
     slice-aggregate-put
     put-requires
     array-share-prefix-blank

@@ -1,0 +1,100 @@
+// The bytes of a case: a head of 158, its journal and its answer. The head has the event at 0, a batch number, what the desk
+// keyed, the word on the MAC, how long the message buffer, the journal and the answer are, and the state.
+use crate::numbers::byte_at;
+use crate::numbers::bytes_at;
+use crate::numbers::from;
+use crate::numbers::part;
+use crate::numbers::u16_at;
+use crate::numbers::u32_at;
+use crate::numbers::u64_at;
+use crate::states::card_of;
+use crate::states::is_state;
+use crate::states::state_of;
+use parts::Batch;
+use parts::Trace;
+use start::Desk;
+use terminal::Step;
+use terminal::Terminal;
+
+const BATCH: usize = 1;
+
+const DESK: usize = 5;
+
+const MAC: usize = 47;
+
+const MESSAGE_LENGTH: usize = 48;
+
+const JOURNAL_LENGTH: usize = 50;
+
+const ANSWER_LENGTH: usize = 52;
+
+const STATE: usize = 54;
+
+const HEAD: usize = 158;
+
+// How long the message buffer of a case is.
+pub fn message_length(s: &[u8]) -> usize {
+    u16_at(s, MESSAGE_LENGTH) as usize
+}
+
+// The bytes of the state, of the journal and of the answer.
+pub fn state_bytes(s: &[u8]) -> &[u8] {
+    part(s, STATE, 104)
+}
+
+pub fn journal_of(s: &[u8]) -> &[u8] {
+    part(s, HEAD, u16_at(s, JOURNAL_LENGTH) as usize)
+}
+
+fn answer_of(s: &[u8]) -> &[u8] {
+    let at = HEAD + u16_at(s, JOURNAL_LENGTH) as usize;
+    part(s, at, u16_at(s, ANSWER_LENGTH) as usize)
+}
+
+// Whether a case has all its bytes, and names an event, a word on the MAC and a state.
+pub fn is_whole(s: &[u8]) -> bool {
+    let event = byte_at(s, 0);
+    let journal = u16_at(s, JOURNAL_LENGTH);
+    let answer = u16_at(s, ANSWER_LENGTH);
+    (s.len() == HEAD + journal as usize + answer as usize)
+        & (answer <= 512)
+        & (1 <= event)
+        & (event <= 8)
+        & (byte_at(s, MAC) <= 1)
+        & is_state(state_bytes(s))
+}
+
+// What the desk keyed, from its 42 bytes.
+fn desk_of(s: &[u8]) -> Desk {
+    let mut authorisation = [0u8; 6];
+    let mut reference = [0u8; 12];
+    bytes_at(s, 24, &mut authorisation);
+    bytes_at(s, 30, &mut reference);
+    Desk {
+        kind: byte_at(s, 0),
+        amount: u64_at(s, 1),
+        card: card_of(from(s, 9)),
+        original: Trace(u32_at(s, 18)),
+        month: byte_at(s, 22),
+        day: byte_at(s, 23),
+        authorisation: authorisation,
+        reference: reference,
+    }
+}
+
+// The call of a case.
+pub fn call(s: &[u8], journal: &mut [u8], message: &mut [u8]) -> Step {
+    let terminal = Terminal {
+        state: state_of(state_bytes(s)),
+    };
+    match byte_at(s, 0) {
+        1 => terminal.signed_on(Batch(u32_at(s, BATCH)), journal, message),
+        2 => terminal.start(desk_of(part(s, DESK, 42)), journal, message),
+        3 => terminal.answer(answer_of(s), byte_at(s, MAC) == 1, journal, message),
+        4 => terminal.no_answer(journal, message),
+        5 => terminal.power_returned(journal, message),
+        6 => terminal.send_reversal(journal, message),
+        7 => terminal.settle(journal, message),
+        _ => terminal.send_next_upload(journal, message),
+    }
+}
