@@ -1,5 +1,4 @@
-// Standard input, line by line.
-use libc::STDIN_FILENO;
+// The lines of a file or of standard input.
 ghost use mathlib.Core.Path.{_≡_};
 ghost use Prim.Native.Nat.{_≤_};
 ghost use lib.ListN.{length};
@@ -12,9 +11,10 @@ pub struct Left {
     end: usize,
 }
 
-// Where the reading of lines stands: the number of the line in hand and how many of its bytes are kept, whether it ended in
+// Where the reading of lines stands: the file that is read, the number of the line in hand and how many of its bytes are kept, whether it ended in
 // a line feed, whether the input has ended, and what is left of the chunk.
 pub struct Input {
+    file: i32,
     pub number: u64,
     pub len: usize,
     pub whole: bool,
@@ -33,8 +33,10 @@ impl Input {
     // The most bytes of a line, without its line end.
     pub const LONGEST: usize = 4096;
 
-    pub fn new() -> Self {
+    // Before the first line of an open file.
+    pub fn new(file: i32) -> Self {
         Input {
+            file: file,
             number: 0,
             len: 0,
             whole: false,
@@ -48,6 +50,7 @@ impl Input {
         ensures { λ r. ⌜ r .len ≡ self .len ⌝ }
     {
         Input {
+            file: self.file,
             number: self.number,
             len: self.len,
             whole: false,
@@ -85,13 +88,13 @@ fn take_in(s: &[u8], len: usize, line: &mut [u8]) -> Taken
 }
 
 // What is left of the chunk, or what a read brings where that is nothing.
-fn refilled(left: Left, chunk: &mut [u8]) -> Left
+fn refilled(left: Left, file: i32, chunk: &mut [u8]) -> Left
     ensures { λ r. ⌜ (r .from ≤ r .end) × (r .end ≤ length (now (chunk .entry))) ⌝ }
 {
     if (left.from < left.end) & (left.end <= chunk.len()) {
         return left;
     }
-    let got = libc::read(STDIN_FILENO, chunk);
+    let got = libc::read(file, chunk);
     Left {
         from: 0,
         end: io::count(got, chunk),
@@ -103,7 +106,7 @@ fn more(at: Input, chunk: &mut [u8], line: &mut [u8]) -> Input
     requires { ⌜ at .len ≤ length (now line) ⌝ }
     ensures { λ r. ⌜ r .len ≤ length (now (line .entry)) ⌝ }
 {
-    let left = refilled(at.left, chunk);
+    let left = refilled(at.left, at.file, chunk);
     let from = left.from;
     let end = left.end;
     if from == end {
@@ -111,6 +114,7 @@ fn more(at: Input, chunk: &mut [u8], line: &mut [u8]) -> Input
     }
     let taken = take_in(&chunk[from..end], at.len, line);
     Input {
+        file: at.file,
         number: at.number,
         len: taken.len,
         whole: taken.whole,
@@ -130,6 +134,7 @@ pub fn next(input: Input, chunk: &mut [u8], line: &mut [u8]) -> Input
 {
     let left = input.left;
     let mut at = Input {
+        file: input.file,
         number: std::num::wrapping_add_u64(input.number, 1),
         len: 0,
         whole: false,
