@@ -10,7 +10,14 @@ struct Turn {
 }
 
 // Answers a line without its line end, unless it is skipped.
-fn answer(r: Rehearsal, number: u64, line: &[u8], journal: &mut [u8], message: &mut [u8], text: &mut [u8]) -> Rehearsal {
+fn answer(
+    r: Rehearsal,
+    number: u64,
+    line: &[u8],
+    journal: &mut [u8],
+    message: &mut [u8],
+    text: &mut [u8],
+) -> Rehearsal {
     if Input::LONGEST < line.len() {
         let n = screen::add_error(number, b"longer than 4096 bytes", 0, text);
         io::write_all(STDOUT_FILENO, &text[..n]);
@@ -27,7 +34,14 @@ fn answer(r: Rehearsal, number: u64, line: &[u8], journal: &mut [u8], message: &
 }
 
 // Reads the next line and answers it.
-fn answer_next(turn: Turn, chunk: &mut [u8], line: &mut [u8], journal: &mut [u8], message: &mut [u8], text: &mut [u8]) -> Turn {
+fn answer_next(
+    turn: Turn,
+    chunk: &mut [u8],
+    line: &mut [u8],
+    journal: &mut [u8],
+    message: &mut [u8],
+    text: &mut [u8],
+) -> Turn {
     let r = turn.rehearsal;
     let at = input::next(turn.input, chunk, line);
     let len = at.len;
@@ -37,7 +51,14 @@ fn answer_next(turn: Turn, chunk: &mut [u8], line: &mut [u8], journal: &mut [u8]
             input: at,
         };
     }
-    let after = answer(r, at.number, input::line_of(at.whole, &line[..len]), journal, message, text);
+    let after = answer(
+        r,
+        at.number,
+        input::line_of(at.whole, &line[..len]),
+        journal,
+        message,
+        text,
+    );
     Turn {
         rehearsal: after,
         input: at,
@@ -46,7 +67,14 @@ fn answer_next(turn: Turn, chunk: &mut [u8], line: &mut [u8], journal: &mut [u8]
 
 // Answers each line before the next is read, until the input ends. A proved loop has to end, and nothing says that the
 // input does, so the loop counts its turns down.
-fn answer_all(script: i32, chunk: &mut [u8], line: &mut [u8], journal: &mut [u8], message: &mut [u8], text: &mut [u8]) {
+fn answer_all(
+    script: i32,
+    chunk: &mut [u8],
+    line: &mut [u8],
+    journal: &mut [u8],
+    message: &mut [u8],
+    text: &mut [u8],
+) {
     let mut turn = Turn {
         rehearsal: Rehearsal::new(),
         input: Input::new(script),
@@ -62,13 +90,20 @@ fn answer_all(script: i32, chunk: &mut [u8], line: &mut [u8], journal: &mut [u8]
     }
 }
 
-// Rehearses the script in an open file. The journal lent has room for 1,000 entries, so that a limit above 300 is judged by rule 2 up to there, and by rule 1
-// beyond. The text has room for a journal of 300 entries.
+// Rehearses the script in an open file. The journal lent has room for 1,000 entries, so that a limit above 300 is judged by
+// rule 2 up to there, and by rule 1 beyond. The text has room for a journal of 300 entries.
 pub fn rehearse(script: i32) {
     let mut chunk = io::buffer();
     let mut line = input::buffer();
     let mut journal = [0u8; 48000];
     let mut message = [0u8; 248];
     let mut text = io::large_buffer();
-    answer_all(script, &mut chunk, &mut line, &mut journal, &mut message, &mut text);
+    answer_all(
+        script,
+        &mut chunk,
+        &mut line,
+        &mut journal,
+        &mut message,
+        &mut text,
+    );
 }

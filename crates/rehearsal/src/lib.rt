@@ -94,7 +94,13 @@ pub fn last_message(r: Rehearsal, message: &[u8]) -> Message
     reading.message
 }
 
-pub fn signed_on(r: Rehearsal, batch: Batch, journal: &mut [u8], message: &mut [u8], out: &mut [u8]) -> Acted
+pub fn signed_on(
+    r: Rehearsal,
+    batch: Batch,
+    journal: &mut [u8],
+    message: &mut [u8],
+    out: &mut [u8],
+) -> Acted
     ensures { λ d. ⌜ Did (called (signs-on batch) r (now (journal .entry)) (now (message .entry))) d (now (journal .exit)) (now (message .exit)) (now (out .exit)) ⌝ }
 {
     let terminal = r.terminal;
@@ -102,7 +108,13 @@ pub fn signed_on(r: Rehearsal, batch: Batch, journal: &mut [u8], message: &mut [
     after_call(step, r, message, out)
 }
 
-pub fn start(r: Rehearsal, desk: Desk, journal: &mut [u8], message: &mut [u8], out: &mut [u8]) -> Acted
+pub fn start(
+    r: Rehearsal,
+    desk: Desk,
+    journal: &mut [u8],
+    message: &mut [u8],
+    out: &mut [u8],
+) -> Acted
     ensures { λ d. ⌜ Did (called (starts desk) r (now (journal .entry)) (now (message .entry))) d (now (journal .exit)) (now (message .exit)) (now (out .exit)) ⌝ }
 {
     let terminal = r.terminal;
@@ -110,7 +122,14 @@ pub fn start(r: Rehearsal, desk: Desk, journal: &mut [u8], message: &mut [u8], o
     after_call(step, r, message, out)
 }
 
-pub fn answer(r: Rehearsal, bytes: &[u8], good: bool, journal: &mut [u8], message: &mut [u8], out: &mut [u8]) -> Acted
+pub fn answer(
+    r: Rehearsal,
+    bytes: &[u8],
+    good: bool,
+    journal: &mut [u8],
+    message: &mut [u8],
+    out: &mut [u8],
+) -> Acted
     ensures { λ d. ⌜ Did (called (answers (now (bytes .entry)) good) r (now (journal .entry)) (now (message .entry))) d (now (journal .exit)) (now (message .exit)) (now (out .exit)) ⌝ }
 {
     let terminal = r.terminal;
@@ -119,7 +138,14 @@ pub fn answer(r: Rehearsal, bytes: &[u8], good: bool, journal: &mut [u8], messag
 }
 
 // A message of the simulated centre arrives.
-pub fn answer_message(r: Rehearsal, a: Message, good: bool, journal: &mut [u8], message: &mut [u8], out: &mut [u8]) -> Acted
+pub fn answer_message(
+    r: Rehearsal,
+    a: Message,
+    good: bool,
+    journal: &mut [u8],
+    message: &mut [u8],
+    out: &mut [u8],
+) -> Acted
     ensures { λ d. ⌜ Did (called (answers (bytesOf a) good) r (now (journal .entry)) (now (message .entry))) d (now (journal .exit)) (now (message .exit)) (now (out .exit)) ⌝ }
 {
     let terminal = r.terminal;
@@ -161,7 +187,12 @@ pub fn settle(r: Rehearsal, journal: &mut [u8], message: &mut [u8], out: &mut [u
     after_call(step, r, message, out)
 }
 
-pub fn send_next_upload(r: Rehearsal, journal: &mut [u8], message: &mut [u8], out: &mut [u8]) -> Acted
+pub fn send_next_upload(
+    r: Rehearsal,
+    journal: &mut [u8],
+    message: &mut [u8],
+    out: &mut [u8],
+) -> Acted
     ensures { λ d. ⌜ Did (called (uploads) r (now (journal .entry)) (now (message .entry))) d (now (journal .exit)) (now (message .exit)) (now (out .exit)) ⌝ }
 {
     let terminal = r.terminal;

@@ -131,7 +131,15 @@ pub fn add_state(s: State, n: usize, out: &mut [u8]) -> usize
 }
 
 // Adds a name, and count digits or bytes b of a field as decode shows them: field 2, the card number, masked.
-fn add_shown(name: &[u8], number: u8, class: Class, count: u8, b: &[u8], n: usize, out: &mut [u8]) -> usize
+fn add_shown(
+    name: &[u8],
+    number: u8,
+    class: Class,
+    count: u8,
+    b: &[u8],
+    n: usize,
+    out: &mut [u8],
+) -> usize
     requires { ⌜ length (now b) ≤ 255 ⌝ }
     ensures { λ r. ⌜ Adds (now (name .entry) ++ shown class (eqb number 2) count (now (b .entry))) n (now (out .entry)) r (now (out .exit)) ⌝ }
 {
@@ -171,8 +179,24 @@ fn add_approval(e: Entry, n: usize, out: &mut [u8]) -> usize
     let reference = e.reference;
     let mut at = add_shown(b" card ", 2, Class::Digits, e.digits, &card, n, out);
     at = add_shown(b" date ", 13, Class::Digits, 4, &date, at, out);
-    at = add_shown(b" authorisation ", 38, Class::Printable, 6, &authorisation, at, out);
-    add_shown(b" reference ", 37, Class::Printable, 12, &reference, at, out)
+    at = add_shown(
+        b" authorisation ",
+        38,
+        Class::Printable,
+        6,
+        &authorisation,
+        at,
+        out,
+    );
+    add_shown(
+        b" reference ",
+        37,
+        Class::Printable,
+        12,
+        &reference,
+        at,
+        out,
+    )
 }
 
 fn add_entry(i: u16, e: Entry, n: usize, out: &mut [u8]) -> usize

@@ -61,7 +61,16 @@ fn card_in(w: &[u8]) -> Card
 }
 
 // A desk's data from its words; an empty word is none.
-fn keyed(kind: u8, amount: &[u8], card: &[u8], trace: &[u8], reference: &[u8], authorisation: &[u8], month: u8, day: u8) -> Desk
+fn keyed(
+    kind: u8,
+    amount: &[u8],
+    card: &[u8],
+    trace: &[u8],
+    reference: &[u8],
+    authorisation: &[u8],
+    month: u8,
+    day: u8,
+) -> Desk
     ensures { λ r. ⌜ r ≡ keyed kind (now (amount .entry)) (now (card .entry)) (now (trace .entry)) (now (reference .entry)) (now (authorisation .entry)) month day ⌝ }
 {
     let mut field37 = [0u8; 12];
@@ -85,7 +94,16 @@ fn requested(kind: u8, s: &[u8]) -> Desk
     ensures { λ r. ⌜ r ≡ deskOf (Name.Request kind) (now (s .entry)) ⌝ }
 {
     let none = &s[..0];
-    keyed(kind, words::word(s, 1), words::word(s, 2), none, none, none, 0, 0)
+    keyed(
+        kind,
+        words::word(s, 1),
+        words::word(s, 2),
+        none,
+        none,
+        none,
+        0,
+        0,
+    )
 }
 
 fn voiding(kind: u8, s: &[u8]) -> Desk
@@ -102,7 +120,16 @@ fn authorised(kind: u8, s: &[u8]) -> Desk
     let date = month_day(words::word(s, 4));
     let month = (date / 100) as u8;
     let day = (date % 100) as u8;
-    keyed(kind, words::word(s, 1), words::word(s, 2), none, none, words::word(s, 3), month, day)
+    keyed(
+        kind,
+        words::word(s, 1),
+        words::word(s, 2),
+        none,
+        none,
+        words::word(s, 3),
+        month,
+        day,
+    )
 }
 
 fn refunded(s: &[u8]) -> Desk
@@ -112,7 +139,16 @@ fn refunded(s: &[u8]) -> Desk
     let date = month_day(words::word(s, 4));
     let month = (date / 100) as u8;
     let day = (date % 100) as u8;
-    keyed(25, words::word(s, 1), words::word(s, 2), none, words::word(s, 3), none, month, day)
+    keyed(
+        25,
+        words::word(s, 1),
+        words::word(s, 2),
+        none,
+        words::word(s, 3),
+        none,
+        month,
+        day,
+    )
 }
 
 // Every datum, as `start` gives it.
@@ -122,7 +158,16 @@ fn given(s: &[u8]) -> Desk
     let kind = number8(words::word(s, 1));
     let month = number8(words::word(s, 7));
     let day = number8(words::word(s, 8));
-    keyed(kind, words::word(s, 2), words::word(s, 3), words::word(s, 4), words::word(s, 5), words::word(s, 6), month, day)
+    keyed(
+        kind,
+        words::word(s, 2),
+        words::word(s, 3),
+        words::word(s, 4),
+        words::word(s, 5),
+        words::word(s, 6),
+        month,
+        day,
+    )
 }
 
 // What the desk keyed on a line of this name; where it is no start, that has no meaning.
