@@ -1,7 +1,7 @@
 -- Laws of what a line of a script does.
 use mathlib.Core.Path.{_≡_, refl, sym, ap, subst, _∙_}
 use mathlib.Core.List.{List, [], _++_}
-use mathlib.Core.Bool.{Bool, true, false, cond, _&&_, _||_}
+use mathlib.Core.Bool.{Bool, true, false, cond, not, _&&_, _||_, Bool·not-not}
 use Prim.Native.Nat.{ℕ, _/_, _≤_, min}
 use native.Mathlib.Omega.{arith}
 use lib.Dec.{eqb, leb}
@@ -106,16 +106,19 @@ module _ (r : Rehearsal) (j m : List ℕ) {s : Message} (e : s ≡ messageIn (la
 -- line number, of words s
 module _ (number room : ℕ) (s : List ℕ) (r : Rehearsal) (j m : List ℕ) {line : Line} {alone : Bool} (e : line ≡ parsed s)
     (h : alone ≡ standsAlone (line .command)) where
-  test : {b : Bool} → (r .begun || alone) ≡ b → (r .begun || standsAlone (parsed s .command)) ≡ b
-  test t = ap (λ (x : Line). r .begun || standsAlone (x .command)) (sym e) ∙ ap (λ (x : Bool). r .begun || x) (sym h) ∙ t
+  test : {b : Bool} → not (r .begun || alone) ≡ b → (r .begun || standsAlone (parsed s .command)) ≡ not b
+  test t =
+      ap (λ (x : Line). r .begun || standsAlone (x .command)) (sym e) ∙ ap (λ (x : Bool). r .begun || x) (sym h)
+      ∙ sym (Bool·not-not (r .begun || alone))
+      ∙ ap not t
 
-  pub obeyed : {a : Acted} {j₂ m₂ o : List ℕ} → (r .begun || alone) ≡ true
+  pub obeyed : {a : Acted} {j₂ m₂ o : List ℕ} → not (r .begun || alone) ≡ false
       → Did (commandDone (line .command) line number room s r j m) a j₂ m₂ o → Did (done number room s r j m) a j₂ m₂ o
   unfolding done
   obeyed {a} {j₂} {m₂} {o} t d =
       rw (test t) (subst (λ (x : Line). Did (commandDone (x .command) x number room s r j m) a j₂ m₂ o) e d)
 
-  pub no-terminal : {a : Acted} {j₂ m₂ o : List ℕ} → (r .begun || alone) ≡ false
+  pub no-terminal : {a : Acted} {j₂ m₂ o : List ℕ} → not (r .begun || alone) ≡ true
       → Did (writes (errorLine number (text "no terminal")) r j m) a j₂ m₂ o → Did (done number room s r j m) a j₂ m₂ o
   unfolding done
   no-terminal t d = rw (test t) d

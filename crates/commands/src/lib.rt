@@ -178,13 +178,17 @@ fn stands_alone(command: Command) -> bool
     }
 }
 
-// Does what a line says.
-fn obey(line: Line, number: u64, s: &[u8], r: Rehearsal, journal: &mut [u8], message: &mut [u8], out: &mut [u8]) -> Acted
-    ensures { λ d. ⌜ Did (commandDone (line .command) line number (length (now (out .entry))) (now (s .entry)) r (now (journal .entry)) (now (message .entry))) d (now (journal .exit)) (now (message .exit)) (now (out .exit)) ⌝ }
+// Does what line `number` of words s says; what it writes stands at the front of out, as far as out has room.
+pub fn act(r: Rehearsal, number: u64, s: &[u8], journal: &mut [u8], message: &mut [u8], out: &mut [u8]) -> Acted
+    ensures { λ d. ⌜ Did (done number (length (now (out .entry))) (now (s .entry)) r (now (journal .entry)) (now (message .entry))) d (now (journal .exit)) (now (message .exit)) (now (out .exit)) ⌝ }
 {
+    let line = script::parse(s);
     let command = line.command;
     let settings = line.settings;
     let desk = line.desk;
+    if !(r.begun | stands_alone(command)) {
+        return complained(number, b"no terminal", r, out);
+    }
     match command {
         Command::Terminal => did(begun(settings, r), 0),
         Command::SignedOn(batch) => rehearsal::signed_on(r, batch, journal, message, out),
@@ -199,16 +203,4 @@ fn obey(line: Line, number: u64, s: &[u8], r: Rehearsal, journal: &mut [u8], mes
         Command::Plain(p) => plain(p, r, journal, message, out),
         Command::Wrong(f) => faulted(number, f, r, out),
     }
-}
-
-// Does what line `number` of words s says; what it writes stands at the front of out, as far as out has room.
-pub fn act(r: Rehearsal, number: u64, s: &[u8], journal: &mut [u8], message: &mut [u8], out: &mut [u8]) -> Acted
-    ensures { λ d. ⌜ Did (done number (length (now (out .entry))) (now (s .entry)) r (now (journal .entry)) (now (message .entry))) d (now (journal .exit)) (now (message .exit)) (now (out .exit)) ⌝ }
-{
-    let line = script::parse(s);
-    let command = line.command;
-    if r.begun | stands_alone(command) {
-        return obey(line, number, s, r, journal, message, out);
-    }
-    complained(number, b"no terminal", r, out)
 }

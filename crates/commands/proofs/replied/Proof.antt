@@ -153,4 +153,3 @@ replied-spec =
     same-length-12
     same-length-13
     returns-5)
--- y
