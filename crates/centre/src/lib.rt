@@ -1,10 +1,8 @@
 // The simulated centre: what it answers to a message that left.
-use digits::Number;
 use message::Message;
 ghost use mathlib.Core.Path.{_≡_};
 ghost use Prim.Native.Nat.{_*_, _≤_};
 ghost use Rattle.message.specs.Build.{digits, bytes};
-ghost use Rattle.packed.specs.Packed.{numeral};
 ghost use Rattle.compose.specs.Compose.{withItem, withAll};
 ghost use Rattle.centre.specs.Centre.{leftAs, answerType, sentNumber, digitsSent, bytesSent, sentFields, traceFigures, macField, authorisationField, approvalFields, alsoTo, reply, field48With, reconciliation};
 
@@ -46,20 +44,11 @@ fn answer_type(indicator: u16) -> u16
     }
 }
 
-fn numeral(x: Number) -> u64
-    ensures { λ r. ⌜ r ≡ numeral x ⌝ }
-{
-    match x {
-        Number::Is(v) => v,
-        Number::Not => 0,
-    }
-}
-
 // The message with field n as sent, of so many digits.
 fn with_digits_sent(m: Message, n: u8, count: u8, sent: Message) -> Message
     ensures { λ r. ⌜ r ≡ withItem (digitsSent n count sent) m ⌝ }
 {
-    let x = numeral(parts::number_in(sent, n, 0, count as usize));
+    let x = packed::numeral(parts::number_in(sent, n, 0, count as usize));
     compose::with_number(m, n, count, x)
 }
 
@@ -86,7 +75,7 @@ fn with_sent_fields(m: Message, sent: Message) -> Message
 fn trace_sent(sent: Message) -> u64
     ensures { λ r. ⌜ r ≡ sentNumber 11 0 6 sent ⌝ }
 {
-    numeral(parts::number_in(sent, 11, 0, 6))
+    packed::numeral(parts::number_in(sent, 11, 0, 6))
 }
 
 // The message with field n holding the trace as digits, two for each of so many bytes.
@@ -154,8 +143,8 @@ fn with_field48(m: Message, sent: Message, digit: u8) -> Message
     ensures { λ r. ⌜ r ≡ withItem (digits 48 (field48With sent digit)) m ⌝ }
 {
     let mut ds = [0u8; 62];
-    digits::digits_into(numeral(parts::number_in(sent, 48, 0, 15)), &mut ds[..15]);
-    digits::digits_into(numeral(parts::number_in(sent, 48, 15, 15)), &mut ds[15..30]);
+    digits::digits_into(packed::numeral(parts::number_in(sent, 48, 0, 15)), &mut ds[..15]);
+    digits::digits_into(packed::numeral(parts::number_in(sent, 48, 15, 15)), &mut ds[15..30]);
     digits::digits_into(digit as u64, &mut ds[30..31]);
     compose::with_digits(m, 48, &ds)
 }

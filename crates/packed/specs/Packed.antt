@@ -6,7 +6,7 @@ use Rattle.digits.specs.Numbers.{numberOf}
 use Rattle.digits.specs.declared.Number.{Number}
 use Rattle.digits.specs.declared.Number.the-variants.{Is, Not}
 
--- a number, 0 where a place holds no digit
+-- a number, 0 where there is none
 abbrev pub numeral : Number → ℕ
 numeral (Is x) = x
 numeral Not = 0

@@ -1,10 +1,11 @@
 // Numbers as packed digits, two a byte (document 01, "Message bytes").
+use digits::Number;
 ghost use mathlib.Core.Path.{_≡_};
 ghost use Prim.Native.Nat.{_*_};
 ghost use lib.ListN.{length};
 ghost use Rattle.digits.specs.Digits.{pack};
 ghost use Rattle.digits.specs.Numbers.{digitsOf};
-ghost use Rattle.packed.specs.Packed.{packedNumber};
+ghost use Rattle.packed.specs.Packed.{numeral, packedNumber};
 
 // Writes the last digits of x, as many as fill out.
 pub fn put_number(x: u64, out: &mut [u8])
@@ -40,4 +41,14 @@ pub fn number_in(s: &[u8]) -> u64
         i += 1;
     }
     v
+}
+
+// A number; 0 where there is none.
+pub fn numeral(x: Number) -> u64
+    ensures { λ r. ⌜ r ≡ numeral x ⌝ }
+{
+    match x {
+        Number::Is(v) => v,
+        Number::Not => 0,
+    }
 }

@@ -7,42 +7,32 @@ use state::Card;
 use state::Settings;
 ghost use mathlib.Core.Path.{_≡_};
 ghost use Prim.Native.Nat.{_<_};
-ghost use Rattle.packed.specs.Packed.{numeral};
 ghost use Rattle.script.specs.Script.{number8, number32, number64, monthDay, cardIn, keyed, deskOf, settingsIn};
-
-fn numeral(x: Number) -> u64
-    ensures { λ r. ⌜ r ≡ numeral x ⌝ }
-{
-    match x {
-        Number::Is(v) => v,
-        Number::Not => 0,
-    }
-}
 
 // Numbers of 8, 32 and 64 bits; 0 where a word is none.
 pub fn number8(w: &[u8]) -> u8
     ensures { λ r. ⌜ r ≡ number8 (now (w .entry)) ⌝ }
 {
-    numeral(words::number_up_to(255, w)) as u8
+    packed::numeral(words::number_up_to(255, w)) as u8
 }
 
 pub fn number32(w: &[u8]) -> u32
     ensures { λ r. ⌜ r ≡ number32 (now (w .entry)) ⌝ }
 {
-    numeral(words::number_up_to(4294967295, w)) as u32
+    packed::numeral(words::number_up_to(4294967295, w)) as u32
 }
 
 fn number64(w: &[u8]) -> u64
     ensures { λ r. ⌜ r ≡ number64 (now (w .entry)) ⌝ }
 {
-    numeral(words::number_up_to(999999999999999999, w))
+    packed::numeral(words::number_up_to(999999999999999999, w))
 }
 
 // A date MMDD as a number.
 pub fn month_day(w: &[u8]) -> u16
     ensures { λ r. ⌜ (r ≡ monthDay (now (w .entry))) × (r < 10000) ⌝ }
 {
-    numeral(words::number_in(4, w)) as u16
+    packed::numeral(words::number_in(4, w)) as u16
 }
 
 fn card_in(w: &[u8]) -> Card
