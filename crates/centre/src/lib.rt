@@ -143,8 +143,14 @@ fn with_field48(m: Message, sent: Message, digit: u8) -> Message
     ensures { λ r. ⌜ r ≡ withItem (digits 48 (field48With sent digit)) m ⌝ }
 {
     let mut ds = [0u8; 62];
-    digits::digits_into(packed::numeral(parts::number_in(sent, 48, 0, 15)), &mut ds[..15]);
-    digits::digits_into(packed::numeral(parts::number_in(sent, 48, 15, 15)), &mut ds[15..30]);
+    digits::digits_into(
+        packed::numeral(parts::number_in(sent, 48, 0, 15)),
+        &mut ds[..15],
+    );
+    digits::digits_into(
+        packed::numeral(parts::number_in(sent, 48, 15, 15)),
+        &mut ds[15..30],
+    );
     digits::digits_into(digit as u64, &mut ds[30..31]);
     compose::with_digits(m, 48, &ds)
 }

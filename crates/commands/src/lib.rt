@@ -34,21 +34,62 @@ fn complained(number: u64, why: &[u8], r: Rehearsal, out: &mut [u8]) -> Acted
 }
 
 // The simulated centre answers what left last.
-fn replied(number: u64, code: [u8; 2], good: bool, r: Rehearsal, journal: &mut [u8], message: &mut [u8], out: &mut [u8]) -> Acted
+fn replied(
+    number: u64,
+    code: [u8; 2],
+    good: bool,
+    r: Rehearsal,
+    journal: &mut [u8],
+    message: &mut [u8],
+    out: &mut [u8],
+) -> Acted
     ensures { λ d. ⌜ Did (repliedTo (lastLeft r (now (message .entry))) number code good r (now (journal .entry)) (now (message .entry))) d (now (journal .exit)) (now (message .exit)) (now (out .exit)) ⌝ }
 {
     let sent = rehearsal::last_message(r, message);
     match centre::left_as(sent.indicator) {
         Left::Nothing => complained(number, b"nothing to answer", r, out),
-        Left::Request => rehearsal::answer_message(r, centre::reply(sent, r.date, code), good, journal, message, out),
-        Left::Reversal => rehearsal::answer_message(r, centre::reply(sent, r.date, code), good, journal, message, out),
-        Left::Settlement => complained(number, b"a settlement left last: reconcile answers it", r, out),
-        Left::Upload => rehearsal::answer_message(r, centre::reply(sent, r.date, code), good, journal, message, out),
+        Left::Request => rehearsal::answer_message(
+            r,
+            centre::reply(sent, r.date, code),
+            good,
+            journal,
+            message,
+            out,
+        ),
+        Left::Reversal => rehearsal::answer_message(
+            r,
+            centre::reply(sent, r.date, code),
+            good,
+            journal,
+            message,
+            out,
+        ),
+        Left::Settlement => complained(
+            number,
+            b"a settlement left last: reconcile answers it",
+            r,
+            out,
+        ),
+        Left::Upload => rehearsal::answer_message(
+            r,
+            centre::reply(sent, r.date, code),
+            good,
+            journal,
+            message,
+            out,
+        ),
     }
 }
 
 // The simulated centre answers a settlement.
-fn reconciled(number: u64, digit: u8, r: Rehearsal, journal: &mut [u8], message: &mut [u8], out: &mut [u8]) -> Acted
+fn reconciled(
+    number: u64,
+    digit: u8,
+    r: Rehearsal,
+    journal: &mut [u8],
+    message: &mut [u8],
+    out: &mut [u8],
+) -> Acted
     ensures { λ d. ⌜ Did (reconciledTo (lastLeft r (now (message .entry))) number digit r (now (journal .entry)) (now (message .entry))) d (now (journal .exit)) (now (message .exit)) (now (out .exit)) ⌝ }
 {
     let sent = rehearsal::last_message(r, message);
@@ -56,7 +97,14 @@ fn reconciled(number: u64, digit: u8, r: Rehearsal, journal: &mut [u8], message:
         Left::Nothing => complained(number, b"nothing to answer", r, out),
         Left::Request => complained(number, b"no settlement left last", r, out),
         Left::Reversal => complained(number, b"no settlement left last", r, out),
-        Left::Settlement => rehearsal::answer_message(r, centre::reconciliation(sent, digit), true, journal, message, out),
+        Left::Settlement => rehearsal::answer_message(
+            r,
+            centre::reconciliation(sent, digit),
+            true,
+            journal,
+            message,
+            out,
+        ),
         Left::Upload => complained(number, b"no settlement left last", r, out),
     }
 }
@@ -87,7 +135,10 @@ fn plain(p: Plain, r: Rehearsal, journal: &mut [u8], message: &mut [u8], out: &m
         Plain::Settle => rehearsal::settle(r, journal, message, out),
         Plain::Upload => rehearsal::send_next_upload(r, journal, message, out),
         Plain::Counts => did(r, screen::add_counts(counts, phase, 0, out)),
-        Plain::Totals => did(r, screen::add_totals(journal::totals_of(journal, state.entries), 0, out)),
+        Plain::Totals => did(
+            r,
+            screen::add_totals(journal::totals_of(journal, state.entries), 0, out),
+        ),
         Plain::State => did(r, screen::add_state(state, 0, out)),
         Plain::Journal => did(r, screen::add_journal(journal, state.entries, 0, out)),
         Plain::Message => did(r, screen::add_message(rehearsal::last(r, message), 0, out)),
@@ -106,7 +157,14 @@ fn hex_length(h: Hex) -> usize
 }
 
 // The bytes of an answer, given in hexadecimal, arrive.
-fn answered_with(hex: &[u8], good: bool, r: Rehearsal, journal: &mut [u8], message: &mut [u8], out: &mut [u8]) -> Acted
+fn answered_with(
+    hex: &[u8],
+    good: bool,
+    r: Rehearsal,
+    journal: &mut [u8],
+    message: &mut [u8],
+    out: &mut [u8],
+) -> Acted
     ensures { λ d. ⌜ Did (called (answers (bytesIn (now (hex .entry))) good) r (now (journal .entry)) (now (message .entry))) d (now (journal .exit)) (now (message .exit)) (now (out .exit)) ⌝ }
 {
     let mut bytes = [0u8; 2048];
@@ -170,7 +228,11 @@ fn stands_alone(command: Command) -> bool
         Command::SignedOn(_) => false,
         Command::Start => false,
         Command::Answer(_) => false,
-        Command::Reply { first, second, good } => false,
+        Command::Reply {
+            first,
+            second,
+            good,
+        } => false,
         Command::Reconcile(_) => false,
         Command::Date(_) => true,
         Command::Plain(_) => false,
@@ -179,7 +241,14 @@ fn stands_alone(command: Command) -> bool
 }
 
 // Does what line `number` of words s says; what it writes stands at the front of out, as far as out has room.
-pub fn act(r: Rehearsal, number: u64, s: &[u8], journal: &mut [u8], message: &mut [u8], out: &mut [u8]) -> Acted
+pub fn act(
+    r: Rehearsal,
+    number: u64,
+    s: &[u8],
+    journal: &mut [u8],
+    message: &mut [u8],
+    out: &mut [u8],
+) -> Acted
     ensures { λ d. ⌜ Did (done number (length (now (out .entry))) (now (s .entry)) r (now (journal .entry)) (now (message .entry))) d (now (journal .exit)) (now (message .exit)) (now (out .exit)) ⌝ }
 {
     let line = script::parse(s);
@@ -194,7 +263,11 @@ pub fn act(r: Rehearsal, number: u64, s: &[u8], journal: &mut [u8], message: &mu
         Command::SignedOn(batch) => rehearsal::signed_on(r, batch, journal, message, out),
         Command::Start => rehearsal::start(r, desk, journal, message, out),
         Command::Answer(good) => answered_with(words::word(s, 1), good, r, journal, message, out),
-        Command::Reply { first, second, good } => {
+        Command::Reply {
+            first,
+            second,
+            good,
+        } => {
             let code = [first, second];
             replied(number, code, good, r, journal, message, out)
         }
