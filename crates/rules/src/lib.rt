@@ -219,7 +219,8 @@ fn awaited_waiting(a: Awaited) -> u64
     }
 }
 
-fn waiting_in(p: Phase) -> u64
+// How many card requests are undecided.
+pub fn waiting_in(p: Phase) -> u64
     ensures { λ r. ⌜ (r ≡ waiting p) × (r ≤ 1) ⌝ }
 {
     match p {
@@ -269,7 +270,8 @@ fn original_left(q: Request, journal: &[u8], n: u16) -> bool
     true
 }
 
-fn is_nowhere(place: Found) -> bool
+// Whether there is no such entry.
+pub fn is_nowhere(place: Found) -> bool
     ensures { λ r. ⌜ r ≡ nowhere place ⌝ }
 {
     match place {

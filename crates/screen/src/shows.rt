@@ -19,25 +19,6 @@ ghost use Rattle.journal.specs.Journal.{entriesOf};
 ghost use Rattle.rules.specs.Rules.{waiting};
 ghost use Rattle.screen.specs.Shows.{firstCounts, countsLine, totalsLine, awaitedName, phaseName, onOrOff, firstState, stateLine, shown, entryMarks, entryApproval, entryLine, journalText, messageLine};
 
-// How many card requests are undecided.
-fn waiting(phase: Phase) -> u64
-    ensures { λ r. ⌜ r ≡ waiting phase ⌝ }
-{
-    match phase {
-        Phase::Resting => 0,
-        Phase::Waiting(a) => match a {
-            Awaited::Request(_) => 1,
-            Awaited::Reversal(_) => 1,
-            Awaited::Settlement(_) => 0,
-            Awaited::Item(_) => 0,
-            Awaited::End(_) => 0,
-        },
-        Phase::Pending(_) => 1,
-        Phase::Settling => 0,
-        Phase::Uploading => 0,
-    }
-}
-
 fn add_first_counts(c: Counts, n: usize, out: &mut [u8]) -> usize
     ensures { λ r. ⌜ Adds (firstCounts c) n (now (out .entry)) r (now (out .exit)) ⌝ }
 {
@@ -53,7 +34,7 @@ pub fn add_counts(c: Counts, phase: Phase, n: usize, out: &mut [u8]) -> usize
     let mut at = add_first_counts(c, n, out);
     at = add_named(b" given-up ", c.given_up as u64, at, out);
     at = add_named(b" unanswered ", c.unanswered as u64, at, out);
-    at = add_named(b" waiting ", waiting(phase), at, out);
+    at = add_named(b" waiting ", rules::waiting_in(phase), at, out);
     texts::add(b"\n", at, out)
 }
 

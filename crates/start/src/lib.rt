@@ -17,7 +17,6 @@ ghost use mathlib.Core.Path.{_≡_};
 ghost use Prim.Native.Nat.{_<_};
 ghost use Rattle.journal.specs.Journal.{entriesOf};
 ghost use Rattle.state.specs.Calls.{firstBroken, resultOf};
-ghost use Rattle.rules.specs.Rules.{nowhere};
 ghost use Rattle.start.specs.Start.{sendsDate, deskInForm, originalOf, entryOf, requestOf, namedBy, restRules, deskRules, journalRules, startRules, requested, start};
 ghost use Rattle.start.specs.Leaving.{MayLeave, oneSent, Left};
 
@@ -66,15 +65,6 @@ fn original_of(d: Desk, journal: &[u8], n: u16) -> Found
         trace: original,
     };
     journal::find(journal, n, query)
-}
-
-fn is_nowhere(place: Found) -> bool
-    ensures { λ r. ⌜ r ≡ nowhere place ⌝ }
-{
-    match place {
-        Found::At(_) => false,
-        Found::Nowhere => true,
-    }
 }
 
 // The entry at a place, or one of zeros.
@@ -200,7 +190,7 @@ fn no_room(s: State, d: Desk, place: Found, e: Entry, journal: &[u8]) -> u8
     if (settings.limit <= n as u32) | (State::MOST_REQUESTS <= counts.sent) {
         return 18;
     }
-    if void & is_nowhere(place) {
+    if void & rules::is_nowhere(place) {
         return 19;
     }
     if void & !(e.voided == 0) {

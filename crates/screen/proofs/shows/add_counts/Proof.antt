@@ -31,8 +31,8 @@ add-named-requires-2 c κs = search needs
 slice-aggregate-add-named-3 : tie.Need-slice-aggregate-add-named-3
 slice-aggregate-add-named-3 c = search needs
 
-waiting-requires : tie.Need-waiting-requires
-waiting-requires c κs = search needs
+waiting-in-requires : tie.Need-waiting-in-requires
+waiting-in-requires c κs = search needs
 
 add-named-requires-3 : tie.Need-add-named-requires-3
 add-named-requires-3 c κs = search needs
@@ -48,7 +48,7 @@ same-length c = search needs
 
 returns : tie.Need-returns
 unfolding countsLine
-returns c = and-then (and-two (text " waiting ") _ (and-two (text " unanswered ") _ (and-two (text " given-up ") _ (c .before .before .before .before .before .before .before .before .before .before .before .before .before .before .before .before .before .before .before .before .before .before .before .before .before .add-first-counts .ensures) (c .before .before .before .before .before .before .before .before .before .before .before .before .before .before .before .before .before .before .before .add-named .ensures)) (c .before .before .before .before .before .before .before .before .before .before .before .before .before .add-named2 .ensures)) (rw (c .before .before .before .before .before .before .before .before .before .waiting .ensures) at (c .before .before .before .before .before .before .before .add-named3 .ensures))) (c .before .before .add .ensures)
+returns c = and-then (and-two (text " waiting ") _ (and-two (text " unanswered ") _ (and-two (text " given-up ") _ (c .before .before .before .before .before .before .before .before .before .before .before .before .before .before .before .before .before .before .before .before .before .before .before .before .before .add-first-counts .ensures) (c .before .before .before .before .before .before .before .before .before .before .before .before .before .before .before .before .before .before .before .add-named .ensures)) (c .before .before .before .before .before .before .before .before .before .before .before .before .before .add-named2 .ensures)) (rw (c .before .before .before .before .before .before .before .before .before .waiting-in .ensures .0) at (c .before .before .before .before .before .before .before .add-named3 .ensures))) (c .before .before .add .ensures)
 
 pub add-counts-spec : {M : Type 1} → statement M
 add-counts-spec =
@@ -62,7 +62,7 @@ add-counts-spec =
     cast-add-named-2
     add-named-requires-2
     slice-aggregate-add-named-3
-    waiting-requires
+    waiting-in-requires
     add-named-requires-3
     slice-aggregate-add
     add-requires
