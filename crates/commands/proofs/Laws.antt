@@ -1,13 +1,13 @@
 -- Laws of what a line of a script does.
 use mathlib.Core.Path.{_≡_, refl, sym, ap, subst, _∙_}
-use mathlib.Core.List.{List, [], _++_}
+use mathlib.Core.List.{List, []}
 use mathlib.Core.Bool.{Bool, true, false, cond, not, _&&_, _||_, Bool·not-not}
-use Prim.Native.Nat.{ℕ, _/_, _≤_, min}
+use Prim.Native.Nat.{ℕ, _/_, _≤_}
 use native.Mathlib.Omega.{arith}
-use lib.Dec.{eqb, leb}
-use lib.ListN.{length, take, drop, length-append, length-drop}
+use lib.Dec.{leb}
+use lib.ListN.{length, take, drop, length-append}
 use lib.Seq.{take-at, take-append-le}
-use borrow.Author.Tests.{eq-eqb, ne-eqb}
+use borrow.Author.Tests.{ne-eqb}
 use Rattle.message.specs.declared.Message.{Message}
 use Rattle.lines.specs.Buffer.{Put}
 use Rattle.lines.specs.Hexadecimal.{isHex, fromHex}
@@ -23,7 +23,7 @@ use Rattle.script.specs.Shapes.{isBytes}
 use Rattle.script.specs.Script.{parsed}
 use Rattle.script.specs.declared.Line.{Line}
 use Rattle.screen.specs.Outcomes.{errorLine}
-use Rattle.centre.specs.Centre.{leftAs, reply, reconciliation}
+use Rattle.centre.specs.Centre.{leftAs}
 use Rattle.centre.specs.declared.Left.{Left}
 use Rattle.rehearsal.specs.declared.Rehearsal.{Rehearsal}
 use Rattle.rehearsal.specs.declared.Acted.{Acted}
