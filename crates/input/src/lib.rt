@@ -1,5 +1,6 @@
 // The lines of a file or of standard input.
 ghost use mathlib.Core.Path.{_≡_};
+ghost use mathlib.Core.Bool.{false};
 ghost use Prim.Native.Nat.{_≤_};
 ghost use lib.ListN.{length};
 ghost use Rattle.texts.specs.Text.{Adds};
@@ -34,7 +35,9 @@ impl Input {
     pub const LONGEST: usize = 4096;
 
     // Before the first line of an open file.
-    pub fn new(file: i32) -> Self {
+    pub fn new(file: i32) -> Self
+        ensures { λ r. ⌜ (r .number ≡ 0) × (r .len ≡ 0) × (r .ended ≡ false) ⌝ }
+    {
         Input {
             file: file,
             number: 0,

@@ -8,6 +8,7 @@ use state::Settings;
 use terminal::Step;
 use terminal::Terminal;
 ghost use mathlib.Core.Path.{_≡_};
+ghost use mathlib.Core.Bool.{false};
 ghost use Rattle.texts.specs.Text.{Text};
 ghost use Rattle.terminal.specs.Events.{signs-on, starts, answers, is-silent, has-power, reverses, settles, uploads};
 ghost use Rattle.screen.specs.Outcomes.{outcomeLine};
@@ -29,8 +30,10 @@ pub struct Acted {
 }
 
 impl Rehearsal {
-    // Before the first line.
-    pub fn new() -> Self {
+    // Before the first line there is no terminal and no message, and the date is 0101.
+    pub fn new() -> Self
+        ensures { λ r. ⌜ (r .begun ≡ false) × (r .date ≡ 101) × (r .length ≡ 0) ⌝ }
+    {
         let settings = Settings {
             limit: 0,
             sendings: 0,
