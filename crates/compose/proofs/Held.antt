@@ -16,11 +16,12 @@ use Rattle.field.specs.declared.Format.{Format}
 use Rattle.field.proofs.Contents.{size-mono, allowed-bounds}
 use Rattle.message.specs.Build.{Item, has, find, padded}
 use Rattle.message.specs.Message.{Field}
-use Rattle.compose.specs.declared.Located.{Located as Place-in}
-use Rattle.compose.specs.declared.Located.the-variants.{Found, Missing}
+use Rattle.message.specs.Located.{located}
+use Rattle.message.specs.declared.Located.{Located as Place-in}
+use Rattle.message.specs.declared.Located.the-variants.{Found, Missing}
+use Rattle.message.proofs.Standing.{standing}
 use Rattle.compose.specs.Compose.{mayHold, allHeld}
-use Rattle.compose.specs.Located.{located}
-use Rattle.compose.proofs.Places.{holds, standing, may-not-hold, length-padded}
+use Rattle.compose.proofs.Places.{holds, may-not-hold, length-padded}
 
 abbrev pub named : ℕ → Field → Item
 named n v = record { number = n; field = v }

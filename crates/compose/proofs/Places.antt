@@ -1,4 +1,4 @@
--- Where a field stands in the table and in a message, and the message with it.
+-- A message with a field at its place.
 use mathlib.Core.Path.{_≡_, refl, ap, sym, _∙_}
 use mathlib.Core.List.{List, [], _∷_, _++_, append-assoc}
 use mathlib.Core.Bool.{Bool, true, false, cond, _&&_, and-false, and-eq-true-iff}
@@ -16,113 +16,24 @@ use Rattle.digits.specs.Numbers.{digitsOf}
 use Rattle.digits.proofs.Lists.{length-tabulate, getD-tabulate, getD-past, front-back}
 use Rattle.digits.proofs.Numbers.{length-digitsOf, digitsOf-digits}
 use Rattle.digits.proofs.Packing.{bytes-for, length-pack}
-use Rattle.field.specs.Table.{formats}
+use Rattle.field.specs.Table.{formats, rows}
 use Rattle.field.specs.Contents.{size, room, allowed, fault}
 use Rattle.field.specs.declared.Format.{Format}
 use Rattle.field.proofs.Contents.{size-mono, allowed-bounds}
 use Rattle.field.proofs.Formats.{length-formats, drop-formats, every}
 use Rattle.message.specs.Build.{Item, digits, padded}
-use Rattle.message.specs.Message.{Field}
+use Rattle.message.specs.Message.{Field, rooms}
 use Rattle.message.specs.declared.Message.{Message}
-use Rattle.message.proofs.Places.{rooms, rooms-formats}
-use Rattle.compose.specs.declared.Located.{Located as Place-in}
-use Rattle.compose.specs.declared.Located.the-variants.{Found, Missing}
+use Rattle.message.specs.Located.{located}
+use Rattle.message.specs.declared.Located.{Located as Place-in}
+use Rattle.message.specs.declared.Located.the-variants.{Found, Missing}
+use Rattle.message.proofs.Standing.{standing}
 use Rattle.compose.specs.Compose.{mayHold, withCount, withContents, withItem}
-use Rattle.compose.specs.Located.{located, placed, putAt, item}
-
--- no field before place k of the table is field n, and the contents of the fields from k on stand at from: what the search keeps
-pub record Sought (n k from : ℕ) : Type 0 where
-  pub bound : k ≤ 23
-  pub rest : from + rooms (drop k formats) ≡ 227
-  pub eq : located formats n 0 0 ≡ located (drop k formats) n k from
-
-pub sought-none : (n : ℕ) → Sought n 0 0
-sought-none n = record { bound = omega arith; rest = omega (arith, rooms-formats); eq = refl }
-
-module _ {n k from : ℕ} {t : List Format} (d : Format) (q : t ≡ formats) (r : Sought n k from) (h : k < 23) where
-  turn : drop k formats ≡ getD t k d ∷ drop (k + 1) formats
-  turn = rw (q, add-one) (drop-cons formats k d (omega (arith, length-formats)))
-
-  pub sought-here : getD t k d .number ≡ n → located formats n 0 0 ≡ Found k from (getD t k d)
-  unfolding located
-  sought-here e = r .eq ∙ rw (turn, eq-eqb _ _ e)
-
-  pub sought-fits : {w : ℕ} → w ≡ room (getD t k d) → from + w ≤ 227
-  sought-fits e = omega (arith, r .rest, ap rooms turn)
-
-  pub sought-more : {w : ℕ} → (getD t k d .number ≡ n → ⊥) → w ≡ room (getD t k d) → Sought n (k + 1) (from + w)
-  unfolding located
-  sought-more e v =
-      record { bound = omega arith; rest = omega (arith, r .rest, ap rooms turn); eq = r .eq ∙ rw (turn, ne-eqb _ _ e, v) }
-
-pub sought-done : {n k from : ℕ} → Sought n k from → 23 ≤ k → located formats n 0 0 ≡ Missing
-unfolding located
-sought-done {n} {k} {from} r h = let e : k ≡ 23 = omega arith in r .eq ∙ rw (e, drop-formats)
+use Rattle.compose.specs.Placed.{placed, putAt, item}
 
 -- a field may hold what has an allowed length and stands in form
 abbrev pub holds : Format → Field → Bool
 holds f v = allowed f (v .count) && eqb (length (v .bytes)) (size (f .class) (v .count)) && eqb (fault (f .class) (v .count) (v .bytes)) 0
-
--- numbers and lengths that code counts with
-abbrev pub small : Format → Bool
-small f = ltb 0 (f .number) && leb (f .number) 64 && leb (f .high) 63
-
-pub small-formats : every small formats ≡ true
-unfolding formats
-small-formats = refl
-
--- a field that is found stands in the table, and its contents within the table's
-located-within : (fs : List Format) (n row from : ℕ) {r p : ℕ} {f : Format} → located fs n row from ≡ Found r p f
-    → (r < row + length fs) × (p + room f ≤ from + rooms fs)
-unfolding located
-located-within [] n row from e = let z : _≡_ {A = ℕ} 0 1 = cc in absurd (omega arith)
-located-within (g ∷ fs) n row from {r} {p} {f} e = go (eqb (g .number) n) e (located-within fs n (row + 1) (from + room g))
-  where
-    go : (t : Bool) → cond t (Found row from g) (located fs n (row + 1) (from + room g)) ≡ Found r p f
-        → (located fs n (row + 1) (from + room g) ≡ Found r p f → (r < row + 1 + length fs) × (p + room f ≤ from + room g + rooms fs))
-        → (r < row + suc (length fs)) × (p + room f ≤ from + (room g + rooms fs))
-    go true e ih =
-        let a : row ≡ r = cc in
-        let b : from ≡ p = cc in
-        let c : g ≡ f = cc in
-        (omega arith, rw (← c) (omega arith))
-    go false e ih = let t = ih e in (omega arith, omega arith)
-
--- a field that is found passes what every field of the table passes, and is the one sought
-located-passes : (test : Format → Bool) (fs : List Format) (n row from : ℕ) {r p : ℕ} {f : Format} → every test fs ≡ true
-    → located fs n row from ≡ Found r p f → (test f ≡ true) × (f .number ≡ n)
-unfolding located
-located-passes test [] n row from h e = let z : _≡_ {A = ℕ} 0 1 = cc in absurd (omega arith)
-located-passes test (g ∷ fs) n row from {r} {p} {f} h e =
-    let t = and-eq-true-iff (test g) (every test fs) .0 h in
-    go (eqb (g .number) n) refl e (t .0) (located-passes test fs n (row + 1) (from + room g) (t .1))
-  where
-    go : (t : Bool) → eqb (g .number) n ≡ t → cond t (Found row from g) (located fs n (row + 1) (from + room g)) ≡ Found r p f → test g ≡ true
-        → (located fs n (row + 1) (from + room g) ≡ Found r p f → (test f ≡ true) × (f .number ≡ n)) → (test f ≡ true) × (f .number ≡ n)
-    go true q e a ih = let c : g ≡ f = cc in rw (← c) (a, eqb-true _ _ q)
-    go false q e a ih = ih e
-
--- a field that is found, in the message's own arrays
-pub record Standing (n row from : ℕ) (f : Format) : Type 0 where
-  pub row-below : row < 23
-  pub fits : from + room f ≤ 227
-  pub number-positive : 0 < n
-  pub number-small : n ≤ 64
-  pub high-small : f .high ≤ 63
-
-pub standing : (n : ℕ) {row from : ℕ} {f : Format} → located formats n 0 0 ≡ Found row from f → Standing n row from f
-standing n {f = f} e =
-    let w = located-within formats n 0 0 e in
-    let s = located-passes small formats n 0 0 small-formats e in
-    let b = and-eq-true-iff (ltb 0 (f .number) && leb (f .number) 64) (leb (f .high) 63) .0 (s .0) in
-    let a = and-eq-true-iff (ltb 0 (f .number)) (leb (f .number) 64) .0 (b .0) in
-    record {
-      row-below = omega (arith, w, length-formats);
-      fits = omega (arith, w, rooms-formats);
-      number-positive = omega (arith, ltb-true 0 (f .number) (a .0), s .1);
-      number-small = omega (arith, leb-true (f .number) 64 (a .1), s .1);
-      high-small = leb-true (f .high) 63 (b .1);
-    }
 
 -- an item may be held where the field that is found holds it
 may-hold : (fs : List Format) (x : Item) (row from : ℕ) {r p : ℕ} {f : Format} → located fs (x .number) row from ≡ Found r p f
@@ -188,7 +99,7 @@ module _ (m : Message) (x : Item) {row from : ℕ} {f : Format} (e : located for
   unfolding withItem
   not-held h = rw (may-hold formats x 0 0 e, h)
 
-  pub put-held : length (m .counts) ≡ 23 → holds f (x .field) ≡ true
+  pub put-held : length (m .counts) ≡ rows → holds f (x .field) ≡ true
       → putAt m (x .number) row from (room f) (x .field .count) (x .field .bytes) ≡ withItem x m
   unfolding withItem
   put-held l h =
@@ -229,22 +140,22 @@ module _ (m : Message) (n count : ℕ) (b : List ℕ) {row from : ℕ} {f : Form
     not-in-form h z = not-held m (item n count b) e (rw (sym q ∙ h) (sym g ∙ z))
 
     module _ {w : ℕ} (h : s ≡ true) (z : t ≡ true) (v : w ≡ room f) where
-      pub put-fits : (0 < n) × (n ≤ 64) × (row < 23) × (from + w ≤ 227) × (length b ≤ w)
+      pub put-fits : (0 < n) × (n ≤ 64) × (row < rows) × (from + w ≤ rooms) × (length b ≤ w)
       put-fits =
           let p = standing n e in
           let l = eqb-true (length b) (size (f .class) count) (and-eq-true-iff (eqb (length b) (size (f .class) count)) (eqb (fault (f .class) count b) 0) .0 (sym g ∙ z) .0) in
           let k = size-mono (f .class) count (f .high) (allowed-bounds f count (sym q ∙ h) .1) in
           (p .number-positive, p .number-small, p .row-below, omega (arith, p .fits), omega arith)
 
-      pub put-item : {r : Message} → length (m .counts) ≡ 23 → r ≡ putAt m n row from w count b → r ≡ withItem (item n count b) m
+      pub put-item : {r : Message} → length (m .counts) ≡ rows → r ≡ putAt m n row from w count b → r ≡ withItem (item n count b) m
       put-item l p = p ∙ rw v (put-held m (item n count b) e l (rw (sym q ∙ h) (sym g ∙ z)))
 
 over-long : (f : Format) (n : ℕ) → f .high < n → allowed f n ≡ false
 unfolding allowed
 over-long f n h = rw (lt-leb n (f .high) h, and-false)
 
--- no field allows more than 63 digits or bytes
-pub too-long : (m : Message) (x : Item) → 63 < x .field .count → m ≡ withItem x m
+-- no field allows more than 255 digits or bytes
+pub too-long : (m : Message) (x : Item) → 255 < x .field .count → m ≡ withItem x m
 too-long m x h = go (located formats (x .number) 0 0) refl
   where
     go : (l : Place-in) → located formats (x .number) 0 0 ≡ l → m ≡ withItem x m
@@ -253,7 +164,7 @@ too-long m x h = go (located formats (x .number) 0 0) refl
 
 -- digits that were packed into the front of an array
 module _ (m : Message) (n : ℕ) (ds : List ℕ) where
-  pub digits-long : 63 < length ds → m ≡ cond (allDigits ds) (withItem (digits n ds) m) m
+  pub digits-long : 255 < length ds → m ≡ cond (allDigits ds) (withItem (digits n ds) m) m
   digits-long h = rw (← too-long m (digits n ds) h) (same (allDigits ds))
     where
       same : (t : Bool) → m ≡ cond t m m
@@ -275,6 +186,11 @@ module _ (m : Message) (n : ℕ) (ds : List ℕ) where
         let b : e ≡ pack ds = p ∙ rw a in
         let c : length e ≡ length (take k z) = rw (b, length-take-le k z l) (length-pack ds ∙ bytes-for (length ds) ∙ sym v) in
         g ∙ rw (← packable-is, a, front-back k e z c l, b)
+
+-- an array that holds known digits, put into a message
+pub digits-known : (m : Message) (n : ℕ) {s ds : List ℕ} {r : Message} → s ≡ ds → allDigits ds ≡ true
+    → r ≡ cond (allDigits s) (withItem (digits n s) m) m → r ≡ withItem (digits n ds) m
+digits-known m n e a q = q ∙ rw (e, a)
 
 -- the digits of a number, in the front of an array
 pub number-put : (m : Message) (n count x : ℕ) (z : List ℕ) {k : ℕ} {e : List ℕ} {r : Message} → k ≡ count → k ≤ length z

@@ -15,10 +15,12 @@ use Rattle.field.specs.declared.Format.{Format}
 use Rattle.field.proofs.Formats.{length-formats, every}
 use Rattle.message.specs.Build.{Item, has, find, padded, bitmapFor, countsFor, contentsFor, messageOf}
 use Rattle.message.specs.Message.{Field, Shaped, fieldIn, fieldOf}
-use Rattle.message.proofs.Places.{rooms, rooms-formats}
+use Rattle.message.proofs.Places.{roomsOf, rooms-formats}
+use Rattle.message.proofs.Standing.{small, small-formats}
+use Rattle.message.proofs.Late.{late-none}
 use Rattle.writing.specs.Writing.{fieldFault, fieldsFault, messageFault}
 use Rattle.compose.specs.Compose.{allHeld}
-use Rattle.compose.proofs.Places.{holds, small, small-formats, length-padded}
+use Rattle.compose.proofs.Places.{length-padded}
 use Rattle.compose.proofs.Bitmaps.{names-has}
 use Rattle.compose.proofs.Held.{distinct, distinct-formats, first-distinct, Fitting, fitting-formats, fitting-head, fitting-tail, fitting-stored, stored-drop, stored-bytes, named, nothing, held-listed, found-held, find-none}
 
@@ -27,7 +29,7 @@ length-counts : (fs : List Format) (xs : List Item) → length (countsFor fs xs)
 length-counts [] xs = refl
 length-counts (f ∷ fs) xs = omega (arith, length-counts fs xs)
 
-length-contents : (fs : List Format) (xs : List Item) → distinct fs ≡ true → Fitting fs xs → length (contentsFor fs xs) ≡ rooms fs
+length-contents : (fs : List Format) (xs : List Item) → distinct fs ≡ true → Fitting fs xs → length (contentsFor fs xs) ≡ roomsOf fs
 length-contents [] xs d r = refl
 length-contents (f ∷ fs) xs d r =
     length-append (padded (room f) (find xs (f .number) .bytes)) (contentsFor fs xs)
@@ -65,7 +67,7 @@ field-sound : (f : Format) (fs : List Format) (xs : List Item) (rest : List ℕ)
     → fieldFault f (bitmapFor xs) (find xs (f .number) .count) (padded (room f) (find xs (f .number) .bytes) ++ rest) ≡ 0
 unfolding fieldFault
 field-sound f fs xs rest s r =
-    let b = and-eq-true-iff (ltb 0 (f .number) && leb (f .number) 64) (leb (f .high) 63) .0 s in
+    let b = and-eq-true-iff (ltb 0 (f .number) && leb (f .number) 64) (leb (f .high) 255) .0 s in
     let a = and-eq-true-iff (ltb 0 (f .number)) (leb (f .number) 64) .0 (b .0) in
     rw (names-has xs (f .number) (ltb-true 0 (f .number) (a .0)) (leb-true (f .number) 64 (a .1))) (go (has xs (f .number)) refl)
   where
@@ -88,7 +90,8 @@ fields-sound (f ∷ fs) xs s d r =
 
 pub sound : (i : ℕ) (xs : List Item) → among i indicators ≡ true → allHeld xs ≡ true → messageFault (messageOf i xs) ≡ 0
 unfolding messageFault
-sound i xs e h = rw (e, listed-all xs h) (fields-sound formats xs small-formats distinct-formats (fitting-formats xs h))
+sound i xs e h =
+    rw (e, listed-all xs h, fields-sound formats xs small-formats distinct-formats (fitting-formats xs h)) (late-none (messageOf i xs))
 
 -- the field that is held
 field-of : (fs : List Format) (xs : List Item) (n : ℕ) → distinct fs ≡ true → Fitting fs xs → among n (numbers fs) ≡ true

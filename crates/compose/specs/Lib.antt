@@ -1,2 +1,2 @@
 pub mod Compose
-pub mod Located
+pub mod Placed

@@ -1,5 +1,6 @@
 // A message put together field by field.
 use field::Format;
+use message::Located;
 use message::Message;
 ghost use mathlib.Core.Path.{_≡_};
 ghost use mathlib.Core.Bool.{cond, _&&_};
@@ -9,52 +10,63 @@ ghost use lib.Dec.{eqb};
 ghost use lib.ListN.{length, getD, set};
 ghost use Rattle.digits.specs.Digits.{allDigits};
 ghost use Rattle.digits.specs.Numbers.{digitsOf};
-ghost use Rattle.field.specs.Table.{formats};
+ghost use Rattle.field.specs.Table.{formats, rows};
 ghost use Rattle.field.specs.Contents.{size, fault};
+ghost use Rattle.message.specs.Message.{rooms};
 ghost use Rattle.message.specs.Build.{digits, bytes, padded, messageOf};
 ghost use Rattle.compose.specs.Compose.{withItem, withBit};
-ghost use Rattle.compose.specs.Located.{located, placed, putAt, item};
+ghost use Rattle.compose.specs.Placed.{placed, putAt, item};
+
+// The bits of a byte, the top one first.
+const BITS: [u8; 8] = [128, 64, 32, 16, 8, 4, 2, 1];
+
+// A message of a type that names no field.
+pub fn typed(indicator: u16) -> Message
+    ensures { λ r. ⌜ r ≡ messageOf indicator [] ⌝ }
+{
+    let mut m = Message::new();
+    m.indicator = indicator;
+    m
+}
+
+// The message with field n holding these bytes.
+pub fn with_bytes(m: Message, n: u8, b: &[u8]) -> Message
+    ensures { λ r. ⌜ r ≡ withItem (bytes n (now (b .entry))) m ⌝ }
+{
+    with_item(m, n, b.len(), b)
+}
+
+// The message with field n holding these digits, one a place.
+pub fn with_digits(m: Message, n: u8, ds: &[u8]) -> Message
+    ensures { λ r. ⌜ r ≡ cond (allDigits (now (ds .entry))) (withItem (digits n (now (ds .entry))) m) m ⌝ }
+{
+    let count = ds.len();
+    if 255 < count {
+        return m;
+    }
+    let end = count / 2 + count % 2;
+    let mut packed = [0u8; 128];
+    if digits::pack_into(ds, &mut packed[..end]) {
+        return with_item(m, n, count, &packed[..end]);
+    }
+    m
+}
+
+// The message with field n holding the last digits of x, as many as said.
+pub fn with_number(m: Message, n: u8, count: u8, x: u64) -> Message
+    ensures { λ r. ⌜ r ≡ withItem (digits n (digitsOf count x)) m ⌝ }
+{
+    let end = wide(count);
+    let mut ds = [0u8; 255];
+    digits::digits_into(x, &mut ds[..end]);
+    with_digits(m, n, &ds[..end])
+}
 
 fn wide(x: u8) -> usize
     ensures { λ r. ⌜ r ≡ x ⌝ }
 {
     x as usize
 }
-
-// The row of field n in the table, where its contents stand, and its form.
-enum Located {
-    Found {
-        row: usize,
-        from: usize,
-        form: Format,
-    },
-    Missing,
-}
-
-fn locate(n: u8) -> Located
-    ensures { λ r. ⌜ r ≡ located formats n 0 0 ⌝ }
-{
-    let table = field::table();
-    let mut from = 0;
-    let mut k = 0;
-    while k < 23 {
-        let f = table[k];
-        let class = f.class;
-        if f.number == n {
-            return Located::Found {
-                row: k,
-                from: from,
-                form: f,
-            };
-        }
-        from += field::size_of(class, f.high);
-        k += 1;
-    }
-    Located::Missing
-}
-
-// The bits of a byte, the top one first.
-const BITS: [u8; 8] = [128, 64, 32, 16, 8, 4, 2, 1];
 
 fn with_bit(bitmap: [u8; 8], n: u8) -> [u8; 8]
     requires { ⌜ (0 < n) × (n ≤ 64) ⌝ }
@@ -91,8 +103,13 @@ fn fill(b: &[u8], out: &mut [u8])
     }
 }
 
-fn with_contents(contents: [u8; 227], from: usize, room: usize, b: &[u8]) -> [u8; 227]
-    requires { ⌜ (from + room ≤ 227) × (length (now b) ≤ room) ⌝ }
+fn with_contents(
+    contents: [u8; message::ROOM],
+    from: usize,
+    room: usize,
+    b: &[u8],
+) -> [u8; message::ROOM]
+    requires { ⌜ (from + room ≤ rooms) × (length (now b) ≤ room) ⌝ }
     ensures { λ r. ⌜ r ≡ placed from room (now (b .entry)) contents ⌝ }
 {
     let mut out = contents;
@@ -101,8 +118,8 @@ fn with_contents(contents: [u8; 227], from: usize, room: usize, b: &[u8]) -> [u8
     out
 }
 
-fn with_count(counts: [u8; 23], row: usize, count: u8) -> [u8; 23]
-    requires { ⌜ row < 23 ⌝ }
+fn with_count(counts: [u8; field::ROWS], row: usize, count: u8) -> [u8; field::ROWS]
+    requires { ⌜ row < rows ⌝ }
     ensures { λ r. ⌜ r ≡ set counts row count ⌝ }
 {
     let mut out = counts;
@@ -120,7 +137,7 @@ fn in_form(f: Format, n: u8, b: &[u8]) -> bool
 
 // The message with field n, which stands at a row and a place, holding count digits or bytes.
 fn put(m: Message, n: u8, row: usize, from: usize, room: usize, count: u8, b: &[u8]) -> Message
-    requires { ⌜ (0 < n) × (n ≤ 64) × (row < 23) × (from + room ≤ 227) × (length (now b) ≤ room) ⌝ }
+    requires { ⌜ (0 < n) × (n ≤ 64) × (row < rows) × (from + room ≤ rooms) × (length (now b) ≤ room) ⌝ }
     ensures { λ r. ⌜ r ≡ putAt m n row from room count (now (b .entry)) ⌝ }
 {
     let bitmap = m.bitmap;
@@ -141,7 +158,7 @@ fn put(m: Message, n: u8, row: usize, from: usize, room: usize, count: u8, b: &[
 fn with_item(m: Message, n: u8, count: usize, b: &[u8]) -> Message
     ensures { λ r. ⌜ r ≡ withItem (item n count (now (b .entry))) m ⌝ }
 {
-    match locate(n) {
+    match message::locate(n) {
         Located::Found { row, from, form } => {
             if field::is_allowed(form, count) {
                 let held = count as u8;
@@ -155,46 +172,4 @@ fn with_item(m: Message, n: u8, count: usize, b: &[u8]) -> Message
         }
         Located::Missing => m,
     }
-}
-
-// A message of a type that names no field.
-pub fn typed(indicator: u16) -> Message
-    ensures { λ r. ⌜ r ≡ messageOf indicator [] ⌝ }
-{
-    let mut m = Message::new();
-    m.indicator = indicator;
-    m
-}
-
-// The message with field n holding these bytes.
-pub fn with_bytes(m: Message, n: u8, b: &[u8]) -> Message
-    ensures { λ r. ⌜ r ≡ withItem (bytes n (now (b .entry))) m ⌝ }
-{
-    with_item(m, n, b.len(), b)
-}
-
-// The message with field n holding these digits, one a place.
-pub fn with_digits(m: Message, n: u8, ds: &[u8]) -> Message
-    ensures { λ r. ⌜ r ≡ cond (allDigits (now (ds .entry))) (withItem (digits n (now (ds .entry))) m) m ⌝ }
-{
-    let count = ds.len();
-    if 63 < count {
-        return m;
-    }
-    let end = count / 2 + count % 2;
-    let mut packed = [0u8; 32];
-    if digits::pack_into(ds, &mut packed[..end]) {
-        return with_item(m, n, count, &packed[..end]);
-    }
-    m
-}
-
-// The message with field n holding the last digits of x, as many as said.
-pub fn with_number(m: Message, n: u8, count: u8, x: u64) -> Message
-    ensures { λ r. ⌜ r ≡ withItem (digits n (digitsOf count x)) m ⌝ }
-{
-    let end = wide(count);
-    let mut ds = [0u8; 255];
-    digits::digits_into(x, &mut ds[..end]);
-    with_digits(m, n, &ds[..end])
 }

@@ -2,3 +2,4 @@
 pub mod Lists
 pub mod Packing
 pub mod Numbers
+pub mod Packed

@@ -1,3 +1,4 @@
 pub mod Lists
 pub mod Digits
 pub mod Numbers
+pub mod Packed

@@ -5,6 +5,7 @@ ghost use Prim.Native.Nat.{_+_, _*_, _<_, _≤_, _/_};
 ghost use lib.ListN.{length};
 ghost use Rattle.digits.specs.Digits.{half, unpack, packedByte, pack, isPacked, allDigits, packable, bytesFor};
 ghost use Rattle.digits.specs.Numbers.{value, digitsOf, numberOf};
+ghost use Rattle.digits.specs.Packed.{numeral, packedNumber};
 
 // A number that digits say, where they are digits and no more than 64 bits hold.
 pub enum Number {
@@ -77,28 +78,6 @@ pub fn all_digits(ds: &[u8]) -> bool
     true
 }
 
-fn packed_byte(ds: &[u8], j: usize) -> u8
-    requires { ⌜ (2 * j < length (now ds)) × (allDigits (now ds) ≡ true) ⌝ }
-    ensures { λ r. ⌜ r ≡ packedByte (now (ds .entry)) j ⌝ }
-{
-    let i = 2 * j;
-    if i + 1 < ds.len() {
-        return ds[i] * 16 + ds[i + 1];
-    }
-    ds[i] * 16
-}
-
-fn pack_digits(ds: &[u8], out: &mut [u8])
-    requires { ⌜ (length (now out) ≡ bytesFor (length (now ds))) × (allDigits (now ds) ≡ true) ⌝ }
-    ensures { λ _. ⌜ now (out .exit) ≡ pack (now (ds .entry)) ⌝ }
-{
-    let mut j = 0;
-    while j < out.len() {
-        out[j] = packed_byte(ds, j);
-        j += 1;
-    }
-}
-
 // Packs digits into out, which they must fill; else out stays.
 pub fn pack_into(ds: &[u8], out: &mut [u8]) -> bool
     ensures { λ r. ⌜ (r ≡ packable (now (ds .entry)) (length (now (out .entry)))) × (now (out .exit) ≡ cond (packable (now (ds .entry)) (length (now (out .entry)))) (pack (now (ds .entry))) (now (out .entry))) ⌝ }
@@ -112,25 +91,6 @@ pub fn pack_into(ds: &[u8], out: &mut [u8]) -> bool
         return true;
     }
     false
-}
-
-fn wide(x: u8) -> u64
-    ensures { λ r. ⌜ r ≡ x ⌝ }
-{
-    x as u64
-}
-
-fn sum_of(ds: &[u8]) -> u64
-    requires { ⌜ (length (now ds) ≤ 19) × (allDigits (now ds) ≡ true) ⌝ }
-    ensures { λ r. ⌜ r ≡ value (now (ds .entry)) ⌝ }
-{
-    let mut v: u64 = 0;
-    let mut i = 0;
-    while i < ds.len() {
-        v = v * 10 + wide(ds[i]);
-        i += 1;
-    }
-    v
 }
 
 // The number that digits say, up to 19 of them.
@@ -157,4 +117,91 @@ pub fn digits_into(x: u64, out: &mut [u8])
         out[i] = (y % 10) as u8;
         y /= 10;
     }
+}
+
+// Writes the last digits of x, as many as fill out.
+pub fn put_number(x: u64, out: &mut [u8])
+    ensures { λ _. ⌜ now (out .exit) ≡ pack (digitsOf (2 * length (now (out .entry))) x) ⌝ }
+{
+    let mut v = x;
+    let mut k = out.len();
+    while 0 < k {
+        k -= 1;
+        out[k] = (v / 10 % 10 * 16 + v % 10) as u8;
+        v = v / 100;
+    }
+}
+
+// The number that the digits of s say, up to 18 of them; 0 where a half byte is no digit.
+pub fn packed_number(s: &[u8]) -> u64
+    ensures { λ r. ⌜ r ≡ packedNumber (2 * length (now (s .entry))) (now (s .entry)) ⌝ }
+{
+    if 9 < s.len() {
+        return 0;
+    }
+    let mut v: u64 = 0;
+    let mut i = 0;
+    while i < s.len() {
+        let b = s[i];
+        if 9 < b / 16 {
+            return 0;
+        }
+        if 9 < b % 16 {
+            return 0;
+        }
+        v = v * 100 + (b / 16 * 10 + b % 16) as u64;
+        i += 1;
+    }
+    v
+}
+
+// A number; 0 where there is none.
+pub fn numeral(x: Number) -> u64
+    ensures { λ r. ⌜ r ≡ numeral x ⌝ }
+{
+    match x {
+        Number::Is(v) => v,
+        Number::Not => 0,
+    }
+}
+
+fn packed_byte(ds: &[u8], j: usize) -> u8
+    requires { ⌜ (2 * j < length (now ds)) × (allDigits (now ds) ≡ true) ⌝ }
+    ensures { λ r. ⌜ r ≡ packedByte (now (ds .entry)) j ⌝ }
+{
+    let i = 2 * j;
+    if i + 1 < ds.len() {
+        return ds[i] * 16 + ds[i + 1];
+    }
+    ds[i] * 16
+}
+
+fn pack_digits(ds: &[u8], out: &mut [u8])
+    requires { ⌜ (length (now out) ≡ bytesFor (length (now ds))) × (allDigits (now ds) ≡ true) ⌝ }
+    ensures { λ _. ⌜ now (out .exit) ≡ pack (now (ds .entry)) ⌝ }
+{
+    let mut j = 0;
+    while j < out.len() {
+        out[j] = packed_byte(ds, j);
+        j += 1;
+    }
+}
+
+fn wide(x: u8) -> u64
+    ensures { λ r. ⌜ r ≡ x ⌝ }
+{
+    x as u64
+}
+
+fn sum_of(ds: &[u8]) -> u64
+    requires { ⌜ (length (now ds) ≤ 19) × (allDigits (now ds) ≡ true) ⌝ }
+    ensures { λ r. ⌜ r ≡ value (now (ds .entry)) ⌝ }
+{
+    let mut v: u64 = 0;
+    let mut i = 0;
+    while i < ds.len() {
+        v = v * 10 + wide(ds[i]);
+        i += 1;
+    }
+    v
 }

@@ -55,6 +55,10 @@ formats =
     fixed 64 Any 8 ∷
     []
 
+-- the number of fields
+abbrev pub rows : ℕ
+rows = 23
+
 -- the field numbers of a table
 abbrev pub numbers : List Format → List ℕ
 numbers [] = []

@@ -27,8 +27,11 @@ pub struct Format {
     pub high: u8,
 }
 
+// The number of fields in the table.
+pub const ROWS: usize = 23;
+
 // The fields of a message in ascending order.
-const FORMATS: [Format; 23] = [
+const FORMATS: [Format; ROWS] = [
     Format { number: 2, class: Class::Digits, prefix: Prefix::One, low: 13, high: 19 },
     Format { number: 3, class: Class::Digits, prefix: Prefix::Absent, low: 6, high: 6 },
     Format { number: 4, class: Class::Digits, prefix: Prefix::Absent, low: 12, high: 12 },
@@ -54,22 +57,19 @@ const FORMATS: [Format; 23] = [
     Format { number: 64, class: Class::Any, prefix: Prefix::Absent, low: 8, high: 8 },
 ];
 
-pub fn table() -> [Format; 23]
-    ensures { λ r. ⌜ r ≡ formats ⌝ }
-{
-    FORMATS
-}
-
-fn wide(x: u8) -> usize
-    ensures { λ r. ⌜ r ≡ x ⌝ }
-{
-    x as usize
-}
-
 // The types of document 01.
 const INDICATORS: [u16; 12] = [
     0x0100, 0x0110, 0x0200, 0x0210, 0x0220, 0x0230, 0x0320, 0x0330, 0x0400, 0x0410, 0x0500, 0x0510,
 ];
+
+// The bits of each bitmap byte that stand for no field of the table.
+const UNLISTED: [u8; 8] = [0x8F, 0xC1, 0xFB, 0x7E, 0xF1, 0x2E, 0x7F, 0xE4];
+
+pub fn table() -> [Format; ROWS]
+    ensures { λ r. ⌜ r ≡ formats ⌝ }
+{
+    FORMATS
+}
 
 // Rule 4: whether a message type indicator is listed.
 pub fn listed_indicator(x: u16) -> bool
@@ -101,9 +101,6 @@ pub fn named(bm: &[u8; 8], n: u8) -> bool
     let k = 7 - i % 8;
     (s[i / 8] >> k) % 2 == 1
 }
-
-// The bits of each bitmap byte that stand for no field of the table.
-const UNLISTED: [u8; 8] = [0x8F, 0xC1, 0xFB, 0x7E, 0xF1, 0x2E, 0x7F, 0xE4];
 
 // Rule 5: whether a bitmap names only fields of the table.
 pub fn all_listed(bm: &[u8; 8]) -> bool
@@ -175,4 +172,10 @@ pub fn fault_of(class: Class, n: u8, b: &[u8]) -> u8
         }
         Class::Any => 0,
     }
+}
+
+fn wide(x: u8) -> usize
+    ensures { λ r. ⌜ r ≡ x ⌝ }
+{
+    x as usize
 }

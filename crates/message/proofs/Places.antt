@@ -6,11 +6,12 @@ use native.Mathlib.Numerals.{add-one}
 use native.Mathlib.Omega.{arith}
 use lib.ListN.{length, getD, take, drop, length-drop}
 use lib.Seq.{drop-cons, getD-drop, take-all}
-use Rattle.field.specs.Table.{formats, fixed}
-use Rattle.field.specs.Contents.{room}
+use Rattle.field.specs.Table.{formats, fixed, rows}
+use Rattle.field.specs.Contents.{room, skip}
 use Rattle.field.specs.declared.Class.the-variants.{Digits}
 use Rattle.field.specs.declared.Format.{Format}
 use Rattle.field.proofs.Formats.{length-formats}
+use Rattle.message.specs.Message.{rooms, largest}
 
 -- what code reads past the table's end
 abbrev pub noFormat : Format
@@ -18,42 +19,55 @@ noFormat = fixed 0 Digits 0
 
 -- f is the field at place k of the table
 pub record At (k : ℕ) (f : Format) : Type 0 where
-  pub below : k < 23
+  pub below : k < rows
   pub turn : drop k formats ≡ f ∷ drop (k + 1) formats
 
-pub at-place : {t : List Format} {k : ℕ} → t ≡ formats → k < 23 → At k (getD t k noFormat)
+pub at-place : {t : List Format} {k : ℕ} → t ≡ formats → k < rows → At k (getD t k noFormat)
 at-place {k = k} e h = record { below = h; turn = rw (e, add-one) (drop-cons formats k noFormat (omega (arith, length-formats))) }
 
 -- the bytes of the contents of a table's fields
-abbrev pub rooms : List Format → ℕ
-rooms [] = 0
-rooms (f ∷ fs) = room f + rooms fs
+abbrev pub roomsOf : List Format → ℕ
+roomsOf [] = 0
+roomsOf (f ∷ fs) = room f + roomsOf fs
 
-pub rooms-formats : rooms formats ≡ 227
+pub rooms-formats : roomsOf formats ≡ rooms
 unfolding formats
 rooms-formats = refl
 
+-- the most bytes that a field takes on the wire, and the fields of a table
+abbrev pub width : Format → ℕ
+width f = skip (f .prefix) + room f
+
+abbrev pub widthsOf : List Format → ℕ
+widthsOf [] = 0
+widthsOf (f ∷ fs) = width f + widthsOf fs
+
+-- type, bitmap and all fields make the largest message
+pub largest-formats : 10 + widthsOf formats ≡ largest
+unfolding formats
+largest-formats = refl
+
 -- the contents of the field at place k stand at from in bs
 pub record Place (bs : List ℕ) (k from : ℕ) : Type 0 where
-  pub len : length bs ≡ 227
-  pub bound : k ≤ 23
-  pub rest : from + rooms (drop k formats) ≡ 227
+  pub len : length bs ≡ rooms
+  pub bound : k ≤ rows
+  pub rest : from + roomsOf (drop k formats) ≡ rooms
 
-pub place-none : (bs : List ℕ) → length bs ≡ 227 → Place bs 0 0
+pub place-none : (bs : List ℕ) → length bs ≡ rooms → Place bs 0 0
 place-none bs l = record { len = l; bound = omega arith; rest = omega (arith, rooms-formats) }
 
 module _ {bs : List ℕ} {k from : ℕ} (p : Place bs k from) where
-  pub place-part : take (227 - from) (drop from bs) ≡ drop from bs
-  place-part = take-all (227 - from) (drop from bs) (rw length-drop (omega (arith, p .len)))
+  pub place-part : take (rooms - from) (drop from bs) ≡ drop from bs
+  place-part = take-all (rooms - from) (drop from bs) (rw length-drop (omega (arith, p .len)))
 
   pub place-more : {f : Format} → At k f → Place bs (k + 1) (from + room f)
-  place-more a = record { len = p .len; bound = omega (arith, a .below); rest = omega (arith, p .rest, ap rooms (a .turn)) }
+  place-more a = record { len = p .len; bound = omega (arith, a .below); rest = omega (arith, p .rest, ap roomsOf (a .turn)) }
 
-  pub place-fits : {f : Format} {w : ℕ} → At k f → w ≡ room f → from + w ≤ 227
+  pub place-fits : {f : Format} {w : ℕ} → At k f → w ≡ room f → from + w ≤ rooms
   place-fits a e = omega (arith, place-more a .rest)
 
-  pub place-room : {f : Format} → At k f → room f ≤ length (take (227 - from) (drop from bs))
-  place-room a = rw (place-part, length-drop) (omega (arith, p .len, p .rest, ap rooms (a .turn)))
+  pub place-room : {f : Format} → At k f → room f ≤ length (take (rooms - from) (drop from bs))
+  place-room a = rw (place-part, length-drop) (omega (arith, p .len, p .rest, ap roomsOf (a .turn)))
 
 pub first-count : (cs : List ℕ) (k : ℕ) → getD (drop k cs) 0 0 ≡ getD cs k 0
 first-count cs k = let e : k + 0 ≡ k = omega arith in getD-drop k cs 0 0 ∙ rw e

@@ -5,23 +5,27 @@ use mathlib.Core.Bool.{cond}
 use Prim.Native.Nat.{ℕ}
 use lib.Dec.{eqb}
 use lib.ListN.{length, getD, take, drop, replicate}
-use Rattle.field.specs.Table.{formats}
+use Rattle.field.specs.Table.{formats, rows}
 use Rattle.field.specs.Contents.{size, room}
 use Rattle.field.specs.declared.Format.{Format}
 use Rattle.message.specs.declared.Message.{Message}
+
+-- the bytes of the contents of all fields
+abbrev pub rooms : ℕ
+rooms = 227
 
 -- all fields together make 248 bytes, the most there is
 abbrev pub largest : ℕ
 largest = 248
 
 abbrev pub empty : Message
-empty = record { indicator = 0; bitmap = replicate 8 0; counts = replicate 23 0; contents = replicate 227 0 }
+empty = record { indicator = 0; bitmap = replicate 8 0; counts = replicate rows 0; contents = replicate rooms 0 }
 
 -- what every value of the type satisfies: its arrays have their lengths
 pub record Shaped (m : Message) : Type 0 where
   pub bitmap-length : length (m .bitmap) ≡ 8
-  pub counts-length : length (m .counts) ≡ 23
-  pub contents-length : length (m .contents) ≡ 227
+  pub counts-length : length (m .counts) ≡ rows
+  pub contents-length : length (m .contents) ≡ rooms
 
 -- a field's count of digits or bytes, and the bytes that hold them
 pub record Field : Type 0 where

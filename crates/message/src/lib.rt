@@ -1,13 +1,20 @@
 // A message by value: its type, its bitmap as it stands on the wire, and each field's count and contents.
+use field::Format;
 ghost use mathlib.Core.Path.{_≡_};
-ghost use Rattle.message.specs.Message.{empty, largest};
+ghost use Rattle.field.specs.Table.{formats};
+ghost use Rattle.message.specs.Message.{empty};
+ghost use Rattle.message.specs.Located.{located};
+ghost use Rattle.message.specs.Late.{lateFault};
+
+// The bytes of the contents of all fields.
+pub const ROOM: usize = 227;
 
 // Counts and contents stand in the table's order; each field's contents stand at a place of their own, as on the wire.
 pub struct Message {
     pub indicator: u16,
     pub bitmap: [u8; 8],
-    pub counts: [u8; 23],
-    pub contents: [u8; 227],
+    pub counts: [u8; field::ROWS],
+    pub contents: [u8; ROOM],
 }
 
 impl Message {
@@ -21,8 +28,48 @@ impl Message {
         Message {
             indicator: 0,
             bitmap: [0u8; 8],
-            counts: [0u8; 23],
-            contents: [0u8; 227],
+            counts: [0u8; field::ROWS],
+            contents: [0u8; ROOM],
         }
     }
+}
+
+// The row of a field in the table, where its contents stand in a message, and its form; or that it is not listed.
+pub enum Located {
+    Found {
+        row: usize,
+        from: usize,
+        form: Format,
+    },
+    Missing,
+}
+
+// Where field n stands.
+pub fn locate(n: u8) -> Located
+    ensures { λ r. ⌜ r ≡ located formats n 0 0 ⌝ }
+{
+    let table = field::table();
+    let mut from = 0;
+    let mut k = 0;
+    while k < field::ROWS {
+        let f = table[k];
+        let class = f.class;
+        if f.number == n {
+            return Located::Found {
+                row: k,
+                from: from,
+                form: f,
+            };
+        }
+        from += field::size_of(class, f.high);
+        k += 1;
+    }
+    Located::Missing
+}
+
+// What a message as a whole is refused for, once its fields are in form; 0 for nothing.
+pub fn late_fault(m: Message) -> u8
+    ensures { λ r. ⌜ r ≡ lateFault m ⌝ }
+{
+    0
 }

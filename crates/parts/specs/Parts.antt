@@ -13,12 +13,7 @@ use Rattle.field.specs.Bitmap.{names}
 use Rattle.message.specs.Message.{fieldOf}
 use Rattle.message.specs.declared.Message.{Message}
 use Rattle.parts.specs.declared.Part.{Part}
-use Rattle.parts.specs.declared.Part.the-variants.{Trace, DebitAmount, DebitCount, CreditAmount, CreditCount, Reconciliation, Kind, Batch, Management, OriginalBatch, OriginalTrace, OriginalDate}
-use Rattle.parts.specs.declared.Place.{Place}
-use Rattle.parts.specs.declared.FoundTrace.{FoundTrace}
-use Rattle.parts.specs.declared.FoundTrace.the-variants.{TraceIs, NoTrace}
-use Rattle.parts.specs.declared.FoundBatch.{FoundBatch}
-use Rattle.parts.specs.declared.FoundBatch.the-variants.{BatchIs, NoBatch}
+use Rattle.parts.specs.Layout.{placeOf}
 
 -- two lists hold the same bytes
 unfoldable pub sameBytes : List ℕ → List ℕ → Bool
@@ -39,33 +34,6 @@ numberIn m n i k =
       (numberOf (take k (drop i (unpack (fieldOf m n .count) (fieldOf m n .bytes)))))
       Not
 
-abbrev at : ℕ → ℕ → ℕ → Place
-at n i k = record { number = n; from = i; count = k }
-
--- field 11: trace. Field 48: debit amount, debit count, credit amount, credit count, reconciliation digit.
--- Field 60: kind, batch, management code. Field 61: original batch, trace, date.
-abbrev pub placeOf : Part → Place
-placeOf Trace = at 11 0 6
-placeOf DebitAmount = at 48 0 12
-placeOf DebitCount = at 48 12 3
-placeOf CreditAmount = at 48 15 12
-placeOf CreditCount = at 48 27 3
-placeOf Reconciliation = at 48 30 1
-placeOf Kind = at 60 0 2
-placeOf Batch = at 60 2 6
-placeOf Management = at 60 8 3
-placeOf OriginalBatch = at 61 0 6
-placeOf OriginalTrace = at 61 6 6
-placeOf OriginalDate = at 61 12 4
-
+-- the number that a part says
 abbrev pub partOf : Message → Part → Number
 partOf m p = numberIn m (placeOf p .number) (placeOf p .from) (placeOf p .count)
-
--- a batch number and a trace number are both six digits, and neither may fill the other's place
-abbrev pub asTrace : Number → FoundTrace
-asTrace (Is x) = TraceIs (record { 0 = x })
-asTrace Not = NoTrace
-
-abbrev pub asBatch : Number → FoundBatch
-asBatch (Is x) = BatchIs (record { 0 = x })
-asBatch Not = NoBatch

@@ -1,31 +1,15 @@
-// What a caller takes from a message: a field's bytes, and the parts of fields 11, 48, 60 and 61.
+// What a caller takes from a message, and the digits that it puts into one: a field's bytes, and the parts of fields 11, 48, 60 and 61.
 use digits::Number;
-use field::Class;
+use message::Located;
 use message::Message;
 ghost use mathlib.Core.Path.{_≡_};
 ghost use mathlib.Core.Bool.{cond};
 ghost use Prim.Native.Nat.{_<_};
 ghost use lib.ListN.{length};
-ghost use Rattle.field.specs.Table.{formats};
 ghost use Rattle.message.specs.Message.{fieldOf};
-ghost use Rattle.parts.specs.Parts.{sameBytes, matches, copies, numberIn, placeOf, partOf, asTrace, asBatch};
-ghost use Rattle.parts.specs.Located.{located, Bounded, Small};
-
-// A trace number, six digits.
-pub struct Trace(pub u32);
-
-// A batch number, six digits.
-pub struct Batch(pub u32);
-
-pub enum FoundTrace {
-    TraceIs(Trace),
-    NoTrace,
-}
-
-pub enum FoundBatch {
-    BatchIs(Batch),
-    NoBatch,
-}
+ghost use Rattle.parts.specs.Layout.{placeOf, withPart};
+ghost use Rattle.parts.specs.Parts.{sameBytes, matches, copies, numberIn, partOf};
+ghost use Rattle.parts.specs.Bounds.{Bounded};
 
 // A part of a field that is a number.
 pub enum Part {
@@ -50,16 +34,14 @@ pub struct Place {
     pub count: usize,
 }
 
-fn at(number: u8, from: usize, count: usize) -> Place
-    ensures { λ r. ⌜ r ≡ record { number = number; from = from; count = count } ⌝ }
-{
-    Place {
-        number: number,
-        from: from,
-        count: count,
-    }
+// A field's count of digits or bytes, and where its contents begin and end in the message.
+struct Bounds {
+    count: usize,
+    from: usize,
+    end: usize,
 }
 
+// Where a part stands: the table of parts.
 pub fn place_of(p: Part) -> Place
     ensures { λ r. ⌜ r ≡ placeOf p ⌝ }
 {
@@ -76,97 +58,6 @@ pub fn place_of(p: Part) -> Place
         Part::OriginalBatch => at(61, 0, 6),
         Part::OriginalTrace => at(61, 6, 6),
         Part::OriginalDate => at(61, 12, 4),
-    }
-}
-
-fn wide(x: u8) -> usize
-    ensures { λ r. ⌜ (r ≡ x) × (r < 256) ⌝ }
-{
-    x as usize
-}
-
-fn same_bytes(a: &[u8], b: &[u8]) -> bool
-    ensures { λ r. ⌜ r ≡ sameBytes (now (a .entry)) (now (b .entry)) ⌝ }
-{
-    if a.len() != b.len() {
-        return false;
-    }
-    let mut i = 0;
-    while i < a.len() {
-        if a[i] != b[i] {
-            return false;
-        }
-        i += 1;
-    }
-    true
-}
-
-// The row of field n in the table, where its contents stand, and what they hold.
-enum Located {
-    Found {
-        row: usize,
-        from: usize,
-        class: Class,
-    },
-    Missing,
-}
-
-fn locate(n: u8) -> Located
-    ensures { λ r. ⌜ r ≡ located formats n 0 0 ⌝ }
-{
-    let table = field::table();
-    let mut from = 0;
-    let mut k = 0;
-    while k < 23 {
-        let f = table[k];
-        let class = f.class;
-        if f.number == n {
-            return Located::Found {
-                row: k,
-                from: from,
-                class: class,
-            };
-        }
-        from += field::size_of(class, f.high);
-        k += 1;
-    }
-    Located::Missing
-}
-
-// A field's count of digits or bytes, and where its contents begin and end in the message.
-struct Bounds {
-    count: usize,
-    from: usize,
-    end: usize,
-}
-
-fn bounds_of(m: Message, n: u8) -> Bounds
-    ensures { λ r. ⌜ Bounded m n (r .count) (r .from) (r .end) ⌝ }
-{
-    let counts = m.counts;
-    match locate(n) {
-        Located::Found { row, from, class } => {
-            let held = counts[row];
-            let count = wide(held);
-            let end = from + field::size_of(class, held);
-            if 227 < end {
-                return Bounds {
-                    count: count,
-                    from: from,
-                    end: 227,
-                };
-            }
-            Bounds {
-                count: count,
-                from: from,
-                end: end,
-            }
-        }
-        Located::Missing => Bounds {
-            count: 0,
-            from: 0,
-            end: 0,
-        },
     }
 }
 
@@ -235,50 +126,81 @@ pub fn part_of(m: Message, p: Part) -> Number
     number_in(m, at.number, at.from, at.count)
 }
 
-fn trace_from(x: Number) -> FoundTrace
-    requires { ⌜ Small x ⌝ }
-    ensures { λ r. ⌜ r ≡ asTrace x ⌝ }
+// Puts the digits of x at the place of a part into the digits of its field; where they have no such place, they stay.
+pub fn put_part(p: Part, x: u64, ds: &mut [u8])
+    ensures { λ _. ⌜ now (ds .exit) ≡ withPart p x (now (ds .entry)) ⌝ }
 {
-    match x {
-        Number::Is(v) => FoundTrace::TraceIs(Trace(v as u32)),
-        Number::Not => FoundTrace::NoTrace,
+    let at = place_of(p);
+    let from = at.from;
+    if ds.len() < from {
+        return;
+    }
+    if ds.len() - from < at.count {
+        return;
+    }
+    let end = from + at.count;
+    digits::digits_into(x, &mut ds[from..end]);
+}
+
+fn at(number: u8, from: usize, count: usize) -> Place
+    ensures { λ r. ⌜ r ≡ record { number = number; from = from; count = count } ⌝ }
+{
+    Place {
+        number: number,
+        from: from,
+        count: count,
     }
 }
 
-fn batch_from(x: Number) -> FoundBatch
-    requires { ⌜ Small x ⌝ }
-    ensures { λ r. ⌜ r ≡ asBatch x ⌝ }
+fn wide(x: u8) -> usize
+    ensures { λ r. ⌜ (r ≡ x) × (r < 256) ⌝ }
 {
-    match x {
-        Number::Is(v) => FoundBatch::BatchIs(Batch(v as u32)),
-        Number::Not => FoundBatch::NoBatch,
+    x as usize
+}
+
+fn same_bytes(a: &[u8], b: &[u8]) -> bool
+    ensures { λ r. ⌜ r ≡ sameBytes (now (a .entry)) (now (b .entry)) ⌝ }
+{
+    if a.len() != b.len() {
+        return false;
     }
+    let mut i = 0;
+    while i < a.len() {
+        if a[i] != b[i] {
+            return false;
+        }
+        i += 1;
+    }
+    true
 }
 
-// Field 11.
-pub fn trace_of(m: Message) -> FoundTrace
-    ensures { λ r. ⌜ r ≡ asTrace (partOf m Part.Trace) ⌝ }
+fn bounds_of(m: Message, n: u8) -> Bounds
+    ensures { λ r. ⌜ Bounded m n (r .count) (r .from) (r .end) ⌝ }
 {
-    trace_from(part_of(m, Part::Trace))
-}
-
-// Field 61's trace.
-pub fn original_trace_of(m: Message) -> FoundTrace
-    ensures { λ r. ⌜ r ≡ asTrace (partOf m Part.OriginalTrace) ⌝ }
-{
-    trace_from(part_of(m, Part::OriginalTrace))
-}
-
-// Field 60's batch.
-pub fn batch_of(m: Message) -> FoundBatch
-    ensures { λ r. ⌜ r ≡ asBatch (partOf m Part.Batch) ⌝ }
-{
-    batch_from(part_of(m, Part::Batch))
-}
-
-// Field 61's batch.
-pub fn original_batch_of(m: Message) -> FoundBatch
-    ensures { λ r. ⌜ r ≡ asBatch (partOf m Part.OriginalBatch) ⌝ }
-{
-    batch_from(part_of(m, Part::OriginalBatch))
+    let counts = m.counts;
+    match message::locate(n) {
+        Located::Found { row, from, form } => {
+            let class = form.class;
+            let held = counts[row];
+            let count = wide(held);
+            let end = from + field::size_of(class, held);
+            if message::ROOM < end {
+                return Bounds {
+                    count: count,
+                    from: from,
+                    end: message::ROOM,
+                };
+            }
+            Bounds {
+                count: count,
+                from: from,
+                end: end,
+            }
+        }
+        Located::Missing => Bounds {
+            count: 0,
+            from: 0,
+            end: 0,
+        },
+    }
 }

@@ -12,10 +12,11 @@ use Rattle.span.specs.Span.{span}
 use Rattle.span.specs.declared.Span.{Span}
 use Rattle.span.specs.declared.Span.the-variants.{Held, Refused}
 use Rattle.message.specs.Message.{empty}
+use Rattle.message.specs.Late.{lateFault}
 use Rattle.message.specs.Build.{padded}
 use Rattle.message.specs.declared.Message.{Message}
-use Rattle.reading.specs.declared.Outcome.{Outcome}
-use Rattle.reading.specs.declared.Outcome.the-variants.{Read, Refused as Not}
+use Rattle.reading.specs.declared.ReadOutcome.{ReadOutcome}
+use Rattle.reading.specs.declared.ReadOutcome.the-variants.{Read, Refused as Not}
 use Rattle.reading.specs.declared.Reading.{Reading}
 
 -- what reading fields gives: a refusal number, or each field's count and its contents at its place
@@ -41,24 +42,27 @@ abbrev pub refused : ℕ → Reading
 refused e = record { outcome = Not e; message = empty }
 
 -- the type, four packed digits as a number
-abbrev pub indicatorOf : List ℕ → ℕ
-indicatorOf s = getD s 0 0 * 256 + getD s 1 0
+abbrev pub indicatorIn : List ℕ → ℕ
+indicatorIn s = getD s 0 0 * 256 + getD s 1 0
 
 abbrev pub bitmapOf : List ℕ → List ℕ
 bitmapOf s = take 8 (drop 2 s)
 
+-- a message that was read, where no rule on it as a whole is broken
+abbrev pub accepted : Message → Reading
+accepted m = cond (eqb (lateFault m) 0) (record { outcome = Read; message = m }) (refused (lateFault m))
+
 -- the message of a type, a bitmap and the fields after it
 abbrev pub assembled : ℕ → List ℕ → Fields → Reading
 assembled i bm (bad e) = refused e
-assembled i bm (good cs bs) =
-    record { outcome = Read; message = record { indicator = i; bitmap = bm; counts = cs; contents = bs } }
+assembled i bm (good cs bs) = accepted (record { indicator = i; bitmap = bm; counts = cs; contents = bs })
 
--- under 10 bytes is 3; then come 4 and 5; then the fields one after another; then 9
+-- under 10 bytes is 3; then come 4 and 5; then the fields one after another; then 9; then the message as a whole
 unfoldable pub readMessage : List ℕ → Reading
 readMessage s =
     cond (ltb (length s) 10) (refused 3)
-      (cond (among (indicatorOf s) indicators)
+      (cond (among (indicatorIn s) indicators)
         (cond (listed (bitmapOf s))
-          (assembled (indicatorOf s) (bitmapOf s) (readFields formats (bitmapOf s) (drop 10 s)))
+          (assembled (indicatorIn s) (bitmapOf s) (readFields formats (bitmapOf s) (drop 10 s)))
           (refused 5))
         (refused 4))

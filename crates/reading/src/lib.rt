@@ -3,18 +3,37 @@ use message::Message;
 use span::Span;
 ghost use mathlib.Core.Path.{_≡_};
 ghost use Rattle.field.specs.Table.{formats};
-ghost use Rattle.reading.specs.Reading.{refused, assembled, readFields, readMessage};
+ghost use Rattle.reading.specs.Reading.{refused, accepted, assembled, readFields, readMessage};
 
 // A message was read, or the bytes are refused by a number of document 01.
-pub enum Outcome {
+pub enum ReadOutcome {
     Read,
     Refused(u8),
 }
 
 // The outcome, and the message where one was read.
 pub struct Reading {
-    pub outcome: Outcome,
+    pub outcome: ReadOutcome,
     pub message: Message,
+}
+
+// Reads a message from bytes of any length.
+pub fn read(s: &[u8]) -> Reading
+    ensures { λ r. ⌜ r ≡ readMessage (now (s .entry)) ⌝ }
+{
+    if s.len() < 10 {
+        return refusal(3);
+    }
+    let indicator = wide(s[0]) * 256 + wide(s[1]);
+    if field::listed_indicator(indicator) {
+        let mut bitmap = [0u8; 8];
+        bytes::copy(&s[2..10], &mut bitmap);
+        if field::all_listed(&bitmap) {
+            return read_fields(indicator, bitmap, &s[10..]);
+        }
+        return refusal(5);
+    }
+    refusal(4)
 }
 
 fn refusal(e: u8) -> Reading
@@ -22,7 +41,7 @@ fn refusal(e: u8) -> Reading
 {
     let message = Message::new();
     Reading {
-        outcome: Outcome::Refused(e),
+        outcome: ReadOutcome::Refused(e),
         message: message,
     }
 }
@@ -32,12 +51,12 @@ fn read_fields(indicator: u16, bitmap: [u8; 8], s: &[u8]) -> Reading
     ensures { λ r. ⌜ r ≡ assembled indicator bitmap (readFields formats bitmap (now (s .entry))) ⌝ }
 {
     let table = field::table();
-    let mut counts = [0u8; 23];
-    let mut contents = [0u8; 227];
+    let mut counts = [0u8; field::ROWS];
+    let mut contents = [0u8; message::ROOM];
     let mut at = 0;
     let mut to = 0;
     let mut k = 0;
-    while k < 23 {
+    while k < field::ROWS {
         let f = table[k];
         let class = f.class;
         let t = span::span_of(f, &bitmap, &s[at..]);
@@ -66,9 +85,20 @@ fn read_fields(indicator: u16, bitmap: [u8; 8], s: &[u8]) -> Reading
         counts: counts,
         contents: contents,
     };
+    accept(message)
+}
+
+// A message that was read, where no rule on it as a whole is broken.
+fn accept(m: Message) -> Reading
+    ensures { λ r. ⌜ r ≡ accepted m ⌝ }
+{
+    let e = message::late_fault(m);
+    if e != 0 {
+        return refusal(e);
+    }
     Reading {
-        outcome: Outcome::Read,
-        message: message,
+        outcome: ReadOutcome::Read,
+        message: m,
     }
 }
 
@@ -76,23 +106,4 @@ fn wide(x: u8) -> u16
     ensures { λ r. ⌜ r ≡ x ⌝ }
 {
     x as u16
-}
-
-// Reads a message from bytes of any length.
-pub fn read(s: &[u8]) -> Reading
-    ensures { λ r. ⌜ r ≡ readMessage (now (s .entry)) ⌝ }
-{
-    if s.len() < 10 {
-        return refusal(3);
-    }
-    let indicator = wide(s[0]) * 256 + wide(s[1]);
-    if field::listed_indicator(indicator) {
-        let mut bitmap = [0u8; 8];
-        bytes::copy(&s[2..10], &mut bitmap);
-        if field::all_listed(&bitmap) {
-            return read_fields(indicator, bitmap, &s[10..]);
-        }
-        return refusal(5);
-    }
-    refusal(4)
 }

@@ -23,6 +23,20 @@ pub fn skip_of(prefix: Prefix) -> usize
     }
 }
 
+// The field at the front of s where the bitmap names it; else it takes no bytes.
+pub fn span_of(f: Format, bm: &[u8; 8], s: &[u8]) -> Span
+    ensures { λ r. ⌜ r ≡ span f (now (bm .entry)) (now (s .entry)) ⌝ }
+{
+    if field::named(bm, f.number) {
+        return span_at(f, s);
+    }
+    Span::Held {
+        count: 0,
+        skip: 0,
+        size: 0,
+    }
+}
+
 fn wide(x: u8) -> usize
     ensures { λ r. ⌜ r ≡ x ⌝ }
 {
@@ -89,18 +103,4 @@ fn span_at(f: Format, s: &[u8]) -> Span
         return contents_at(f, n, &s[skip..]);
     }
     Span::Refused(6)
-}
-
-// The field at the front of s where the bitmap names it; else it takes no bytes.
-pub fn span_of(f: Format, bm: &[u8; 8], s: &[u8]) -> Span
-    ensures { λ r. ⌜ r ≡ span f (now (bm .entry)) (now (s .entry)) ⌝ }
-{
-    if field::named(bm, f.number) {
-        return span_at(f, s);
-    }
-    Span::Held {
-        count: 0,
-        skip: 0,
-        size: 0,
-    }
 }

@@ -8,13 +8,15 @@ use lib.Dec.{eqb}
 use lib.ListN.{length, getD, take, drop}
 use lib.Seq.{drop-drop}
 use borrow.Author.Tests.{ne-eqb, eqb-true, eqb-false}
-use Rattle.field.specs.Table.{among, indicators, formats}
+use Rattle.field.specs.Table.{among, indicators, formats, rows}
 use Rattle.field.specs.Bitmap.{names, listed}
 use Rattle.field.specs.Contents.{size, room, allowed, fault}
 use Rattle.field.specs.declared.Format.{Format}
 use Rattle.field.proofs.Formats.{drop-formats}
+use Rattle.message.specs.Late.{lateFault}
 use Rattle.message.specs.declared.Message.{Message}
-use Rattle.writing.specs.Writing.{fieldFault, fieldsFault, messageFault}
+use Rattle.message.specs.Message.{rooms}
+use Rattle.writing.specs.Writing.{fieldFault, fieldsFault, contentsFault, messageFault}
 use Rattle.message.proofs.Places.{At, Place, place-none, place-part, place-more, first-count}
 
 -- a choice that gives 0, where its other side does not
@@ -51,25 +53,27 @@ pub record Writable (m : Message) : Type 0 where
   pub indicator-listed : among (m .indicator) indicators ≡ true
   pub fields-listed : listed (m .bitmap) ≡ true
   pub no-fault : fieldsFault formats (m .bitmap) (m .counts) (m .contents) ≡ 0
+  pub late : lateFault m ≡ 0
 
 pub fault-inversion : (m : Message) → messageFault m ≡ 0 → Writable m
 unfolding messageFault
 fault-inversion m h =
     let x = fieldsFault formats (m .bitmap) (m .counts) (m .contents) in
-    let a = chosen (among (m .indicator) indicators) (cond (listed (m .bitmap)) x 5) 4 (λ _ z. omega (arith, z)) h in
-    let b = chosen (listed (m .bitmap)) x 5 (λ _ z. omega (arith, z)) (a .1) in
-    record { indicator-listed = a .0; fields-listed = b .0; no-fault = b .1 }
+    let a = chosen (among (m .indicator) indicators) (cond (listed (m .bitmap)) (contentsFault m) 5) 4 (λ _ z. omega (arith, z)) h in
+    let b = chosen (listed (m .bitmap)) (contentsFault m) 5 (λ _ z. omega (arith, z)) (a .1) in
+    let c = chosen (eqb x 0) (lateFault m) x (λ q z. eqb-false x 0 q z) (b .1) in
+    record { indicator-listed = a .0; fields-listed = b .0; no-fault = eqb-true x 0 (c .0); late = c .1 }
 
 -- the fields before place k have no fault
 pub record Faultless (bm cs bs : List ℕ) (k from : ℕ) : Type 0 where
   pub place : Place bs k from
   pub eq : fieldsFault formats bm cs bs ≡ fieldsFault (drop k formats) bm (drop k cs) (drop from bs)
 
-pub faultless-none : (bm cs bs : List ℕ) → length bs ≡ 227 → Faultless bm cs bs 0 0
+pub faultless-none : (bm cs bs : List ℕ) → length bs ≡ rooms → Faultless bm cs bs 0 0
 faultless-none bm cs bs l = record { place = place-none bs l; eq = refl }
 
 module _ {bm cs bs : List ℕ} {k from e : ℕ} {f : Format} (r : Faultless bm cs bs k from) (a : At k f)
-    (q : e ≡ fieldFault f bm (getD cs k 0) (take (227 - from) (drop from bs))) where
+    (q : e ≡ fieldFault f bm (getD cs k 0) (take (rooms - from) (drop from bs))) where
   turn : fieldsFault formats bm cs bs
       ≡ cond (eqb e 0) (fieldsFault (drop (k + 1) formats) bm (drop (k + 1) cs) (drop (from + room f) bs)) e
   unfolding fieldsFault
@@ -81,6 +85,6 @@ module _ {bm cs bs : List ℕ} {k from e : ℕ} {f : Format} (r : Faultless bm c
   pub faultless-stop : (e ≡ 0 → ⊥) → e ≡ fieldsFault formats bm cs bs
   faultless-stop n = sym (turn ∙ rw (ne-eqb e 0 n))
 
-pub faultless-done : {bm cs bs : List ℕ} {k from : ℕ} → Faultless bm cs bs k from → 23 ≤ k → 0 ≡ fieldsFault formats bm cs bs
+pub faultless-done : {bm cs bs : List ℕ} {k from : ℕ} → Faultless bm cs bs k from → rows ≤ k → 0 ≡ fieldsFault formats bm cs bs
 unfolding fieldsFault
-faultless-done {k = k} r h = let e : k ≡ 23 = omega (arith, r .place .bound) in sym (r .eq ∙ rw (e, drop-formats))
+faultless-done {k = k} r h = let e : k ≡ rows = omega (arith, r .place .bound) in sym (r .eq ∙ rw (e, drop-formats))

@@ -9,7 +9,7 @@ use lib.Seq.{drop-drop, take-at, drop-at, length-take-le, take-length}
 use Rattle.digits.specs.Digits.{pack}
 use Rattle.digits.specs.Numbers.{digitsOf}
 use Rattle.digits.proofs.Lists.{tail-part, put-tail, two-parts}
-use Rattle.field.specs.Table.{formats}
+use Rattle.field.specs.Table.{formats, rows}
 use Rattle.field.specs.Bitmap.{names}
 use Rattle.field.specs.Contents.{size, room, skip}
 use Rattle.field.specs.declared.Format.{Format}
@@ -17,24 +17,12 @@ use Rattle.field.proofs.Formats.{drop-formats}
 use Rattle.span.specs.Span.{fieldBytes}
 use Rattle.span.proofs.Held.{size-bound}
 use Rattle.span.proofs.Bytes.{length-field}
-use Rattle.message.specs.Message.{largest, Shaped}
+use Rattle.message.specs.Message.{largest, Shaped, rooms}
 use Rattle.message.specs.declared.Message.{Message}
 use Rattle.writing.specs.Writing.{fieldFault, fieldsFault, namedBytes, fieldsBytes, messageBytes, messageFault, Put}
-use Rattle.message.proofs.Places.{At, Place, place-none, place-part, place-more, first-count}
+use Rattle.message.proofs.Places.{width, widthsOf, largest-formats, At, Place, place-none, place-part, place-more, first-count}
 use Rattle.writing.proofs.Counts.{set-two}
 use Rattle.writing.proofs.Faults.{field-sound, fields-sound, fault-inversion}
-
--- the most bytes that a field takes, and the fields of a table
-abbrev pub width : Format → ℕ
-width f = skip (f .prefix) + room f
-
-abbrev pub widths : List Format → ℕ
-widths [] = 0
-widths (f ∷ fs) = width f + widths fs
-
-widths-formats : widths formats ≡ 238
-unfolding formats
-widths-formats = refl
 
 pub field-fits : (f : Format) (bm : List ℕ) (n : ℕ) (bs : List ℕ) → fieldFault f bm n bs ≡ 0 → length (namedBytes f bm n bs) ≤ width f
 unfolding namedBytes
@@ -44,15 +32,15 @@ field-fits f bm n bs h = go (names bm (f .number)) refl
     go true e = rw length-field (omega (arith, size-bound f n (field-sound f bm n bs e h .allows), length-take (size (f .class) n) bs))
     go false e = omega arith
 
-fields-fit : (fs : List Format) (bm cs bs : List ℕ) → fieldsFault fs bm cs bs ≡ 0 → length (fieldsBytes fs bm cs bs) ≤ widths fs
+fields-fit : (fs : List Format) (bm cs bs : List ℕ) → fieldsFault fs bm cs bs ≡ 0 → length (fieldsBytes fs bm cs bs) ≤ widthsOf fs
 unfolding fieldsBytes
 fields-fit [] bm cs bs h = omega arith
 fields-fit (f ∷ fs) bm cs bs h =
     let s = fields-sound f fs bm cs bs h in
     rw length-append (omega (arith, field-fits f bm (getD cs 0 0) bs (s .0), fields-fit fs bm (drop 1 cs) (drop (room f) bs) (s .1)))
 
-pub formats-fit : (bm cs bs : List ℕ) → fieldsFault formats bm cs bs ≡ 0 → length (fieldsBytes formats bm cs bs) ≤ 238
-formats-fit bm cs bs h = omega (arith, widths-formats, fields-fit formats bm cs bs h)
+pub formats-fit : (bm cs bs : List ℕ) → fieldsFault formats bm cs bs ≡ 0 → 10 + length (fieldsBytes formats bm cs bs) ≤ largest
+formats-fit bm cs bs h = omega (arith, largest-formats, fields-fit formats bm cs bs h)
 
 pub message-fits : (m : Message) → Shaped m → messageFault m ≡ 0 → length (messageBytes m) ≤ largest
 unfolding messageBytes
@@ -62,15 +50,15 @@ message-fits m s h =
 -- the fields before place k are written, before at; the bytes after that are as they were
 pub record Putting (bm cs bs o : List ℕ) (k from at : ℕ) (out : List ℕ) : Type 0 where
   pub place : Place bs k from
-  pub fits : at + widths (drop k formats) ≤ length o
+  pub fits : at + widthsOf (drop k formats) ≤ length o
   pub len : length out ≡ length o
   pub sound : fieldsFault (drop k formats) bm (drop k cs) (drop from bs) ≡ 0
   pub whole : take at out ++ fieldsBytes (drop k formats) bm (drop k cs) (drop from bs) ≡ fieldsBytes formats bm cs bs
   pub after : drop at out ≡ drop at o
 
-pub putting-none : (bm cs bs o : List ℕ) → length bs ≡ 227 → fieldsFault formats bm cs bs ≡ 0 → 238 ≤ length o → Putting bm cs bs o 0 0 0 o
+pub putting-none : (bm cs bs o : List ℕ) → length bs ≡ rooms → fieldsFault formats bm cs bs ≡ 0 → largest ≤ 10 + length o → Putting bm cs bs o 0 0 0 o
 putting-none bm cs bs o l s h =
-    record { place = place-none bs l; fits = omega (arith, widths-formats); len = refl; sound = s; whole = refl; after = refl }
+    record { place = place-none bs l; fits = omega (arith, largest-formats); len = refl; sound = s; whole = refl; after = refl }
 
 module _ {bm cs bs o : List ℕ} {k from at : ℕ} {out : List ℕ} {f : Format} (r : Putting bm cs bs o k from at out) (a : At k f) where
   turn-sound : (fieldFault f bm (getD cs k 0) (drop from bs) ≡ 0)
@@ -84,18 +72,18 @@ module _ {bm cs bs o : List ℕ} {k from at : ℕ} {out : List ℕ} {f : Format}
   unfolding fieldsBytes
   turn-bytes = rw (a .turn, first-count, drop-drop 1 k cs, drop-drop (room f) from bs)
 
-  turn-room : at + (width f + widths (drop (k + 1) formats)) ≤ length out
-  turn-room = omega (arith, ap widths (a .turn), r .fits, r .len)
+  turn-room : at + (width f + widthsOf (drop (k + 1) formats)) ≤ length out
+  turn-room = omega (arith, ap widthsOf (a .turn), r .fits, r .len)
 
   -- the field at place k is not refused, and there is room for it
-  pub putting-sound : fieldFault f bm (getD cs k 0) (take (227 - from) (drop from bs)) ≡ 0
+  pub putting-sound : fieldFault f bm (getD cs k 0) (take (rooms - from) (drop from bs)) ≡ 0
   putting-sound = rw (place-part (r .place)) (turn-sound .0)
 
   pub putting-room : width f ≤ length (take (length out - at) (drop at out))
   putting-room = rw (tail-part, length-drop) (omega (arith, turn-room))
 
   pub putting-more : {n w : ℕ} {e : List ℕ} → w ≡ room f
-      → Put (namedBytes f bm (getD cs k 0) (take (227 - from) (drop from bs))) (take (length out - at) (drop at out)) n e
+      → Put (namedBytes f bm (getD cs k 0) (take (rooms - from) (drop from bs))) (take (length out - at) (drop at out)) n e
       → Putting bm cs bs o (k + 1) (from + w) (at + n) (take at out ++ (e ++ drop (length out - at) (drop at out)))
   putting-more {n} {w} {e} ew q =
       let ws : List ℕ = namedBytes f bm (getD cs k 0) (drop from bs) in
@@ -118,11 +106,11 @@ module _ {bm cs bs o : List ℕ} {k from at : ℕ} {out : List ℕ} {f : Format}
         after = dr ∙ rw (← drop-drop n at out, r .after) (drop-drop n at o);
       })
 
-pub putting-done : {bm cs bs o : List ℕ} {k from at : ℕ} {out : List ℕ} → Putting bm cs bs o k from at out → 23 ≤ k
+pub putting-done : {bm cs bs o : List ℕ} {k from at : ℕ} {out : List ℕ} → Putting bm cs bs o k from at out → rows ≤ k
     → Put (fieldsBytes formats bm cs bs) o at out
 unfolding fieldsBytes
 putting-done {bm} {cs} {bs} {o} {k} {from} {at} {out} r h =
-    let e : k ≡ 23 = omega (arith, r .place .bound) in
+    let e : k ≡ rows = omega (arith, r .place .bound) in
     let w : take at out ≡ fieldsBytes formats bm cs bs = sym (append-nil (take at out)) ∙ (rw (e, drop-formats) at (r .whole)) in
     record {
       count = sym (ap length (sym w) ∙ length-take-le at out (omega (arith, r .fits, r .len)));

@@ -11,6 +11,7 @@ use Rattle.field.specs.Contents.{size, room, allowed, fault}
 use Rattle.field.specs.declared.Format.{Format}
 use Rattle.span.specs.Span.{fieldBytes}
 use Rattle.message.specs.Message.{largest}
+use Rattle.message.specs.Late.{lateFault}
 use Rattle.message.specs.declared.Message.{Message}
 use Rattle.writing.specs.declared.Writing.{Writing}
 use Rattle.writing.specs.declared.Writing.the-variants.{Written, Refused}
@@ -43,23 +44,27 @@ head m = m .indicator / 256 ∷ m .indicator % 256 ∷ m .bitmap
 unfoldable pub messageBytes : Message → List ℕ
 messageBytes m = head m ++ fieldsBytes formats (m .bitmap) (m .counts) (m .contents)
 
--- 0, or the number that a message is refused by, 4 to 8
+-- the first fault of a message's fields, or else of the message as a whole
+abbrev pub contentsFault : Message → ℕ
+contentsFault m =
+    cond (eqb (fieldsFault formats (m .bitmap) (m .counts) (m .contents)) 0)
+      (lateFault m)
+      (fieldsFault formats (m .bitmap) (m .counts) (m .contents))
+
+-- 0, or the number that a message is refused by: 4, 5, then 6 to 8 at the first fault of its fields, then the message as a whole
 unfoldable pub messageFault : Message → ℕ
-messageFault m =
-    cond (among (m .indicator) indicators)
-      (cond (listed (m .bitmap)) (fieldsFault formats (m .bitmap) (m .counts) (m .contents)) 5)
-      4
+messageFault m = cond (among (m .indicator) indicators) (cond (listed (m .bitmap)) (contentsFault m) 5) 4
 
 -- the answer of a call with the message buffer after it
-pub record Result : Type 0 where
+pub record WriteResult : Type 0 where
   pub outcome : Writing
   pub buffer : List ℕ
 
-abbrev pub written : Writing → List ℕ → Result
+abbrev pub written : Writing → List ℕ → WriteResult
 written r o = record { outcome = r; buffer = o }
 
 -- bytes past a written message stay; a refusal leaves the buffer
-unfoldable pub writeMessage : Message → List ℕ → Result
+unfoldable pub writeMessage : Message → List ℕ → WriteResult
 writeMessage m o =
     cond (ltb (length o) largest) (written (Refused 1) o)
       (cond (eqb (messageFault m) 0)

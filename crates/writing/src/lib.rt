@@ -10,12 +10,27 @@ ghost use Rattle.digits.specs.Digits.{pack};
 ghost use Rattle.digits.specs.Numbers.{digitsOf};
 ghost use Rattle.field.specs.Table.{formats};
 ghost use Rattle.field.specs.Contents.{size, room, skip, allowed};
-ghost use Rattle.writing.specs.Writing.{written, fieldFault, fieldsFault, namedBytes, fieldsBytes, messageBytes, messageFault, writeMessage, Put};
+ghost use Rattle.message.specs.Message.{largest};
+ghost use Rattle.writing.specs.Writing.{written, fieldFault, fieldsFault, namedBytes, fieldsBytes, messageBytes, contentsFault, messageFault, writeMessage, Put};
 
 // A message was written, so many bytes long, or it is refused by a number of document 01.
 pub enum Writing {
     Written(usize),
     Refused(u8),
+}
+
+// Writes a message into buf, which must have room for the largest; bytes past it stay, and a refusal leaves buf.
+pub fn write(m: Message, buf: &mut [u8]) -> Writing
+    ensures { λ r. ⌜ written r (now (buf .exit)) ≡ writeMessage m (now (buf .entry)) ⌝ }
+{
+    if buf.len() < Message::LARGEST {
+        return Writing::Refused(1);
+    }
+    let e = message_fault(m);
+    if e == 0 {
+        return Writing::Written(put_message(m, buf));
+    }
+    Writing::Refused(e)
 }
 
 fn wide(x: u8) -> usize
@@ -50,13 +65,13 @@ fn fault_of(f: Format, bm: &[u8; 8], n: u8, bs: &[u8]) -> u8
 }
 
 // The first fault of the fields, ascending; 0 for none.
-fn fields_fault(bm: &[u8; 8], counts: [u8; 23], contents: [u8; 227]) -> u8
+fn fields_fault(bm: &[u8; 8], counts: [u8; field::ROWS], contents: [u8; message::ROOM]) -> u8
     ensures { λ r. ⌜ r ≡ fieldsFault formats (now (bm .entry)) counts contents ⌝ }
 {
     let table = field::table();
     let mut at = 0;
     let mut k = 0;
-    while k < 23 {
+    while k < field::ROWS {
         let f = table[k];
         let class = f.class;
         let e = fault_of(f, bm, counts[k], &contents[at..]);
@@ -111,15 +126,20 @@ fn put_field(f: Format, bm: &[u8; 8], n: u8, bs: &[u8], out: &mut [u8]) -> usize
 }
 
 // Writes the fields at the front of out, ascending, and gives the number of their bytes.
-fn put_fields(bm: &[u8; 8], counts: [u8; 23], contents: [u8; 227], out: &mut [u8]) -> usize
-    requires { ⌜ (fieldsFault formats (now bm) counts contents ≡ 0) × (238 ≤ length (now out)) ⌝ }
+fn put_fields(
+    bm: &[u8; 8],
+    counts: [u8; field::ROWS],
+    contents: [u8; message::ROOM],
+    out: &mut [u8],
+) -> usize
+    requires { ⌜ (fieldsFault formats (now bm) counts contents ≡ 0) × (largest ≤ 10 + length (now out)) ⌝ }
     ensures { λ r. ⌜ Put (fieldsBytes formats (now (bm .entry)) counts contents) (now (out .entry)) r (now (out .exit)) ⌝ }
 {
     let table = field::table();
     let mut at = 0;
     let mut from = 0;
     let mut k = 0;
-    while k < 23 {
+    while k < field::ROWS {
         let f = table[k];
         let class = f.class;
         let n = put_field(f, bm, counts[k], &contents[from..], &mut out[at..]);
@@ -130,16 +150,28 @@ fn put_fields(bm: &[u8; 8], counts: [u8; 23], contents: [u8; 227], out: &mut [u8
     at
 }
 
-// What a message is refused for, 4 to 8; 0 for nothing.
-fn message_fault(m: Message) -> u8
-    ensures { λ r. ⌜ r ≡ messageFault m ⌝ }
+// The first fault of a message's fields, or else of the message as a whole; 0 for none.
+fn contents_fault(m: Message) -> u8
+    ensures { λ r. ⌜ r ≡ contentsFault m ⌝ }
 {
     let bitmap = m.bitmap;
     let counts = m.counts;
     let contents = m.contents;
+    let e = fields_fault(&bitmap, counts, contents);
+    if e == 0 {
+        return message::late_fault(m);
+    }
+    e
+}
+
+// What a message is refused for; 0 for nothing.
+fn message_fault(m: Message) -> u8
+    ensures { λ r. ⌜ r ≡ messageFault m ⌝ }
+{
+    let bitmap = m.bitmap;
     if field::listed_indicator(m.indicator) {
         if field::all_listed(&bitmap) {
-            return fields_fault(&bitmap, counts, contents);
+            return contents_fault(m);
         }
         return 5;
     }
@@ -148,7 +180,7 @@ fn message_fault(m: Message) -> u8
 
 // Writes a message at the front of buf and gives its length.
 fn put_message(m: Message, buf: &mut [u8]) -> usize
-    requires { ⌜ (messageFault m ≡ 0) × (248 ≤ length (now buf)) ⌝ }
+    requires { ⌜ (messageFault m ≡ 0) × (largest ≤ length (now buf)) ⌝ }
     ensures { λ r. ⌜ Put (messageBytes m) (now (buf .entry)) r (now (buf .exit)) ⌝ }
 {
     let bitmap = m.bitmap;
@@ -158,18 +190,4 @@ fn put_message(m: Message, buf: &mut [u8]) -> usize
     buf[1] = (m.indicator % 256) as u8;
     bytes::copy(&bitmap, &mut buf[2..10]);
     10 + put_fields(&bitmap, counts, contents, &mut buf[10..])
-}
-
-// Writes a message into buf, which must have room for the largest; bytes past it stay, and a refusal leaves buf.
-pub fn write(m: Message, buf: &mut [u8]) -> Writing
-    ensures { λ r. ⌜ written r (now (buf .exit)) ≡ writeMessage m (now (buf .entry)) ⌝ }
-{
-    if buf.len() < Message::LARGEST {
-        return Writing::Refused(1);
-    }
-    let e = message_fault(m);
-    if e == 0 {
-        return Writing::Written(put_message(m, buf));
-    }
-    Writing::Refused(e)
 }

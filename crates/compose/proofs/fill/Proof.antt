@@ -31,13 +31,18 @@ loop-less : tie.Need-loop-less Inv-loop μ-loop
 loop-less c = search needs
 
 loop-again : tie.Need-loop-again Inv-loop μ-loop
-loop-again c = filled-more (c .before .before .loop .inv) (search needs) (c .byte-at .ensures)
+loop-again c =
+    let at-loop-inv = c .before .before .loop .inv in
+    filled-more at-loop-inv (search needs) (c .byte-at .ensures)
 
 same-length : tie.Need-same-length Inv-loop μ-loop
 same-length c = search needs
 
 returns : tie.Need-returns Inv-loop μ-loop
-returns c = filled-done (c .before .loop .inv) (search needs) ∙ padded-is _ (now (c .before .before .before .before .args .b)) (c .before .before .before .before .pre)
+returns c =
+    let at-args-b = c .before .before .before .before .args .b in
+    let at-pre = c .before .before .before .before .pre in
+    filled-done (c .before .loop .inv) (search needs) ∙ padded-is _ (now at-args-b) at-pre
 
 pub fill-spec : {M : Type 1} → statement M
 fill-spec =

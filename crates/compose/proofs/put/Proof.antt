@@ -13,7 +13,9 @@ with-contents-requires : tie.Need-with-contents-requires
 with-contents-requires c κs = search needs
 
 returns : tie.Need-returns
-returns c = rw (c .before .before .with-bit .ensures, c .before .with-count .ensures, c .with-contents .ensures)
+returns c =
+    let at-with-bit = c .before .before .with-bit in
+    rw (at-with-bit .ensures, c .before .with-count .ensures, c .with-contents .ensures)
 
 pub put-spec : {M : Type 1} → statement M
 put-spec =

@@ -29,14 +29,20 @@ array-read-bm-2 c = search needs
 
 add-bm : tie.Need-add-bm
 add-bm c =
-    let b : Fits w8 (getD (c .before .before .before .before .args .bitmap) ((c .wide .result - 1) / 8) 0) = search needs in
-    omega (arith, bit-fits (c .before .before .before .before .args .bitmap) _ (c .before .before .named .ensures) (c .before .before .before .before .pre .0) (c .wide .ensures) (c .before .if1 .left) (omega arith))
+    let at-args-bitmap = c .before .before .before .before .args .bitmap in
+    let at-pre-0 = c .before .before .before .before .pre .0 in
+    let at-named-ensures = c .before .before .named .ensures in
+    let b : Fits w8 (getD at-args-bitmap ((c .wide .result - 1) / 8) 0) = search needs in
+    omega (arith, bit-fits at-args-bitmap _ at-named-ensures at-pre-0 (c .wide .ensures) (c .before .if1 .left) (omega arith))
 
 array-write-bm : tie.Need-array-write-bm
 array-write-bm c = search needs
 
 returns-2 : tie.Need-returns-2
-returns-2 c = bit-set _ _ (c .before .before .named .ensures) (c .before .before .before .before .pre .0) (c .wide .ensures) (c .before .if1 .left)
+returns-2 c =
+    let at-pre = c .before .before .before .before .pre in
+    let at-named = c .before .before .named in
+    bit-set _ _ (at-named .ensures) (at-pre .0) (c .wide .ensures) (c .before .if1 .left)
 
 pub with-bit-spec : {M : Type 1} → statement M
 with-bit-spec =

@@ -4,6 +4,7 @@ use borrow.Author.Needs.{needs}
 use native.Mathlib.Omega.{arith}
 use denote.Ref.{now}
 use lib.ListN.{length}
+use Rattle.message.specs.Message.{rooms}
 use Rattle.compose.proofs.Places.{part-filled}
 use Rattle.compose.proofs.with_contents.Statement.{statement}
 use Rattle.compose.proofs.with_contents.Tie as tie
@@ -25,8 +26,13 @@ fill-requires c κs = search needs
 
 returns : tie.Need-returns
 returns c =
-    let l : length (c .before .before .before .before .args .contents) ≡ 227 = search needs in
-    part-filled (c .before .before .before .before .args .from) (c .before .before .before .before .args .room) (now (c .before .before .before .before .args .b)) (c .before .before .before .before .args .contents) (omega (arith, c .before .before .before .before .pre)) (c .before .fill .ensures)
+    let at-args-b = c .before .before .before .before .args .b in
+    let at-args-contents = c .before .before .before .before .args .contents in
+    let at-args-from = c .before .before .before .before .args .from in
+    let at-args-room = c .before .before .before .before .args .room in
+    let at-pre = c .before .before .before .before .pre in
+    let l : length at-args-contents ≡ rooms = search needs in
+    part-filled at-args-from at-args-room (now at-args-b) at-args-contents (omega (arith, at-pre)) (c .before .fill .ensures)
 
 pub with-contents-spec : {M : Type 1} → statement M
 with-contents-spec =

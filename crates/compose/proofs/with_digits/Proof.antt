@@ -11,7 +11,9 @@ use Rattle.compose.proofs.with_digits.Statement.{statement}
 use Rattle.compose.proofs.with_digits.Tie as tie
 
 returns : tie.Need-returns
-returns c = digits-long _ _ (now (c .before .before .args .ds)) (c .if1 .taken)
+returns c =
+    let at-args = c .before .before .args in
+    digits-long _ _ (now (at-args .ds)) (c .if1 .taken)
 
 add-end : tie.Need-add-end
 add-end c = search needs
@@ -26,22 +28,35 @@ pack-into-requires : tie.Need-pack-into-requires
 pack-into-requires c κs = search needs
 
 array-share-prefix-packed : tie.Need-array-share-prefix-packed
-array-share-prefix-packed c = front-there _ (replicate {A = ℕ} 32 0) (c .before .before .pack-into .last .1 .0) (c .before .before .pack-into .kept .1 .0) (omega arith)
+array-share-prefix-packed c =
+    let at-pack-into-kept = c .before .before .pack-into .kept in
+    let at-pack-into-last = c .before .before .pack-into .last in
+    front-there _ (replicate {A = ℕ} 128 0) (at-pack-into-last .1 .0) (at-pack-into-kept .1 .0) (omega arith)
 
 slice-aggregate-with-item : tie.Need-slice-aggregate-with-item
 slice-aggregate-with-item c =
-    sym (length-take-le _ _ (front-there _ (replicate {A = ℕ} 32 0) (c .before .before .before .pack-into .last .1 .0) (c .before .before .before .pack-into .kept .1 .0) (omega arith)))
+    let at-pack-into-kept = c .before .before .before .pack-into .kept in
+    let at-pack-into-last = c .before .before .before .pack-into .last in
+    sym (length-take-le _ _ (front-there _ (replicate {A = ℕ} 128 0) (at-pack-into-last .1 .0) (at-pack-into-kept .1 .0) (omega arith)))
 
 with-item-requires : tie.Need-with-item-requires
 with-item-requires c κs = search needs
 
 returns-2 : tie.Need-returns-2
 returns-2 c =
-    digits-put (c .before .before .before .before .before .before .before .before .args .m) _ (now (c .before .before .before .before .before .before .before .before .args .ds)) (replicate {A = ℕ} 32 0) refl (omega arith) (c .before .before .before .before .pack-into .ensures .0) (c .before .before .if2 .taken) (c .before .before .before .before .pack-into .ensures .1) (c .with-item .ensures)
+    let at-args-ds = c .before .before .before .before .before .before .before .before .args .ds in
+    let at-args-m = c .before .before .before .before .before .before .before .before .args .m in
+    let at-pack-into-ensures = c .before .before .before .before .pack-into .ensures in
+    let at-if2-taken = c .before .before .if2 .taken in
+    digits-put at-args-m _ (now at-args-ds) (replicate {A = ℕ} 128 0) refl (omega arith) (at-pack-into-ensures .0) at-if2-taken
+    (at-pack-into-ensures .1) (c .with-item .ensures)
 
 returns-3 : tie.Need-returns-3
 returns-3 c =
-    digits-not (c .before .before .before .before .before .before .args .m) _ (now (c .before .before .before .before .before .before .args .ds)) (replicate {A = ℕ} 32 0) refl (omega arith) (c .before .before .pack-into .ensures .0) (c .if2 .left)
+    let at-args-ds = c .before .before .before .before .before .before .args .ds in
+    let at-args-m = c .before .before .before .before .before .before .args .m in
+    let at-pack-into-ensures = c .before .before .pack-into .ensures in
+    digits-not at-args-m _ (now at-args-ds) (replicate {A = ℕ} 128 0) refl (omega arith) (at-pack-into-ensures .0) (c .if2 .left)
 
 pub with-digits-spec : {M : Type 1} → statement M
 with-digits-spec =

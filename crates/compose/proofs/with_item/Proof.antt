@@ -5,6 +5,7 @@ use native.Mathlib.Omega.{arith}
 use mathlib.Core.List.{[]}
 use lib.ListN.{length}
 use denote.Ref.{now}
+use Rattle.field.specs.Table.{rows}
 use Rattle.compose.proofs.Places.{left-out, not-allowed, count-small, not-in-form, put-fits, put-item}
 use Rattle.compose.proofs.with_item.Statement.{statement}
 use Rattle.compose.proofs.with_item.Tie as tie
@@ -20,8 +21,11 @@ is-allowed-requires c κs = search needs
 
 cast-held : tie.Need-cast-held
 cast-held c =
-    let e = sym (c .before .before .before .before .before .locate .ensures) ∙ c .before .before .before .row .given .1 in
-    omega (arith, count-small (c .before .before .before .before .before .before .before .args .m) _ _ [] e (c .before .is-allowed .ensures) (c .if1 .taken))
+    let at-args-m = c .before .before .before .before .before .before .before .args .m in
+    let at-locate-ensures = c .before .before .before .before .before .locate .ensures in
+    let at-row-given = c .before .before .before .row .given in
+    let e = sym at-locate-ensures ∙ at-row-given .1 in
+    omega (arith, count-small at-args-m _ _ [] e (c .before .is-allowed .ensures) (c .if1 .taken))
 
 in-form-requires : tie.Need-in-form-requires
 in-form-requires c κs = search needs
@@ -31,31 +35,55 @@ size-of-requires c κs = search needs
 
 put-requires : tie.Need-put-requires
 put-requires c κs =
-    let e = sym (c .before .before .before .before .before .before .before .before .locate .ensures) ∙ c .before .before .before .before .before .before .row .given .1 in
-    put-fits (c .before .before .before .before .before .before .before .before .before .before .args .m) _ _ (now (c .before .before .before .before .before .before .before .before .before .before .args .b)) e (c .before .before .before .before .is-allowed .ensures) (c .before .before .in-form .ensures) (c .before .before .before .if1 .taken) (c .before .if2 .taken) (c .size-of .ensures)
+    let at-args = c .before .before .before .before .before .before .before .before .before .before .args in
+    let at-locate = c .before .before .before .before .before .before .before .before .locate in
+    let at-row = c .before .before .before .before .before .before .row in
+    let at-is-allowed = c .before .before .before .before .is-allowed in
+    let at-if1 = c .before .before .before .if1 in
+    let at-in-form = c .before .before .in-form in
+    let e = sym (at-locate .ensures) ∙ at-row .given .1 in
+    put-fits (at-args .m) _ _ (now (at-args .b)) e (at-is-allowed .ensures) (at-in-form .ensures) (at-if1 .taken) (c .before .if2 .taken)
+    (c .size-of .ensures)
 
 returns : tie.Need-returns
 returns c =
+    let at-args-b = c .before .before .before .before .before .before .before .before .before .before .before .args .b in
+    let at-args-m = c .before .before .before .before .before .before .before .before .before .before .before .args .m in
+    let at-locate-ensures = c .before .before .before .before .before .before .before .before .before .locate .ensures in
+    let at-row-given = c .before .before .before .before .before .before .before .row .given in
+    let at-is-allowed-ensures = c .before .before .before .before .before .is-allowed .ensures in
+    let at-if1-taken = c .before .before .before .before .if1 .taken in
+    let at-in-form-ensures = c .before .before .before .in-form .ensures in
+    let at-if2-taken = c .before .before .if2 .taken in
     let g = c .before .before .before .before .before .before .before .before .before .before .before .good .0 in
-    let l : length (c .before .before .before .before .before .before .before .before .before .before .before .args .m .counts) ≡ 23 = search needs in
-    let e = sym (c .before .before .before .before .before .before .before .before .before .locate .ensures) ∙ c .before .before .before .before .before .before .before .row .given .1 in
-    put-item (c .before .before .before .before .before .before .before .before .before .before .before .args .m) _ _ (now (c .before .before .before .before .before .before .before .before .before .before .before .args .b)) e (c .before .before .before .before .before .is-allowed .ensures) (c .before .before .before .in-form .ensures) (c .before .before .before .before .if1 .taken) (c .before .before .if2 .taken) (c .before .size-of .ensures) l (c .put .ensures)
+    let l : length (at-args-m .counts) ≡ rows = search needs in
+    let e = sym at-locate-ensures ∙ at-row-given .1 in
+    put-item at-args-m _ _ (now at-args-b) e at-is-allowed-ensures at-in-form-ensures at-if1-taken at-if2-taken
+    (c .before .size-of .ensures) l (c .put .ensures)
 
 enum-told : tie.Need-enum-told
 enum-told c = search needs
 
 returns-2 : tie.Need-returns-2
 returns-2 c =
-    let e = sym (c .before .before .before .before .before .before .before .locate .ensures) ∙ c .before .before .before .before .before .row .given .1 in
-    not-in-form _ _ _ _ e (c .before .before .before .is-allowed .ensures) (c .before .in-form .ensures) (c .before .before .if1 .taken) (c .if2 .left)
+    let at-locate = c .before .before .before .before .before .before .before .locate in
+    let at-row = c .before .before .before .before .before .row in
+    let at-is-allowed = c .before .before .before .is-allowed in
+    let at-if1 = c .before .before .if1 in
+    let e = sym (at-locate .ensures) ∙ at-row .given .1 in
+    not-in-form _ _ _ _ e (at-is-allowed .ensures) (c .before .in-form .ensures) (at-if1 .taken) (c .if2 .left)
 
 returns-3 : tie.Need-returns-3
 returns-3 c =
-    let e = sym (c .before .before .before .before .before .locate .ensures) ∙ c .before .before .before .row .given .1 in
+    let at-locate = c .before .before .before .before .before .locate in
+    let at-row = c .before .before .before .row in
+    let e = sym (at-locate .ensures) ∙ at-row .given .1 in
     not-allowed _ _ _ _ e (c .before .is-allowed .ensures) (c .if1 .left)
 
 returns-4 : tie.Need-returns-4
-returns-4 c = left-out _ _ (sym (c .before .before .locate .ensures) ∙ c .enum-told .given .1)
+returns-4 c =
+    let at-locate = c .before .before .locate in
+    left-out _ _ (sym (at-locate .ensures) ∙ c .enum-told .given .1)
 
 pub with-item-spec : {M : Type 1} → statement M
 with-item-spec =

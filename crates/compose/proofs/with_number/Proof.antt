@@ -22,18 +22,27 @@ digits-into-requires : tie.Need-digits-into-requires
 digits-into-requires c κs = search needs
 
 array-share-prefix-ds : tie.Need-array-share-prefix-ds
-array-share-prefix-ds c = front-there _ (replicate {A = ℕ} 255 0) (c .before .digits-into .last .1 .0) (c .before .digits-into .kept .1 .0) (omega arith)
+array-share-prefix-ds c =
+    front-there _ (replicate {A = ℕ} 255 0) (c .before .digits-into .last .1 .0) (c .before .digits-into .kept .1 .0) (omega arith)
 
 slice-aggregate-with-digits : tie.Need-slice-aggregate-with-digits
 slice-aggregate-with-digits c =
-    sym (length-take-le _ _ (front-there _ (replicate {A = ℕ} 255 0) (c .before .before .digits-into .last .1 .0) (c .before .before .digits-into .kept .1 .0) (omega arith)))
+    let at-digits-into-kept = c .before .before .digits-into .kept in
+    let at-digits-into-last = c .before .before .digits-into .last in
+    sym (length-take-le _ _ (front-there _ (replicate {A = ℕ} 255 0) (at-digits-into-last .1 .0) (at-digits-into-kept .1 .0) (omega arith)))
 
 with-digits-requires : tie.Need-with-digits-requires
 with-digits-requires c κs = search needs
 
 returns : tie.Need-returns
 returns c =
-    number-put (c .before .before .before .before .before .before .args .m) _ (c .before .before .before .before .before .before .args .count) (c .before .before .before .before .before .before .args .x) (replicate {A = ℕ} 255 0) (c .before .before .before .before .before .wide .ensures) (omega arith) (c .before .before .before .digits-into .ensures) (c .with-digits .ensures)
+    let at-args-count = c .before .before .before .before .before .before .args .count in
+    let at-args-m = c .before .before .before .before .before .before .args .m in
+    let at-args-x = c .before .before .before .before .before .before .args .x in
+    let at-wide-ensures = c .before .before .before .before .before .wide .ensures in
+    let at-digits-into-ensures = c .before .before .before .digits-into .ensures in
+    number-put at-args-m _ at-args-count at-args-x (replicate {A = ℕ} 255 0) at-wide-ensures (omega arith) at-digits-into-ensures
+    (c .with-digits .ensures)
 
 pub with-number-spec : {M : Type 1} → statement M
 with-number-spec =

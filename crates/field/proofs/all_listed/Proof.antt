@@ -5,6 +5,7 @@ use borrow.Author.Needs.{needs}
 use native.Mathlib.Omega.{arith}
 use denote.Ref.{now}
 use Rattle.digits.proofs.Lists.{Passed, passed-none}
+use Rattle.field.specs.Table.{formats}
 use Rattle.field.specs.Bitmap.{listedAt, listed}
 use Rattle.field.proofs.Masks.{masks, byte-passes, byte-fails}
 use Rattle.field.proofs.all_listed.Statement.{statement}
@@ -26,7 +27,7 @@ array-read-if1 : tie.Need-array-read-if1 Inv-loop μ-loop
 array-read-if1 c = search needs
 
 returns : tie.Need-returns Inv-loop μ-loop
-unfolding masks
+unfolding masks formats
 returns c =
     let bm = now (c .before .before .before .before .args .bm) in
     let j = c .before .before .before .loop .j in
@@ -39,7 +40,7 @@ loop-less : tie.Need-loop-less Inv-loop μ-loop
 loop-less c = search needs
 
 loop-again : tie.Need-loop-again Inv-loop μ-loop
-unfolding masks
+unfolding masks formats
 loop-again c =
     let bm = now (c .before .before .before .before .args .bm) in
     let j = c .before .before .before .loop .j in

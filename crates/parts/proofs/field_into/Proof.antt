@@ -5,6 +5,7 @@ use borrow.Author.Tests.{eq-eqb, ne-eqb}
 use native.Mathlib.Omega.{arith}
 use lib.ListN.{length}
 use denote.Ref.{now}
+use Rattle.message.specs.Message.{rooms}
 use Rattle.parts.specs.Parts.{copies}
 use Rattle.parts.proofs.Places.{copies-is, copied}
 use Rattle.parts.proofs.field_into.Statement.{statement}
@@ -27,7 +28,8 @@ part-copy-start c = search needs
 
 part-copy-end : tie.Need-part-copy-end
 part-copy-end c =
-    let l : length (c .before .before .before .before .before .before .before .before .before .args .m .contents) ≡ 227 = search needs in
+    let at-args-m = c .before .before .before .before .before .before .before .before .before .args .m in
+    let l : length (at-args-m .contents) ≡ rooms = search needs in
     omega arith
 
 copy-requires : tie.Need-copy-requires
@@ -38,21 +40,29 @@ same-length c = search needs
 
 returns : tie.Need-returns
 returns c =
-    let start = c .before .before .before .before .before .before .before .before .before .before .before .before .before .before in
-    let l : length (start .args .m .contents) ≡ 227 = search needs in
-    let found = c .before .before .before .before .before .before .before in
-    let b = found .bounds-of .ensures in
+    let at-args-m = c .before .before .before .before .before .before .before .before .before .before .before .before .before .before .args
+    .m in
+    let at-args-out = c .before .before .before .before .before .before .before .before .before .before .before .before .before .before
+    .args .out in
+    let at-named-ensures = c .before .before .before .before .before .before .before .before .before .named .ensures in
+    let at-if1-taken = c .before .before .before .before .before .before .before .before .if1 .taken in
+    let at-copy-ensures = c .before .before .copy .ensures in
+    let l : length (at-args-m .contents) ≡ rooms = search needs in
+    let b = c .before .before .before .before .before .before .before .bounds-of .ensures in
     let h = c .before .before .before .before .before .before .if2 .taken in
-    let named = sym (found .before .before .named .ensures) ∙ found .before .if1 .taken in
-    let q = copies-is b (length (now (start .args .out))) l named ∙ eq-eqb _ _ h in
-    (sym q, rw q (copied b _ l h (c .before .before .copy .ensures .1)))
+    let named = sym at-named-ensures ∙ at-if1-taken in
+    let q = copies-is b (length (now at-args-out)) l named ∙ eq-eqb _ _ h in
+    (sym q, rw q (copied b _ l h (at-copy-ensures .1)))
 
 returns-2 : tie.Need-returns-2
 returns-2 c =
-    let start = c .before .before .before .before .before .before .before .before in
-    let l : length (start .args .m .contents) ≡ 227 = search needs in
-    let named = sym (c .before .before .before .named .ensures) ∙ c .before .before .if1 .taken in
-    let q = copies-is (c .before .bounds-of .ensures) (length (now (start .args .out))) l named ∙ ne-eqb _ _ (c .if2 .left) in
+    let at-args-m = c .before .before .before .before .before .before .before .before .args .m in
+    let at-args-out = c .before .before .before .before .before .before .before .before .args .out in
+    let at-named-ensures = c .before .before .before .named .ensures in
+    let at-if1-taken = c .before .before .if1 .taken in
+    let l : length (at-args-m .contents) ≡ rooms = search needs in
+    let named = sym at-named-ensures ∙ at-if1-taken in
+    let q = copies-is (c .before .bounds-of .ensures) (length (now at-args-out)) l named ∙ ne-eqb _ _ (c .if2 .left) in
     (sym q, rw q)
 
 returns-3 : tie.Need-returns-3

@@ -3,6 +3,7 @@ use mathlib.Core.Path.{_≡_, sym, _∙_}
 use borrow.Author.Needs.{needs}
 use native.Mathlib.Omega.{arith}
 use lib.ListN.{length}
+use Rattle.message.specs.Message.{rooms}
 use Rattle.parts.specs.Parts.{matches}
 use Rattle.parts.proofs.field_matches.Statement.{statement}
 use Rattle.parts.proofs.field_matches.Tie as tie
@@ -21,7 +22,8 @@ part-same-bytes-start c = search needs
 
 part-same-bytes-end : tie.Need-part-same-bytes-end
 part-same-bytes-end c =
-    let l : length (c .before .before .before .before .before .before .before .before .args .m .contents) ≡ 227 = search needs in
+    let at-args-m = c .before .before .before .before .before .before .before .before .args .m in
+    let l : length (at-args-m .contents) ≡ rooms = search needs in
     omega arith
 
 same-bytes-requires : tie.Need-same-bytes-requires
@@ -30,8 +32,11 @@ same-bytes-requires c κs = search needs
 returns : tie.Need-returns
 unfolding matches
 returns c =
-    let named = sym (c .before .before .before .before .before .named .ensures) ∙ c .before .before .before .before .if1 .taken in
-    rw (named, ← c .before .before .before .bounds-of .ensures .bytes-are) (c .same-bytes .ensures)
+    let at-named = c .before .before .before .before .before .named in
+    let at-if1 = c .before .before .before .before .if1 in
+    let at-bounds-of = c .before .before .before .bounds-of in
+    let named = sym (at-named .ensures) ∙ at-if1 .taken in
+    rw (named, ← at-bounds-of .ensures .bytes-are) (c .same-bytes .ensures)
 
 returns-2 : tie.Need-returns-2
 unfolding matches

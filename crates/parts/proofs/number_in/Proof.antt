@@ -4,6 +4,7 @@ use borrow.Author.Needs.{needs}
 use native.Mathlib.Omega.{arith}
 use lib.ListN.{length}
 use lib.Seq.{length-take-le}
+use Rattle.message.specs.Message.{rooms}
 use Rattle.parts.specs.Parts.{numberIn}
 use Rattle.parts.proofs.Places.{front-there, number-short, number-read}
 use Rattle.parts.proofs.number_in.Statement.{statement}
@@ -16,10 +17,14 @@ bounds-of-requires : tie.Need-bounds-of-requires
 bounds-of-requires c κs = search needs
 
 returns : tie.Need-returns
-returns c = sym (number-short (c .before .before .bounds-of .ensures) _ _ (omega arith))
+returns c =
+    let at-bounds-of-ensures = c .before .before .bounds-of .ensures in
+    sym (number-short at-bounds-of-ensures _ _ (omega arith))
 
 returns-2 : tie.Need-returns-2
-returns-2 c = sym (number-short (c .before .before .before .before .bounds-of .ensures) _ _ (omega arith))
+returns-2 c =
+    let at-bounds-of-ensures = c .before .before .before .before .bounds-of .ensures in
+    sym (number-short at-bounds-of-ensures _ _ (omega arith))
 
 add-past : tie.Need-add-past
 add-past c = search needs
@@ -32,15 +37,19 @@ part-unpack-into-start c = search needs
 
 part-unpack-into-end : tie.Need-part-unpack-into-end
 part-unpack-into-end c =
-    let l : length (c .before .before .before .before .before .before .before .before .before .before .before .args .m .contents) ≡ 227 = search needs in
+    let at-args-m = c .before .before .before .before .before .before .before .before .before .before .before .args .m in
+    let l : length (at-args-m .contents) ≡ rooms = search needs in
     omega arith
 
 array-borrow-prefix-ds : tie.Need-array-borrow-prefix-ds
-array-borrow-prefix-ds c = omega (arith, c .before .before .before .before .before .before .bounds-of .ensures .count-small)
+array-borrow-prefix-ds c =
+    let at-bounds-of-ensures = c .before .before .before .before .before .before .bounds-of .ensures in
+    omega (arith, at-bounds-of-ensures .count-small)
 
 slice-aggregate-unpack-into : tie.Need-slice-aggregate-unpack-into
 slice-aggregate-unpack-into c =
-    sym (length-take-le _ _ (omega (arith, c .before .before .before .before .before .before .before .bounds-of .ensures .count-small)))
+    let at-bounds-of-ensures = c .before .before .before .before .before .before .before .bounds-of .ensures in
+    sym (length-take-le _ _ (omega (arith, at-bounds-of-ensures .count-small)))
 
 unpack-into-requires : tie.Need-unpack-into-requires
 unpack-into-requires c κs = search needs
@@ -53,19 +62,24 @@ part-number-of-start c = search needs
 
 part-number-of-end : tie.Need-part-number-of-end
 part-number-of-end c =
-    let back = c .before .before .unpack-into in
-    front-there _ (back .last .1 .0) (back .kept .1 .0)
-    (omega (arith, c .before .before .before .before .before .before .before .before .before .before .bounds-of .ensures .count-small))
+    let at-bounds-of-ensures = c .before .before .before .before .before .before .before .before .before .before .bounds-of .ensures in
+    let at-unpack-into = c .before .before .unpack-into in
+    front-there _ (at-unpack-into .last .1 .0) (at-unpack-into .kept .1 .0) (omega (arith, at-bounds-of-ensures .count-small))
 
 number-of-requires : tie.Need-number-of-requires
 number-of-requires c κs = search needs
 
 returns-3 : tie.Need-returns-3
 returns-3 c =
-    let found = c .before .before .before .before .before .before .before .before .before .before .before .before in
-    let named = sym (found .before .before .named .ensures) ∙ found .before .if1 .taken in
+    let at-named-ensures = c .before .before .before .before .before .before .before .before .before .before .before .before .before
+    .before .named .ensures in
+    let at-if1-taken = c .before .before .before .before .before .before .before .before .before .before .before .before .before .if1
+    .taken in
+    let at-bounds-of-ensures = c .before .before .before .before .before .before .before .before .before .before .before .before .bounds-of
+    .ensures in
+    let named = sym at-named-ensures ∙ at-if1-taken in
     let unpacked = c .before .before .before .before .unpack-into .ensures in
-    number-read (found .bounds-of .ensures) _ _ _ named (omega arith) unpacked (c .number-of .ensures)
+    number-read at-bounds-of-ensures _ _ _ named (omega arith) unpacked (c .number-of .ensures)
 
 returns-4 : tie.Need-returns-4
 unfolding numberIn

@@ -32,7 +32,9 @@ wide-requires-2 : tie.Need-wide-requires-2
 wide-requires-2 c κs = search needs
 
 add-indicator : tie.Need-add-indicator
-add-indicator c = omega (arith, c .before .before .before .shared-slice-known2 .given 0, c .before .shared-slice-known3 .given 1)
+add-indicator c =
+    let at-shared-slice-known2-given = c .before .before .before .shared-slice-known2 .given in
+    omega (arith, at-shared-slice-known2-given 0, c .before .shared-slice-known3 .given 1)
 
 listed-indicator-requires : tie.Need-listed-indicator-requires
 listed-indicator-requires c κs = search needs
@@ -69,21 +71,65 @@ read-fields-requires c κs = search needs
 
 returns-2 : tie.Need-returns-2
 unfolding readMessage
-returns-2 c = rw (le-ltb _ _ (c .before .before .before .before .before .before .before .before .before .before .before .before .before .before .before .if1 .left), ← c .before .before .before .before .before .before .before .before .before .before .before .before .before .wide .ensures, ← c .before .before .before .before .before .before .before .before .before .before .before .wide2 .ensures, sym (c .before .before .before .before .before .before .before .before .before .before .listed-indicator .ensures) ∙ c .before .before .before .before .before .before .before .before .before .if2 .taken, ← bitmap-copied _ _ (c .before .before .before .before .before .before .before .before .before .before .before .before .before .before .before .if1 .left) (c .before .before .before .before .before .before .copy .ensures .1), sym (c .before .before .before .all-listed .ensures) ∙ c .before .before .if3 .taken) (c .read-fields .ensures ∙ rw tail-part)
+returns-2 c =
+    let at-if1 = c .before .before .before .before .before .before .before .before .before .before .before .before .before .before .before
+    .if1 in
+    let at-wide = c .before .before .before .before .before .before .before .before .before .before .before .before .before .wide in
+    let at-wide2 = c .before .before .before .before .before .before .before .before .before .before .before .wide2 in
+    let at-listed-indicator = c .before .before .before .before .before .before .before .before .before .before .listed-indicator in
+    let at-if2 = c .before .before .before .before .before .before .before .before .before .if2 in
+    let at-copy = c .before .before .before .before .before .before .copy in
+    let at-all-listed = c .before .before .before .all-listed in
+    let at-if3 = c .before .before .if3 in
+    rw (
+      le-ltb _ _ (at-if1 .left),
+      ← at-wide .ensures,
+      ← at-wide2 .ensures,
+      sym (at-listed-indicator .ensures) ∙ at-if2 .taken,
+      ← bitmap-copied _ _ (at-if1 .left) (at-copy .ensures .1),
+      sym (at-all-listed .ensures) ∙ at-if3 .taken,
+    ) (c .read-fields .ensures ∙ rw tail-part)
 
 refusal-requires-2 : tie.Need-refusal-requires-2
 refusal-requires-2 c κs = search needs
 
 returns-3 : tie.Need-returns-3
 unfolding readMessage
-returns-3 c = rw (c .refusal2 .ensures, le-ltb _ _ (c .before .before .before .before .before .before .before .before .before .before .before .before .before .before .if1 .left), ← c .before .before .before .before .before .before .before .before .before .before .before .before .wide .ensures, ← c .before .before .before .before .before .before .before .before .before .before .wide2 .ensures, sym (c .before .before .before .before .before .before .before .before .before .listed-indicator .ensures) ∙ c .before .before .before .before .before .before .before .before .if2 .taken, ← bitmap-copied _ _ (c .before .before .before .before .before .before .before .before .before .before .before .before .before .before .if1 .left) (c .before .before .before .before .before .copy .ensures .1), sym (c .before .before .all-listed .ensures) ∙ c .before .if3 .left)
+returns-3 c =
+    let at-if1 = c .before .before .before .before .before .before .before .before .before .before .before .before .before .before .if1 in
+    let at-wide = c .before .before .before .before .before .before .before .before .before .before .before .before .wide in
+    let at-wide2 = c .before .before .before .before .before .before .before .before .before .before .wide2 in
+    let at-listed-indicator = c .before .before .before .before .before .before .before .before .before .listed-indicator in
+    let at-if2 = c .before .before .before .before .before .before .before .before .if2 in
+    let at-copy = c .before .before .before .before .before .copy in
+    let at-all-listed = c .before .before .all-listed in
+    rw (
+      c .refusal2 .ensures,
+      le-ltb _ _ (at-if1 .left),
+      ← at-wide .ensures,
+      ← at-wide2 .ensures,
+      sym (at-listed-indicator .ensures) ∙ at-if2 .taken,
+      ← bitmap-copied _ _ (at-if1 .left) (at-copy .ensures .1),
+      sym (at-all-listed .ensures) ∙ c .before .if3 .left,
+    )
 
 refusal-requires-3 : tie.Need-refusal-requires-3
 refusal-requires-3 c κs = search needs
 
 returns-4 : tie.Need-returns-4
 unfolding readMessage
-returns-4 c = rw (c .refusal3 .ensures, le-ltb _ _ (c .before .before .before .before .before .before .before .if1 .left), ← c .before .before .before .before .before .wide .ensures, ← c .before .before .before .wide2 .ensures, sym (c .before .before .listed-indicator .ensures) ∙ c .before .if2 .left)
+returns-4 c =
+    let at-if1 = c .before .before .before .before .before .before .before .if1 in
+    let at-wide = c .before .before .before .before .before .wide in
+    let at-wide2 = c .before .before .before .wide2 in
+    let at-listed-indicator = c .before .before .listed-indicator in
+    rw (
+      c .refusal3 .ensures,
+      le-ltb _ _ (at-if1 .left),
+      ← at-wide .ensures,
+      ← at-wide2 .ensures,
+      sym (at-listed-indicator .ensures) ∙ c .before .if2 .left,
+    )
 
 pub read-spec : {M : Type 1} → statement M
 read-spec =

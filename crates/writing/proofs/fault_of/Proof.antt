@@ -28,17 +28,25 @@ fault-of-requires c κs = search needs
 returns : tie.Need-returns
 unfolding fieldFault
 returns c =
-    let named = sym (c .before .before .before .before .before .before .before .named .ensures) ∙ c .before .before .before .before .before .before .if1 .taken in
-    let allows = sym (c .before .before .before .before .is-allowed .ensures) ∙ c .before .before .before .if2 .taken in
-    rw (named, rw (c .before .before .before .before .before .wide .ensures) at allows, ← c .before .before .size-in .ensures .0)
-    (c .fault-of .ensures)
+    let at-named = c .before .before .before .before .before .before .before .named in
+    let at-if1 = c .before .before .before .before .before .before .if1 in
+    let at-wide = c .before .before .before .before .before .wide in
+    let at-is-allowed = c .before .before .before .before .is-allowed in
+    let at-if2 = c .before .before .before .if2 in
+    let at-size-in = c .before .before .size-in in
+    let named = sym (at-named .ensures) ∙ at-if1 .taken in
+    let allows = sym (at-is-allowed .ensures) ∙ at-if2 .taken in
+    rw (named, rw (at-wide .ensures) at allows, ← at-size-in .ensures .0) (c .fault-of .ensures)
 
 returns-2 : tie.Need-returns-2
 unfolding fieldFault
 returns-2 c =
-    let named = sym (c .before .before .before .before .named .ensures) ∙ c .before .before .before .if1 .taken in
+    let at-named = c .before .before .before .before .named in
+    let at-if1 = c .before .before .before .if1 in
+    let at-wide = c .before .before .wide in
+    let named = sym (at-named .ensures) ∙ at-if1 .taken in
     let allows = sym (c .before .is-allowed .ensures) ∙ c .if2 .left in
-    rw (named, rw (c .before .before .wide .ensures) at allows)
+    rw (named, rw (at-wide .ensures) at allows)
 
 returns-3 : tie.Need-returns-3
 unfolding fieldFault

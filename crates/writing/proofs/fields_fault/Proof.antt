@@ -2,6 +2,7 @@
 use Prim.Native.Nat.{_-_}
 use borrow.Author.Needs.{needs}
 use native.Mathlib.Omega.{arith}
+use Rattle.field.specs.Table.{rows}
 use Rattle.message.proofs.Places.{at-place, place-room, place-fits}
 use Rattle.writing.proofs.Faults.{Faultless, faultless-none, faultless-more, faultless-stop, faultless-done}
 use Rattle.writing.proofs.fields_fault.Statement.{statement}
@@ -11,7 +12,7 @@ abbrev Inv-loop : tie.InvT-loop
 Inv-loop bm counts contents table at₀ k₀ at k = Faultless bm counts contents k at
 
 abbrev μ-loop : tie.MeasureT-loop
-μ-loop bm counts contents table at₀ k₀ at k = 23 - k
+μ-loop bm counts contents table at₀ k₀ at k = rows - k
 
 table-requires : tie.Need-table-requires Inv-loop μ-loop
 table-requires c κs = search needs
@@ -29,7 +30,9 @@ array-read-fault-of : tie.Need-array-read-fault-of Inv-loop μ-loop
 array-read-fault-of c = c .before .loop-test .taken
 
 sub-fault-of : tie.Need-sub-fault-of Inv-loop μ-loop
-sub-fault-of c = omega (arith, c .before .before .loop .inv .place .rest)
+sub-fault-of c =
+    let at-loop-inv = c .before .before .loop .inv in
+    omega (arith, at-loop-inv .place .rest)
 
 part-fault-of-start : tie.Need-part-fault-of-start Inv-loop μ-loop
 part-fault-of-start c = search needs
@@ -48,9 +51,11 @@ size-of-requires c κs = search needs
 
 add-at : tie.Need-add-at Inv-loop μ-loop
 add-at c =
-    let turn = c .before .before .before .before .before .before in
-    let a = at-place (turn .before .before .table .ensures) (turn .loop-test .taken) in
-    omega (arith, place-fits (turn .before .loop .inv .place) a (c .size-of .ensures))
+    let at-table-ensures = c .before .before .before .before .before .before .before .before .table .ensures in
+    let at-loop-inv = c .before .before .before .before .before .before .before .loop .inv in
+    let at-loop-test-taken = c .before .before .before .before .before .before .loop-test .taken in
+    let a = at-place at-table-ensures at-loop-test-taken in
+    omega (arith, place-fits (at-loop-inv .place) a (c .size-of .ensures))
 
 add-k : tie.Need-add-k Inv-loop μ-loop
 add-k c = omega arith
@@ -60,9 +65,12 @@ loop-less c = omega arith
 
 loop-again : tie.Need-loop-again Inv-loop μ-loop
 loop-again c =
-    let turn = c .before .before .before .before .before .before in
-    let a = at-place (turn .before .before .table .ensures) (turn .loop-test .taken) in
-    faultless-more (turn .before .loop .inv) a (c .before .before .fault-of .ensures) (c .size-of .ensures) (c .before .if1 .left)
+    let at-table = c .before .before .before .before .before .before .before .before .table in
+    let at-loop = c .before .before .before .before .before .before .before .loop in
+    let at-loop-test = c .before .before .before .before .before .before .loop-test in
+    let at-fault-of = c .before .before .fault-of in
+    let a = at-place (at-table .ensures) (at-loop-test .taken) in
+    faultless-more (at-loop .inv) a (at-fault-of .ensures) (c .size-of .ensures) (c .before .if1 .left)
 
 returns-2 : tie.Need-returns-2 Inv-loop μ-loop
 returns-2 c = faultless-done (c .before .loop .inv) (c .loop-test .left)

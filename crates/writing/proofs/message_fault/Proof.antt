@@ -11,20 +11,25 @@ listed-indicator-requires c κs = search needs
 all-listed-requires : tie.Need-all-listed-requires
 all-listed-requires c κs = search needs
 
-fields-fault-requires : tie.Need-fields-fault-requires
-fields-fault-requires c κs = search needs
+contents-fault-requires : tie.Need-contents-fault-requires
+contents-fault-requires c κs = search needs
 
 returns : tie.Need-returns
 unfolding messageFault
 returns c =
-    let i = sym (c .before .before .before .before .before .before .listed-indicator .ensures) ∙ c .before .before .before .before .before .if1 .taken in
-    let l = sym (c .before .before .before .all-listed .ensures) ∙ c .before .before .if2 .taken in
-    rw (i, l) (c .fields-fault .ensures)
+    let at-listed-indicator = c .before .before .before .before .before .listed-indicator in
+    let at-if1 = c .before .before .before .before .if1 in
+    let at-all-listed = c .before .before .all-listed in
+    let i = sym (at-listed-indicator .ensures) ∙ at-if1 .taken in
+    let l = sym (at-all-listed .ensures) ∙ c .before .if2 .taken in
+    rw (i, l) (c .contents-fault .ensures)
 
 returns-2 : tie.Need-returns-2
 unfolding messageFault
 returns-2 c =
-    let i = sym (c .before .before .before .before .listed-indicator .ensures) ∙ c .before .before .before .if1 .taken in
+    let at-listed-indicator = c .before .before .before .before .listed-indicator in
+    let at-if1 = c .before .before .before .if1 in
+    let i = sym (at-listed-indicator .ensures) ∙ at-if1 .taken in
     let l = sym (c .before .all-listed .ensures) ∙ c .if2 .left in
     rw (i, l)
 
@@ -38,7 +43,7 @@ message-fault-spec =
     (tie.spec
     listed-indicator-requires
     all-listed-requires
-    fields-fault-requires
+    contents-fault-requires
     returns
     returns-2
     returns-3)

@@ -45,43 +45,41 @@ part-copy-end c = search needs
 
 copy-requires : tie.Need-copy-requires
 copy-requires c κs =
-    part-room
-    (c .before .before .before .before .put-count .last .1 .1 .0)
-    (now (c .before .before .before .before .before .before .before .before .before .before .before .before .args .out))
-    (c .before .before .before .before .before .before .skip-of .result)
-    (c .before .before .before .before .before .before .before .size-in .result)
-    (c .before .before .before .before .put-count .kept .1 .1 .0)
-    (omega arith)
-    (now (c .before .before .before .before .before .before .before .before .before .before .before .before .args .bs))
+    let at-args-bs = c .before .before .before .before .before .before .before .before .before .before .before .before .args .bs in
+    let at-args-out = c .before .before .before .before .before .before .before .before .before .before .before .before .args .out in
+    let at-size-in-result = c .before .before .before .before .before .before .before .size-in .result in
+    let at-skip-of-result = c .before .before .before .before .before .before .skip-of .result in
+    let at-put-count-kept = c .before .before .before .before .put-count .kept in
+    let at-put-count-last = c .before .before .before .before .put-count .last in
+    part-room (at-put-count-last .1 .1 .0) (now at-args-out) at-skip-of-result at-size-in-result (at-put-count-kept .1 .1 .0) (omega arith)
+    (now at-args-bs)
 
 same-length : tie.Need-same-length
 same-length c = search needs
 
 returns : tie.Need-returns
 returns c =
-    let a = c .before .before .before .before .before .before .before .before .before .before .before .before .before .before .before .args in
-    put-parts
-    (c .before .before .before .before .before .before .before .put-count .last .1 .1 .0)
-    (now (a .out))
-    (c .before .before .before .before .before .before .before .before .before .skip-of .result)
-    (c .before .before .before .before .before .before .before .before .before .before .size-in .result)
-    (c .before .before .before .before .before .before .before .put-count .kept .1 .1 .0)
-    (omega arith)
-    (a .f)
-    (now (a .bm))
-    (a .n)
-    (now (a .bs))
-    (c .before .before .before .before .before .before .before .before .before .before .before .before .named .ensures)
-    (c .before .before .before .before .before .before .before .before .before .before .before .if1 .taken)
-    (c .before .before .before .before .before .before .before .before .before .skip-of .ensures)
-    (c .before .before .before .before .before .before .before .before .before .before .size-in .ensures .0)
-    (omega arith)
-    (c .before .before .before .before .before .before .before .put-count .ensures)
-    (c .before .before .copy .ensures .1)
+    let at-args = c .before .before .before .before .before .before .before .before .before .before .before .before .before .before .before
+    .args in
+    let at-named-ensures = c .before .before .before .before .before .before .before .before .before .before .before .before .named
+    .ensures in
+    let at-if1-taken = c .before .before .before .before .before .before .before .before .before .before .before .if1 .taken in
+    let at-size-in-ensures = c .before .before .before .before .before .before .before .before .before .before .size-in .ensures in
+    let at-size-in-result = c .before .before .before .before .before .before .before .before .before .before .size-in .result in
+    let at-skip-of-ensures = c .before .before .before .before .before .before .before .before .before .skip-of .ensures in
+    let at-skip-of-result = c .before .before .before .before .before .before .before .before .before .skip-of .result in
+    let at-put-count-ensures = c .before .before .before .before .before .before .before .put-count .ensures in
+    let at-put-count-kept = c .before .before .before .before .before .before .before .put-count .kept in
+    let at-put-count-last = c .before .before .before .before .before .before .before .put-count .last in
+    let at-copy-ensures = c .before .before .copy .ensures in
+    put-parts (at-put-count-last .1 .1 .0) (now (at-args .out)) at-skip-of-result at-size-in-result (at-put-count-kept .1 .1 .0)
+    (omega arith) (at-args .f) (now (at-args .bm)) (at-args .n) (now (at-args .bs)) at-named-ensures at-if1-taken at-skip-of-ensures
+    (at-size-in-ensures .0) (omega arith) at-put-count-ensures (at-copy-ensures .1)
 
 returns-2 : tie.Need-returns-2
 unfolding namedBytes
-returns-2 c = record { count = rw (sym (c .before .named .ensures) ∙ c .if1 .left); bytes = rw (sym (c .before .named .ensures) ∙ c .if1 .left) }
+returns-2 c =
+    record { count = rw (sym (c .before .named .ensures) ∙ c .if1 .left); bytes = rw (sym (c .before .named .ensures) ∙ c .if1 .left) }
 
 pub put-field-spec : {M : Type 1} → statement M
 put-field-spec =

@@ -3,6 +3,7 @@ use mathlib.Core.Path.{refl}
 use Prim.Native.Nat.{_-_}
 use borrow.Author.Needs.{needs}
 use native.Mathlib.Omega.{arith}
+use Rattle.field.specs.Table.{rows}
 use Rattle.message.proofs.Places.{at-place, place-room, place-fits}
 use Rattle.writing.proofs.Putting.{Putting, putting-none, putting-sound, putting-room, putting-more, putting-done}
 use Rattle.writing.proofs.put_fields.Statement.{statement}
@@ -12,13 +13,16 @@ abbrev Inv-loop : tie.InvT-loop
 Inv-loop bm out₀ counts contents table at₀ from₀ k₀ out at from k = Putting bm counts contents out₀ k from at out
 
 abbrev μ-loop : tie.MeasureT-loop
-μ-loop bm out₀ counts contents table at₀ from₀ k₀ out at from k = 23 - k
+μ-loop bm out₀ counts contents table at₀ from₀ k₀ out at from k = rows - k
 
 table-requires : tie.Need-table-requires Inv-loop μ-loop
 table-requires c κs = search needs
 
 loop-holds : tie.Need-loop-holds Inv-loop μ-loop
-loop-holds c = putting-none _ _ _ _ (search needs) (c .before .before .pre .0) (c .before .before .pre .1)
+loop-holds c =
+    let at-pre-0 = c .before .before .pre .0 in
+    let at-pre-1 = c .before .before .pre .1 in
+    putting-none _ _ _ _ (search needs) at-pre-0 at-pre-1
 
 mul-f : tie.Need-mul-f Inv-loop μ-loop
 mul-f c = omega arith
@@ -30,7 +34,9 @@ array-read-put-field : tie.Need-array-read-put-field Inv-loop μ-loop
 array-read-put-field c = c .before .loop-test .taken
 
 sub-put-field : tie.Need-sub-put-field Inv-loop μ-loop
-sub-put-field c = omega (arith, c .before .before .loop .inv .place .rest)
+sub-put-field c =
+    let at-loop-inv = c .before .before .loop .inv in
+    omega (arith, at-loop-inv .place .rest)
 
 part-put-field-start : tie.Need-part-put-field-start Inv-loop μ-loop
 part-put-field-start c = search needs
@@ -39,7 +45,9 @@ part-put-field-end : tie.Need-part-put-field-end Inv-loop μ-loop
 part-put-field-end c = search needs
 
 sub-put-field-2 : tie.Need-sub-put-field-2 Inv-loop μ-loop
-sub-put-field-2 c = omega (arith, c .before .before .before .before .loop .inv .fits, c .before .before .before .before .loop .inv .len)
+sub-put-field-2 c =
+    let at-loop-inv = c .before .before .before .before .loop .inv in
+    omega (arith, at-loop-inv .fits, at-loop-inv .len)
 
 part-put-field-start-2 : tie.Need-part-put-field-start-2 Inv-loop μ-loop
 part-put-field-start-2 c = search needs
@@ -49,25 +57,31 @@ part-put-field-end-2 c = search needs
 
 put-field-requires : tie.Need-put-field-requires Inv-loop μ-loop
 put-field-requires c κs =
-    let turn = c .before .before .before .before in
-    let a = at-place (turn .before .before .table .ensures) (turn .loop-test .taken) in
-    let r = turn .before .loop .inv in
+    let at-table = c .before .before .before .before .before .before .table in
+    let at-loop-test = c .before .before .before .before .loop-test in
+    let a = at-place (at-table .ensures) (at-loop-test .taken) in
+    let r = c .before .before .before .before .before .loop .inv in
     (putting-sound r a, place-room (r .place) a, putting-room r a)
 
 add-at : tie.Need-add-at Inv-loop μ-loop
 add-at c =
-    let turn = c .before .before .before .before .before .before .before in
-    let a = at-place (turn .before .before .table .ensures) (turn .loop-test .taken) in
-    omega (arith, putting-more (turn .before .loop .inv) a refl (c .before .before .put-field .ensures) .fits)
+    let at-table-ensures = c .before .before .before .before .before .before .before .before .before .table .ensures in
+    let at-loop-inv = c .before .before .before .before .before .before .before .before .loop .inv in
+    let at-loop-test-taken = c .before .before .before .before .before .before .before .loop-test .taken in
+    let at-put-field-ensures = c .before .before .put-field .ensures in
+    let a = at-place at-table-ensures at-loop-test-taken in
+    omega (arith, putting-more at-loop-inv a refl at-put-field-ensures .fits)
 
 size-of-requires : tie.Need-size-of-requires Inv-loop μ-loop
 size-of-requires c κs = search needs
 
 add-from : tie.Need-add-from Inv-loop μ-loop
 add-from c =
-    let turn = c .before .before .before .before .before .before .before .before in
-    let a = at-place (turn .before .before .table .ensures) (turn .loop-test .taken) in
-    omega (arith, place-fits (turn .before .loop .inv .place) a (c .size-of .ensures))
+    let at-table-ensures = c .before .before .before .before .before .before .before .before .before .before .table .ensures in
+    let at-loop-inv = c .before .before .before .before .before .before .before .before .before .loop .inv in
+    let at-loop-test-taken = c .before .before .before .before .before .before .before .before .loop-test .taken in
+    let a = at-place at-table-ensures at-loop-test-taken in
+    omega (arith, place-fits (at-loop-inv .place) a (c .size-of .ensures))
 
 add-k : tie.Need-add-k Inv-loop μ-loop
 add-k c = omega arith
@@ -77,9 +91,12 @@ loop-less c = omega arith
 
 loop-again : tie.Need-loop-again Inv-loop μ-loop
 loop-again c =
-    let turn = c .before .before .before .before .before .before .before .before in
-    let a = at-place (turn .before .before .table .ensures) (turn .loop-test .taken) in
-    putting-more (turn .before .loop .inv) a (c .size-of .ensures) (c .before .before .before .put-field .ensures)
+    let at-table = c .before .before .before .before .before .before .before .before .before .before .table in
+    let at-loop = c .before .before .before .before .before .before .before .before .before .loop in
+    let at-loop-test = c .before .before .before .before .before .before .before .before .loop-test in
+    let at-put-field = c .before .before .before .put-field in
+    let a = at-place (at-table .ensures) (at-loop-test .taken) in
+    putting-more (at-loop .inv) a (c .size-of .ensures) (at-put-field .ensures)
 
 same-length : tie.Need-same-length Inv-loop μ-loop
 same-length c = c .before .loop .inv .len

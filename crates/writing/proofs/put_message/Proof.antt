@@ -38,49 +38,61 @@ part-copy-end c = simp length-set (omega arith)
 
 copy-requires : tie.Need-copy-requires
 copy-requires c κs =
-    let l : length (c .before .before .before .before .before .before .before .before .args .m .bitmap) ≡ 8 = search needs in
+    let at-args-m = c .before .before .before .before .before .before .before .before .args .m in
+    let l : length (at-args-m .bitmap) ≡ 8 = search needs in
     simp (length-take, length-drop, length-set) (omega arith)
 
 sub-put-fields : tie.Need-sub-put-fields
-sub-put-fields c = omega (arith, simp length-set at (c .before .before .buf .given .1))
+sub-put-fields c =
+    let at-buf-given = c .before .before .buf .given in
+    omega (arith, simp length-set at (at-buf-given .1))
 
 part-put-fields-start : tie.Need-part-put-fields-start
-part-put-fields-start c = omega (arith, simp length-set at (c .before .before .buf .given .1))
+part-put-fields-start c =
+    let at-buf-given = c .before .before .buf .given in
+    omega (arith, simp length-set at (at-buf-given .1))
 
 part-put-fields-end : tie.Need-part-put-fields-end
 part-put-fields-end c = search needs
 
 put-fields-requires : tie.Need-put-fields-requires
 put-fields-requires c κs =
-    let start = c .before .before .before .before .before .before .before .before .before .before .before .before .before in (
-      fault-inversion (start .args .m) (start .pre .0) .no-fault,
-      rw (tail-part, length-drop) (omega (arith, simp length-set at (c .before .before .before .buf .given .1))),
+    let at-args-m = c .before .before .before .before .before .before .before .before .before .before .before .before .before .args .m in
+    let at-pre-0 = c .before .before .before .before .before .before .before .before .before .before .before .before .before .pre .0 in
+    let at-buf-given = c .before .before .before .buf .given in (
+      fault-inversion at-args-m at-pre-0 .no-fault,
+      rw (tail-part, length-drop) (omega (arith, simp length-set at (at-buf-given .1))),
     )
 
 add-result : tie.Need-add-result
 add-result c =
-    let start = c .before .before .before .before .before .before .before .before .before .before .before .before .before .before .before .before in
-    let m = start .args .m in
-    let z = fault-inversion m (start .pre .0) .no-fault in
-    omega (arith, c .before .before .put-fields .ensures .count, formats-fit (m .bitmap) (m .counts) (m .contents) z)
+    let at-pre-0 = c .before .before .before .before .before .before .before .before .before .before .before .before .before .before
+    .before .before .pre .0 in
+    let at-put-fields-ensures = c .before .before .put-fields .ensures in
+    let m = c .before .before .before .before .before .before .before .before .before .before .before .before .before .before .before
+    .before .args .m in
+    let z = fault-inversion m at-pre-0 .no-fault in
+    omega (arith, at-put-fields-ensures .count, formats-fit (m .bitmap) (m .counts) (m .contents) z)
 
 same-length : tie.Need-same-length
-same-length c = c .before .buf2 .given .1 ∙ c .before .before .before .before .before .before .buf .given .1 ∙ simp length-set
+same-length c =
+    let at-buf = c .before .before .before .before .before .before .buf in
+    c .before .buf2 .given .1 ∙ at-buf .given .1 ∙ simp length-set
 
 returns : tie.Need-returns
 unfolding messageBytes
 returns c =
-    let start = c .before .before .before .before .before .before .before .before .before .before .before .before .before .before .before .before in
-    let m = start .args .m in
-    let o = now (start .args .buf) in
+    let at-args-buf = c .before .before .before .before .before .before .before .before .before .before .before .before .before .before
+    .before .before .args .buf in
+    let at-put-fields-ensures = c .before .before .put-fields .ensures in
+    let m = c .before .before .before .before .before .before .before .before .before .before .before .before .before .before .before
+    .before .args .m in
+    let o = now at-args-buf in
     let l : length (m .bitmap) ≡ 8 = search needs in
     let copied = c .before .before .before .before .before .before .before .copy .ensures .1 in
     put-after
     10
-    (head m)
-    (omega arith)
-    (put-head (m .indicator / 256) (m .indicator % 256) (m .bitmap) o l (omega arith) copied)
-    (c .before .before .put-fields .ensures)
+    (head m) (omega arith) (put-head (m .indicator / 256) (m .indicator % 256) (m .bitmap) o l (omega arith) copied) at-put-fields-ensures
 
 pub put-message-spec : {M : Type 1} → statement M
 put-message-spec =

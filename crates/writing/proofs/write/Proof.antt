@@ -22,13 +22,18 @@ same-length c = search needs
 returns-2 : tie.Need-returns-2
 unfolding writeMessage
 returns-2 c =
-    let z = sym (c .before .before .before .before .before .message-fault .ensures) ∙ c .before .before .before .before .if2 .taken in
+    let at-if1 = c .before .before .before .before .before .before .if1 in
+    let at-message-fault = c .before .before .before .before .before .message-fault in
+    let at-if2 = c .before .before .before .before .if2 in
+    let z = sym (at-message-fault .ensures) ∙ at-if2 .taken in
     let p = c .before .before .put-message .ensures in
-    rw (le-ltb _ _ (c .before .before .before .before .before .before .if1 .left), eq-eqb _ _ z, p .bytes, p .count)
+    rw (le-ltb _ _ (at-if1 .left), eq-eqb _ _ z, p .bytes, p .count)
 
 returns-3 : tie.Need-returns-3
 unfolding writeMessage
-returns-3 c = rw (le-ltb _ _ (c .before .before .if1 .left), ← c .before .message-fault .ensures, ne-eqb _ _ (c .if2 .left))
+returns-3 c =
+    let at-if1 = c .before .before .if1 in
+    rw (le-ltb _ _ (at-if1 .left), ← c .before .message-fault .ensures, ne-eqb _ _ (c .if2 .left))
 
 pub write-spec : {M : Type 1} → statement M
 write-spec =

@@ -1,0 +1,197 @@
+-- The theorems on whole messages.
+use mathlib.Core.Path.{_≡_, refl, ap, sym, _∙_}
+use mathlib.Core.List.{List, [], _∷_, _++_}
+use mathlib.Core.Bool.{Bool, true, false, cond}
+use Prim.Native.Nat.{ℕ, zero, suc, _+_, _*_, _/_, _%_, _≤_, _<_}
+use native.Mathlib.Nat.{not-suc-le-zero}
+use native.Mathlib.Omega.{arith}
+use native.Mathlib.Decide.{ℕ-discrete, decLt}
+use lib.Dec.{ltb, eqb}
+use lib.ListN.{length, getD, take, drop, length-append, take-append-drop}
+use lib.Seq.{take-at, drop-at}
+use borrow.Author.Tests.{lt-ltb, le-ltb, ltb-false, eq-eqb, eqb-true}
+use Rattle.field.specs.Table.{among, indicators, formats}
+use Rattle.field.specs.Bitmap.{listed}
+use Rattle.message.specs.Message.{Shaped, largest}
+use Rattle.message.specs.Late.{lateFault, SameNamed}
+use Rattle.message.specs.declared.Message.{Message}
+use Rattle.reading.specs.Reading.{Fields, bad, good, readFields, refused, accepted, assembled, indicatorIn, bitmapOf, readMessage}
+use Rattle.reading.specs.declared.Reading.{Reading}
+use Rattle.reading.specs.declared.ReadOutcome.the-variants.{Read, Refused as Not}
+use Rattle.message.proofs.Places.{roomsOf, rooms-formats}
+use Rattle.message.proofs.Late.{late-named}
+use Rattle.writing.specs.Writing.{WriteResult, fieldsFault, fieldsBytes, messageBytes, messageFault, written, writeMessage}
+use Rattle.writing.specs.declared.Writing.the-variants.{Written, Refused}
+use Rattle.writing.proofs.Faults.{Writable, fault-inversion}
+use Rattle.writing.proofs.Putting.{message-fits}
+use Rattle.message_theorems.specs.RoundTrip.{Bytes, ReadsBack, WrittenReadsBack, ReadWritesBack, NeverLonger}
+use Rattle.message_theorems.proofs.Fields.{allWellFormed, keptCounts, keptContents, fields-back, kept-fields, Again, fields-again}
+
+formats-well-formed : allWellFormed formats ≡ true
+unfolding formats
+formats-well-formed = refl
+
+-- what an accepted writing says
+record IsWritten (m : Message) (o : List ℕ) (k : ℕ) : Type 0 where
+  no-fault : messageFault m ≡ 0
+  count : k ≡ length (messageBytes m)
+  buffer : (writeMessage m o) .buffer ≡ messageBytes m ++ drop k o
+
+refused-written : {e k : ℕ} → Refused e ≡ Written k → ⊥
+refused-written {e} {k} q = let z : _≡_ {A = ℕ} 0 1 = cc in omega arith
+
+is-written : (m : Message) (o : List ℕ) (k : ℕ) → (writeMessage m o) .outcome ≡ Written k → IsWritten m o k
+unfolding writeMessage
+is-written m o k = short (ltb (length o) largest) refl
+  where
+    room : (b : Bool) → eqb (messageFault m) 0 ≡ b → ltb (length o) largest ≡ false
+        → (cond b (written (Written (length (messageBytes m))) (messageBytes m ++ drop (length (messageBytes m)) o)) (written (Refused (messageFault m)) o)) .outcome ≡ Written k
+        → IsWritten m o k
+    room true e t q =
+        let c : length (messageBytes m) ≡ k = cc in
+        record { no-fault = eqb-true (messageFault m) 0 e; count = sym c; buffer = rw (t, e, c) }
+    room false e t q = absurd (refused-written q)
+
+    short : (b : Bool) → ltb (length o) largest ≡ b
+        → (cond b (written (Refused 1) o)
+        (cond (eqb (messageFault m) 0) (written (Written (length (messageBytes m))) (messageBytes m ++ drop (length (messageBytes m)) o)) (written (Refused (messageFault m)) o))) .outcome ≡ Written k
+        → IsWritten m o k
+    short true e q = absurd (refused-written q)
+    short false e q = room (eqb (messageFault m) 0) refl e q
+
+-- the message that is left where only what the bitmap names is kept
+kept : Message → Message
+kept m =
+    record {
+      indicator = m .indicator;
+      bitmap = m .bitmap;
+      counts = keptCounts formats (m .bitmap) (m .counts);
+      contents = keptContents formats (m .bitmap) (m .counts) (m .contents);
+    }
+
+-- it has what the bitmap names, so the late rules judge it alike
+kept-same : (m : Message) → Shaped m → messageFault m ≡ 0 → SameNamed (kept m) m
+unfolding kept
+kept-same m s z =
+    record {
+      indicator = refl;
+      bitmap = refl;
+      fields = kept-fields formats (m .bitmap) (m .counts) (m .contents) (omega (arith, rooms-formats, s .contents-length)) (fault-inversion m z .no-fault);
+    }
+
+kept-late : (m : Message) → Shaped m → messageFault m ≡ 0 → lateFault (kept m) ≡ 0
+kept-late m s z = late-named (kept m) m (kept-same m s z) ∙ fault-inversion m z .late
+
+bytes-read : (m : Message) → Shaped m → messageFault m ≡ 0 → readMessage (messageBytes m) ≡ record { outcome = Read; message = kept m }
+unfolding readMessage messageBytes kept
+bytes-read m s z =
+    let w = fault-inversion m z in
+    let bm = m .bitmap in
+    let rest = fieldsBytes formats bm (m .counts) (m .contents) in
+    let i : m .indicator / 256 * 256 + m .indicator % 256 ≡ m .indicator = omega arith in
+    let tb : take 8 (bm ++ rest) ≡ bm = take-at bm rest 8 (s .bitmap-length) in
+    let dr : drop 8 (bm ++ rest) ≡ rest = drop-at bm rest 8 (s .bitmap-length) in
+    let l : ltb (length (messageBytes m)) 10 ≡ false = le-ltb (length (messageBytes m)) 10 (omega (arith, length-append bm rest, s .bitmap-length)) in
+    let fb = fields-back formats bm (m .counts) (m .contents) formats-well-formed (omega (arith, rooms-formats, s .contents-length)) (w .no-fault) in
+    rw (l, i, w .indicator-listed, tb, w .fields-listed, dr, fb, kept-late m s z)
+
+kept-reads : (m : Message) → Shaped m → messageFault m ≡ 0 → ReadsBack m (record { outcome = Read; message = kept m })
+kept-reads m s z =
+    let k = kept-same m s z in
+    record { outcome = refl; indicator = k .indicator; bitmap = k .bitmap; fields = k .fields }
+
+pub written-reads-back : WrittenReadsBack
+written-reads-back m o k s q =
+    let w = is-written m o k q in
+    let t : take k ((writeMessage m o) .buffer) ≡ messageBytes m = rw (w .buffer) (take-at (messageBytes m) (drop k o) k (sym (w .count))) in
+    rw (t, bytes-read m s (w .no-fault)) (kept-reads m s (w .no-fault))
+
+pub never-longer : NeverLonger
+never-longer m o k s q = let w = is-written m o k q in rw (w .count) (message-fits m s (w .no-fault))
+
+not-read : {e : ℕ} → Not e ≡ Read → ⊥
+not-read {e} q = let z : _≡_ {A = ℕ} 0 1 = cc in omega arith
+
+passed-no : (b : Bool) (e : ℕ) (y : Reading) → (cond b (refused e) y) .outcome ≡ Read → (b ≡ false) × (y .outcome ≡ Read)
+passed-no true e y q = absurd (not-read q)
+passed-no false e y q = (refl, q)
+
+passed-yes : (b : Bool) (e : ℕ) (y : Reading) → (cond b y (refused e)) .outcome ≡ Read → (b ≡ true) × (y .outcome ≡ Read)
+passed-yes true e y q = (refl, q)
+passed-yes false e y q = absurd (not-read q)
+
+-- the message of a type, a bitmap, counts and contents
+abbrev pub messageFrom : ℕ → List ℕ → List ℕ → List ℕ → Message
+messageFrom i bm cs bs = record { indicator = i; bitmap = bm; counts = cs; contents = bs }
+
+late-passed : (m : Message) → (accepted m) .outcome ≡ Read → lateFault m ≡ 0
+late-passed m = go (eqb (lateFault m) 0) refl
+  where
+    go : (t : Bool) → eqb (lateFault m) 0 ≡ t → (cond t (record { outcome = Read; message = m }) (refused (lateFault m))) .outcome ≡ Read → lateFault m ≡ 0
+    go true e q = eqb-true (lateFault m) 0 e
+    go false e q = absurd (not-read q)
+
+fields-good : (i : ℕ) (bm : List ℕ) (x : Fields) → (assembled i bm x) .outcome ≡ Read
+    → (cs : List ℕ) × (bs : List ℕ) × (x ≡ good cs bs) × (lateFault (messageFrom i bm cs bs) ≡ 0)
+fields-good i bm (bad e) q = absurd (not-read q)
+fields-good i bm (good cs bs) q = (cs, bs, refl, late-passed (messageFrom i bm cs bs) q)
+
+-- what an accepted reading says
+pub record IsRead (s : List ℕ) : Type 0 where
+  pub counts : List ℕ
+  pub contents : List ℕ
+  pub long : 10 ≤ length s
+  pub indicator-listed : among (indicatorIn s) indicators ≡ true
+  pub fields-listed : listed (bitmapOf s) ≡ true
+  pub again : Again formats (bitmapOf s) (drop 10 s) counts contents
+  pub late : lateFault (messageFrom (indicatorIn s) (bitmapOf s) counts contents) ≡ 0
+  pub message : (readMessage s) .message ≡ messageFrom (indicatorIn s) (bitmapOf s) counts contents
+
+message-read : (s cs bs : List ℕ) → ltb (length s) 10 ≡ false → among (indicatorIn s) indicators ≡ true → listed (bitmapOf s) ≡ true
+    → readFields formats (bitmapOf s) (drop 10 s) ≡ good cs bs → lateFault (messageFrom (indicatorIn s) (bitmapOf s) cs bs) ≡ 0
+    → (readMessage s) .message ≡ messageFrom (indicatorIn s) (bitmapOf s) cs bs
+unfolding readMessage
+message-read s cs bs a b c g l = rw (a, b, c, g, l)
+
+pub is-read : (s : List ℕ) → (readMessage s) .outcome ≡ Read → IsRead s
+unfolding readMessage
+is-read s q =
+    let a = passed-no (ltb (length s) 10) 3 _ q in
+    let b = passed-yes (among (indicatorIn s) indicators) 4 _ (a .1) in
+    let c = passed-yes (listed (bitmapOf s)) 5 _ (b .1) in
+    let g = fields-good (indicatorIn s) (bitmapOf s) (readFields formats (bitmapOf s) (drop 10 s)) (c .1) in
+    record {
+      counts = g .0;
+      contents = g .1;
+      long = ltb-false (length s) 10 (a .0);
+      indicator-listed = b .0;
+      fields-listed = c .0;
+      again = fields-again formats (bitmapOf s) (drop 10 s) (g .0) (g .1) (g .2);
+      late = g .3;
+      message = message-read s (g .0) (g .1) (a .0) (b .0) (c .0) (g .2) (g .3);
+    }
+
+-- the type and the bitmap stand at the front
+pub read-head : (s : List ℕ) → (readMessage s) .outcome ≡ Read
+    → ((readMessage s) .message .indicator ≡ indicatorIn s) × ((readMessage s) .message .bitmap ≡ bitmapOf s)
+read-head s q = let r = is-read s q in rw (r .message) (refl, refl)
+
+-- ten bytes and the rest
+split-ten : (s : List ℕ) → 10 ≤ length s → getD s 0 0 ∷ getD s 1 0 ∷ (take 8 (drop 2 s) ++ drop 10 s) ≡ s
+split-ten [] h = absurd (not-suc-le-zero h)
+split-ten (a ∷ []) h = absurd (omega arith)
+split-ten (a ∷ b ∷ s) h = ap (λ (l : List ℕ). a ∷ b ∷ l) (take-append-drop 8 s)
+
+bytes-again : (s : List ℕ) → Bytes s → (r : IsRead s)
+    → messageBytes (messageFrom (indicatorIn s) (bitmapOf s) (r .counts) (r .contents)) ≡ s
+unfolding messageBytes
+bytes-again s b r =
+    let h : (getD s 0 0 * 256 + getD s 1 0) / 256 ≡ getD s 0 0 = omega (arith, b 0, b 1) in
+    let l : (getD s 0 0 * 256 + getD s 1 0) % 256 ≡ getD s 1 0 = omega (arith, b 0, b 1) in
+    rw (h, l, r .again .bytes) (split-ten s (r .long))
+
+pub read-writes-back : ReadWritesBack
+unfolding writeMessage messageFault
+read-writes-back s o b q h =
+    let r = is-read s q in
+    rw (r .message, le-ltb (length o) largest h, r .indicator-listed, r .fields-listed, r .again .sound, r .late, bytes-again s b r)

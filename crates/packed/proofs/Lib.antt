@@ -1,2 +1,0 @@
--- Laws of packed numbers, for other crates to cite.
-pub mod Packed

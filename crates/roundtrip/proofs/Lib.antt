@@ -1,3 +1,0 @@
--- Proofs of the theorems of specs/Theorems.antt.
-pub mod Fields
-pub mod Messages
