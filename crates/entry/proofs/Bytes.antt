@@ -7,11 +7,11 @@ use lib.ListN.{length, getD, take, drop, length-append, length-drop, drop-of-len
 use lib.Seq.{take-length, take-all, take-at, drop-drop, length-take-le}
 use Rattle.digits.specs.Digits.{pack}
 use Rattle.digits.specs.Numbers.{digitsOf}
-use Rattle.packed.specs.Packed.{packedNumber}
-use Rattle.packed.proofs.Packed.{number-below, length-number}
-use Rattle.parts.specs.declared.Trace.{Trace}
+use Rattle.digits.specs.Packed.{packedNumber}
+use Rattle.digits.proofs.Packed.{number-below, length-number}
+use Rattle.numbers.specs.declared.Trace.{Trace}
 use Rattle.entry.specs.declared.Entry.{Entry}
-use Rattle.entry.specs.Entry.{part, decode, encode}
+use Rattle.entry.specs.Entry.{part, decode, encode, entrySize}
 use Rattle.entry.specs.Theorems.{Shaped}
 
 pub length-part : (at k : ℕ) (s : List ℕ) → at + k ≤ length s → length (part at k s) ≡ k
@@ -104,7 +104,7 @@ pub written : (e : Entry) (b : List ℕ) {n a b₁ b₂ b₃ b₄ b₅ b₆ b₇
     → b₇ ≡ take 26 b₆ ++ (e .authorisation ++ drop (26 + length (e .authorisation)) b₆)
     → b₈ ≡ take 32 b₇ ++ (e .reference ++ drop (32 + length (e .reference)) b₇)
     → b₉ ≡ take 44 b₈ ++ (e .reserved ++ drop (44 + length (e .reserved)) b₈)
-    → length b₉ ≡ 48 → b₉ ≡ encode e
+    → length b₉ ≡ entrySize → b₉ ≡ encode e
 unfolding encode
 written e b {n} {a} h p q e₁ e₂ e₃ e₄ e₅ e₆ e₇ e₈ e₉ l =
     let l₂ : length n ≡ 3 = rw p (length-number 6 (e .trace .0)) in

@@ -6,22 +6,19 @@ use Prim.Native.Nat.{ℕ, _≤_}
 use lib.Dec.{eqb, leb}
 use lib.ListN.{getD}
 use borrow.Author.Tests.{leb-true}
+use Rattle.numbers.specs.Limits.{largestAmount, lastNumber}
+use Rattle.numbers.specs.Numbers.{within}
+use Rattle.numbers.proofs.Bounds.{within-bounds}
 use Rattle.digits.specs.Digits.{isPacked}
 use Rattle.field.specs.Contents.{allPrintable}
 use Rattle.kinds.specs.Kinds.{isKind}
 use Rattle.entry.specs.declared.Entry.{Entry}
 use Rattle.entry.specs.Entry.{allZero}
-use Rattle.entry.specs.Form.{within, cardInForm, inForm}
+use Rattle.entry.specs.Form.{cardInForm, inForm}
 
 -- place i holds a zero
 abbrev pub isNought : List ℕ → ℕ → Bool
 isNought b i = eqb (getD b i 0) 0
-
-pub within-bounds : (low x high : ℕ) → within low x high ≡ true → (low ≤ x) × (x ≤ high)
-unfolding within
-within-bounds low x high e =
-    let t = and-eq-true-iff (leb low x) (leb x high) .0 e in
-    (leb-true low x (t .0), leb-true x high (t .1))
 
 -- the digits of a card in form
 pub card-bounds : (n : ℕ) (card : List ℕ) → cardInForm n card ≡ true → (13 ≤ n) × (n ≤ 19)
@@ -34,9 +31,9 @@ pub record InForm (e : Entry) : Type 0 where
   pub voided-most : e .voided ≤ 1
   pub mark-most : e .mark ≤ 4
   pub trace-least : 1 ≤ e .trace .0
-  pub trace-most : e .trace .0 ≤ 999999
+  pub trace-most : e .trace .0 ≤ lastNumber
   pub amount-least : 1 ≤ e .amount
-  pub amount-most : e .amount ≤ 9999999999
+  pub amount-most : e .amount ≤ largestAmount
   pub digits-least : 13 ≤ e .digits
   pub digits-most : e .digits ≤ 19
   pub card-packed : cardInForm (e .digits) (e .card) ≡ true
@@ -49,8 +46,8 @@ pub in-form : (e : Entry) → inForm e ≡ true → InForm e
 unfolding inForm
 in-form e h =
     let t = simp and-eq-true-iff at h in
-    let n = within-bounds 1 (e .trace .0) 999999 (t .0 .0 .0 .0 .0 .0 .1) in
-    let a = within-bounds 1 (e .amount) 9999999999 (t .0 .0 .0 .0 .0 .1) in
+    let n = within-bounds 1 (e .trace .0) lastNumber (t .0 .0 .0 .0 .0 .0 .1) in
+    let a = within-bounds 1 (e .amount) largestAmount (t .0 .0 .0 .0 .0 .1) in
     let d = card-bounds (e .digits) (e .card) (t .0 .0 .0 .0 .1) in
     record {
       kind-listed = t .0 .0 .0 .0 .0 .0 .0 .0 .0;

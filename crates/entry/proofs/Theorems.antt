@@ -7,10 +7,10 @@ use lib.ListN.{length, getD, set, take, drop, replicate, length-append, length-d
 use lib.Seq.{take-at, take-all, drop-cons, drop-drop, drop-append-add, getD-append-add, getD-set-same, getD-set-other, drop-set-lt}
 use Rattle.digits.specs.Digits.{half, unpack, pack, allDigits}
 use Rattle.digits.specs.Numbers.{value, digitsOf, numberOf}
-use Rattle.packed.specs.Packed.{packedNumber}
-use Rattle.packed.proofs.Packed.{packed-number, number-packs, number-form, length-number}
+use Rattle.digits.specs.Packed.{packedNumber}
+use Rattle.digits.proofs.Packed.{packed-number, number-packs, number-form, length-number}
 use Rattle.entry.specs.declared.Entry.{Entry}
-use Rattle.entry.specs.Entry.{part, decode, encode, blank}
+use Rattle.entry.specs.Entry.{part, decode, encode, blank, entrySize}
 use Rattle.entry.specs.Theorems.{Shaped, WrittenReadsBack, ReadWritesBack}
 use Rattle.entry.proofs.Bytes.{length-part, amount-small, trace-small}
 use Rattle.entry.proofs.Form.{in-form}
@@ -117,7 +117,7 @@ encoded-decodes e h l m =
 pub written-reads-back : WrittenReadsBack
 written-reads-back e h f = let r = in-form e f in encoded-decodes e h (omega arith) (omega arith)
 
-pub length-encode : (e : Entry) → Shaped e → length (encode e) ≡ 48
+pub length-encode : (e : Entry) → Shaped e → length (encode e) ≡ entrySize
 unfolding encode
 length-encode e h = simp (length-append, length-number) (omega arith)
 
@@ -126,7 +126,7 @@ part-joins : (at k : ℕ) (b : List ℕ) → part at k b ++ drop (at + k) b ≡ 
 part-joins at k b = rw (← drop-drop k at b) (take-append-drop k (drop at b))
 
 -- all parts of 48 bytes
-parts-join : (b : List ℕ) → length b ≡ 48
+parts-join : (b : List ℕ) → length b ≡ entrySize
     → (getD b 0 0 ∷ getD b 1 0 ∷ getD b 2 0 ∷ getD b 3 0 ∷ [])
     ++ (part 4 3 b ++ (part 7 6 b ++ ((getD b 13 0 ∷ [])
     ++ (part 14 10 b ++ (part 24 2 b ++ (part 26 6 b ++ (part 32 12 b ++ part 44 4 b))))))) ≡ b
@@ -163,7 +163,7 @@ pub decode-trace : (b : List ℕ) → decode b .trace .0 < 1000000
 unfolding decode
 decode-trace b = trace-small b
 
-pub decode-shaped : (b : List ℕ) → length b ≡ 48 → Shaped (decode b)
+pub decode-shaped : (b : List ℕ) → length b ≡ entrySize → Shaped (decode b)
 unfolding decode
 decode-shaped b l =
     record {
@@ -174,7 +174,7 @@ decode-shaped b l =
       reserved-length = length-part 44 4 b (omega arith);
     }
 
-pub decode-zeros : decode (replicate 48 0) ≡ blank
+pub decode-zeros : decode (replicate entrySize 0) ≡ blank
 unfolding decode packedNumber numberOf allDigits unpack half value
 decode-zeros = refl
 
@@ -213,7 +213,7 @@ decode-set b i x h l =
       drop-set-lt 44 b i x (omega arith),
     )
 
-module _ (b : List ℕ) (x : ℕ) (l : length b ≡ 48) where
+module _ (b : List ℕ) (x : ℕ) (l : length b ≡ entrySize) where
   pub decode-voided : decode (set b 1 x) ≡ remarked (decode b) x (decode b .mark) (decode b .resends)
   unfolding decode
   decode-voided =

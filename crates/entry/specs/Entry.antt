@@ -7,11 +7,21 @@ use lib.ListN.{length, getD, take, drop, replicate}
 use Rattle.digits.specs.Lists.{all}
 use Rattle.digits.specs.Digits.{pack}
 use Rattle.digits.specs.Numbers.{digitsOf}
-use Rattle.packed.specs.Packed.{packedNumber}
+use Rattle.digits.specs.Packed.{packedNumber}
 use Rattle.entry.specs.declared.Entry.{Entry}
 
 abbrev pub entrySize : ℕ
 entrySize = 48
+
+-- where the bytes that change stand
+abbrev pub voidedOffset : ℕ
+voidedOffset = 1
+
+abbrev pub markOffset : ℕ
+markOffset = 2
+
+abbrev pub resendsOffset : ℕ
+resendsOffset = 3
 
 -- k bytes from an offset on
 abbrev pub part : ℕ → ℕ → List ℕ → List ℕ

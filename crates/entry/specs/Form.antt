@@ -4,15 +4,13 @@ use mathlib.Core.List.{List}
 use Prim.Native.Nat.{ℕ}
 use lib.Dec.{leb, eqb}
 use lib.ListN.{take, drop}
+use Rattle.numbers.specs.Limits.{largestAmount, lastNumber}
+use Rattle.numbers.specs.Numbers.{within}
 use Rattle.digits.specs.Digits.{bytesFor, isPacked}
 use Rattle.field.specs.Contents.{allPrintable}
 use Rattle.kinds.specs.Kinds.{isKind, isDue, isVoidable}
 use Rattle.entry.specs.Entry.{allZero}
 use Rattle.entry.specs.declared.Entry.{Entry}
-
--- x lies between two bounds, both included
-unfoldable pub within : ℕ → ℕ → ℕ → Bool
-within low x high = leb low x && leb x high
 
 -- 13 to 19 packed digits, zero filled
 unfoldable pub cardInForm : ℕ → List ℕ → Bool
@@ -24,8 +22,8 @@ inForm e =
     isKind (e .kind)
     && leb (e .voided) 1
     && leb (e .mark) 4
-    && within 1 (e .trace .0) 999999
-    && within 1 (e .amount) 9999999999
+    && within 1 (e .trace .0) lastNumber
+    && within 1 (e .amount) largestAmount
     && cardInForm (e .digits) (e .card)
     && isPacked 4 (e .date)
     && allPrintable (e .authorisation)

@@ -1,12 +1,13 @@
 // An entry of the journal: its bytes and its values (document 01, "State and journal").
-use parts::Trace;
+use numbers::Trace;
 ghost use mathlib.Core.Path.{_≡_};
 ghost use mathlib.Core.List.{_++_};
 ghost use Prim.Native.Nat.{_+_, _≤_};
 ghost use lib.ListN.{length, take, drop};
-ghost use Rattle.packed.specs.Packed.{packedNumber};
-ghost use Rattle.entry.specs.Entry.{decode, encode, part, allZero, blank};
-ghost use Rattle.entry.specs.Form.{within, cardInForm, inForm, keepsVoided, keepsUnmarked, keepsResends, keepsSilent, fits};
+
+ghost use Rattle.digits.specs.Packed.{packedNumber};
+ghost use Rattle.entry.specs.Entry.{decode, encode, part, allZero, blank, entrySize};
+ghost use Rattle.entry.specs.Form.{cardInForm, inForm, keepsVoided, keepsUnmarked, keepsResends, keepsSilent, fits};
 
 // The values of an entry; card and date are packed digits.
 pub struct Entry {
@@ -27,17 +28,26 @@ pub struct Entry {
 impl Entry {
     // The bytes of an entry.
     pub const SIZE: usize = 48;
-}
 
-fn trace_in(s: &[u8]) -> Trace
-    requires { ⌜ length (now s) ≡ 48 ⌝ }
-    ensures { λ r. ⌜ r ≡ record { 0 = packedNumber 6 (part 4 3 (now (s .entry))) } ⌝ }
-{
-    Trace(packed::number_in(&s[4..7]) as u32)
+    // Where the bytes that change stand: voided, the upload mark, resends.
+    pub const VOIDED: u8 = 1;
+
+    pub const MARK: u8 = 2;
+
+    pub const RESENDS: u8 = 3;
+
+    // The upload marks but 0, which is not sent: silent, accepted, rejected, given up.
+    pub const SILENT: u8 = 1;
+
+    pub const ACCEPTED: u8 = 2;
+
+    pub const REJECTED: u8 = 3;
+
+    pub const GIVEN_UP: u8 = 4;
 }
 
 // The values that 48 bytes hold.
-pub fn entry_of(b: &[u8; 48]) -> Entry
+pub fn entry_of(b: &[u8; Entry::SIZE]) -> Entry
     ensures { λ r. ⌜ r ≡ decode (now (b .entry)) ⌝ }
 {
     let s: &[u8] = b;
@@ -58,7 +68,7 @@ pub fn entry_of(b: &[u8; 48]) -> Entry
         mark: s[2],
         resends: s[3],
         trace: trace,
-        amount: packed::number_in(&s[7..13]),
+        amount: digits::packed_number(&s[7..13]),
         digits: s[13],
         card: card,
         date: date,
@@ -68,17 +78,8 @@ pub fn entry_of(b: &[u8; 48]) -> Entry
     }
 }
 
-// Copies s into out from an offset on.
-fn put(s: &[u8], at: usize, out: &mut [u8])
-    requires { ⌜ at + length (now s) ≤ length (now out) ⌝ }
-    ensures { λ _. ⌜ now (out .exit) ≡ take at (now (out .entry)) ++ (now (s .entry) ++ drop (at + length (now (s .entry))) (now (out .entry))) ⌝ }
-{
-    let end = at + s.len();
-    bytes::copy(s, &mut out[at..end]);
-}
-
 // The 48 bytes that hold an entry's values.
-pub fn bytes_of(e: Entry) -> [u8; 48]
+pub fn bytes_of(e: Entry) -> [u8; Entry::SIZE]
     ensures { λ r. ⌜ r ≡ encode e ⌝ }
 {
     let trace = e.trace;
@@ -91,9 +92,9 @@ pub fn bytes_of(e: Entry) -> [u8; 48]
     let digits = [e.digits];
     let mut number = [0u8; 3];
     let mut amount = [0u8; 6];
-    packed::put_number(trace.0 as u64, &mut number);
-    packed::put_number(e.amount, &mut amount);
-    let mut b = [0u8; 48];
+    digits::put_number(trace.0 as u64, &mut number);
+    digits::put_number(e.amount, &mut amount);
+    let mut b = [0u8; Entry::SIZE];
     put(&marks, 0, &mut b);
     put(&number, 4, &mut b);
     put(&amount, 7, &mut b);
@@ -104,37 +105,6 @@ pub fn bytes_of(e: Entry) -> [u8; 48]
     put(&reference, 32, &mut b);
     put(&reserved, 44, &mut b);
     b
-}
-
-fn is_within(low: u64, x: u64, high: u64) -> bool
-    ensures { λ r. ⌜ r ≡ within low x high ⌝ }
-{
-    (low <= x) & (x <= high)
-}
-
-fn is_zero(s: &[u8]) -> bool
-    ensures { λ r. ⌜ r ≡ allZero (now (s .entry)) ⌝ }
-{
-    let mut i = 0;
-    while i < s.len() {
-        if s[i] != 0 {
-            return false;
-        }
-        i += 1;
-    }
-    true
-}
-
-fn is_card(n: u8, card: &[u8]) -> bool
-    requires { ⌜ length (now card) ≡ 10 ⌝ }
-    ensures { λ r. ⌜ r ≡ cardInForm n (now (card .entry)) ⌝ }
-{
-    if is_within(13, n as u64, 19) {
-        let count = n as usize;
-        let size = (count + 1) / 2;
-        return digits::is_packed(&card[..size], count) & is_zero(&card[size..]);
-    }
-    false
 }
 
 // Whether each value is in its range and form.
@@ -150,8 +120,8 @@ pub fn is_in_form(e: Entry) -> bool
     kinds::is_kind(e.kind)
         & (e.voided <= 1)
         & (e.mark <= 4)
-        & is_within(1, trace.0 as u64, 999999)
-        & is_within(1, e.amount, 9999999999)
+        & numbers::is_within(1, trace.0 as u64, numbers::LAST_NUMBER as u64)
+        & numbers::is_within(1, e.amount, numbers::LARGEST_AMOUNT)
         & is_card(e.digits, &card)
         & digits::is_packed(&date, 4)
         & field::all_printable(&authorisation)
@@ -189,4 +159,45 @@ pub fn blank() -> Entry
         reference: [0u8; 12],
         reserved: [0u8; 4],
     }
+}
+
+fn trace_in(s: &[u8]) -> Trace
+    requires { ⌜ length (now s) ≡ entrySize ⌝ }
+    ensures { λ r. ⌜ r ≡ record { 0 = packedNumber 6 (part 4 3 (now (s .entry))) } ⌝ }
+{
+    Trace(digits::packed_number(&s[4..7]) as u32)
+}
+
+// Copies s into out from an offset on.
+fn put(s: &[u8], at: usize, out: &mut [u8])
+    requires { ⌜ at + length (now s) ≤ length (now out) ⌝ }
+    ensures { λ _. ⌜ now (out .exit) ≡ take at (now (out .entry)) ++ (now (s .entry) ++ drop (at + length (now (s .entry))) (now (out .entry))) ⌝ }
+{
+    let end = at + s.len();
+    bytes::copy(s, &mut out[at..end]);
+}
+
+fn is_zero(s: &[u8]) -> bool
+    ensures { λ r. ⌜ r ≡ allZero (now (s .entry)) ⌝ }
+{
+    let mut i = 0;
+    while i < s.len() {
+        if s[i] != 0 {
+            return false;
+        }
+        i += 1;
+    }
+    true
+}
+
+fn is_card(n: u8, card: &[u8]) -> bool
+    requires { ⌜ length (now card) ≡ 10 ⌝ }
+    ensures { λ r. ⌜ r ≡ cardInForm n (now (card .entry)) ⌝ }
+{
+    if numbers::is_within(13, n as u64, 19) {
+        let count = n as usize;
+        let size = (count + 1) / 2;
+        return digits::is_packed(&card[..size], count) & is_zero(&card[size..]);
+    }
+    false
 }

@@ -1,4 +1,4 @@
--- Laws of the entries that a journal's bytes hold: how many they are, one more, one written, one byte of one changed.
+-- Laws of the entries that a journal's bytes hold: how many they are, one more, one written, one byte of one changedAt.
 use mathlib.Core.Path.{_≡_, refl, ap, sym, _∙_}
 use mathlib.Core.List.{List, [], _∷_, _++_, append-nil}
 use mathlib.Core.Bool.{true}
@@ -13,7 +13,7 @@ use Rattle.entry.specs.Form.{inForm}
 use Rattle.entry.specs.Theorems.{Shaped}
 use Rattle.entry.specs.declared.Entry.{Entry}
 use Rattle.entry.proofs.Theorems.{written-reads-back, length-encode, decode-shaped, decode-trace, decode-amount}
-use Rattle.journal.specs.Journal.{entriesOf, entryAt, putEntry, setByte, withVoided, withMark, withResends, changed}
+use Rattle.journal.specs.Journal.{entriesOf, entryAt, putEntry, setByte, withVoided, withMark, withResends, changedAt}
 
 -- the first of one more entry, and the others after it
 pub entries-more : (n : ℕ) (j : List ℕ) → entrySize ≤ length j
@@ -208,13 +208,13 @@ abbrev Sets : ℕ → ℕ → (Entry → Entry) → Type 0
 Sets k x f = (b : List ℕ) → length b ≡ entrySize → decode (set b k x) ≡ f (decode b)
 
 set-changes : (k x : ℕ) (f : Entry → Entry) → k < entrySize → Sets k x f
-    → (n i : ℕ) (j : List ℕ) → entriesOf n (set j (entrySize * i + k) x) ≡ changed i f (entriesOf n j)
+    → (n i : ℕ) (j : List ℕ) → entriesOf n (set j (entrySize * i + k) x) ≡ changedAt i f (entriesOf n j)
 set-changes k x f small s zero i j = refl
 set-changes k x f small s (suc n) i j = go i (decLt (length j) entrySize) (λ m. set-changes k x f small s n m (drop entrySize j))
   where
     go : (i : ℕ) → Dec (length j < entrySize)
-        → ((m : ℕ) → entriesOf n (set (drop entrySize j) (entrySize * m + k) x) ≡ changed m f (entriesOf n (drop entrySize j)))
-        → entriesOf (suc n) (set j (entrySize * i + k) x) ≡ changed i f (entriesOf (suc n) j)
+        → ((m : ℕ) → entriesOf n (set (drop entrySize j) (entrySize * m + k) x) ≡ changedAt m f (entriesOf n (drop entrySize j)))
+        → entriesOf (suc n) (set j (entrySize * i + k) x) ≡ changedAt i f (entriesOf (suc n) j)
     go i (yes h) r = rw (entries-short (suc n) j h) (entries-short (suc n) (set j (entrySize * i + k) x) (rw length-set h))
     go zero (no h) r =
         let q : entrySize * 0 + k ≡ k = omega arith in
@@ -259,14 +259,14 @@ sets-resends x (k ∷ v ∷ m ∷ []) l = absurd (omega arith)
 sets-resends x (k ∷ v ∷ m ∷ r ∷ b) l = refl
 
 module _ (n i x : ℕ) (j : List ℕ) where
-  pub set-voided : entriesOf n (setByte i 1 x j) ≡ changed i (withVoided x) (entriesOf n j)
+  pub set-voided : entriesOf n (setByte i 1 x j) ≡ changedAt i (withVoided x) (entriesOf n j)
   unfolding setByte
   set-voided = set-changes 1 x (withVoided x) (omega arith) (sets-voided x) n i j
 
-  pub set-mark : entriesOf n (setByte i 2 x j) ≡ changed i (withMark x) (entriesOf n j)
+  pub set-mark : entriesOf n (setByte i 2 x j) ≡ changedAt i (withMark x) (entriesOf n j)
   unfolding setByte
   set-mark = set-changes 2 x (withMark x) (omega arith) (sets-mark x) n i j
 
-  pub set-resends : entriesOf n (setByte i 3 x j) ≡ changed i (withResends x) (entriesOf n j)
+  pub set-resends : entriesOf n (setByte i 3 x j) ≡ changedAt i (withResends x) (entriesOf n j)
   unfolding setByte
   set-resends = set-changes 3 x (withResends x) (omega arith) (sets-resends x) n i j

@@ -13,9 +13,9 @@ use Rattle.kinds.specs.Kinds.{isDue}
 use Rattle.entry.specs.declared.Entry.{Entry}
 use Rattle.journal.specs.declared.Found.{Found}
 use Rattle.journal.specs.declared.Found.the-variants.{At, Nowhere}
-use Rattle.journal.specs.Journal.{entryAt, every, firstOf, dueWith, otherwise, nextDue, changed}
+use Rattle.journal.specs.Journal.{entryAt, every, firstOf, dueWith, otherwise, nextDue, changedAt}
 
--- places of a list and of a changed one
+-- places of a list and of a changedAt one
 pub entry-front : (es fs : List Entry) (i : ℕ) → i < length es → entryAt (es ++ fs) i ≡ entryAt es i
 entry-front [] fs i h = absurd (omega arith)
 entry-front (e ∷ es) fs zero h = refl
@@ -26,17 +26,17 @@ entry-last [] e = refl
 entry-last (x ∷ es) e = entry-last es e
 
 module _ (f : Entry → Entry) where
-  pub length-changed : (i : ℕ) (es : List Entry) → length (changed i f es) ≡ length es
+  pub length-changed : (i : ℕ) (es : List Entry) → length (changedAt i f es) ≡ length es
   length-changed i [] = refl
   length-changed zero (e ∷ es) = refl
   length-changed (suc i) (e ∷ es) = ap suc (length-changed i es)
 
-  pub changed-same : (i : ℕ) (es : List Entry) → i < length es → entryAt (changed i f es) i ≡ f (entryAt es i)
+  pub changed-same : (i : ℕ) (es : List Entry) → i < length es → entryAt (changedAt i f es) i ≡ f (entryAt es i)
   changed-same i [] h = absurd (omega arith)
   changed-same zero (e ∷ es) h = refl
   changed-same (suc i) (e ∷ es) h = changed-same i es (omega arith)
 
-  pub changed-other : (i k : ℕ) (es : List Entry) → (k ≡ i → ⊥) → entryAt (changed i f es) k ≡ entryAt es k
+  pub changed-other : (i k : ℕ) (es : List Entry) → (k ≡ i → ⊥) → entryAt (changedAt i f es) k ≡ entryAt es k
   changed-other i k [] h = refl
   changed-other zero zero (e ∷ es) h = absurd (h refl)
   changed-other zero (suc k) (e ∷ es) h = refl
@@ -44,14 +44,14 @@ module _ (f : Entry → Entry) where
   changed-other (suc i) (suc k) (e ∷ es) h = changed-other i k es (λ q. h (ap suc q))
 
   -- an entry that is not there
-  pub changed-past : (i : ℕ) (es : List Entry) → length es ≤ i → changed i f es ≡ es
+  pub changed-past : (i : ℕ) (es : List Entry) → length es ≤ i → changedAt i f es ≡ es
   changed-past i [] h = refl
   changed-past zero (e ∷ es) h = absurd (omega arith)
   changed-past (suc i) (e ∷ es) h = rw (changed-past i es (omega arith))
 
   -- a value that the change keeps
   pub changed-keeps : {A : Type 0} (v : Entry → A) → ((e : Entry) → v (f e) ≡ v e)
-      → (i k : ℕ) (es : List Entry) → v (entryAt (changed i f es) k) ≡ v (entryAt es k)
+      → (i k : ℕ) (es : List Entry) → v (entryAt (changedAt i f es) k) ≡ v (entryAt es k)
   changed-keeps v h i k [] = refl
   changed-keeps v h zero zero (e ∷ es) = h e
   changed-keeps v h zero (suc k) (e ∷ es) = refl
@@ -92,7 +92,7 @@ module _ (p : ℕ → Entry → Bool) where
 
   -- a change that keeps what p says
   pub every-changed : (f : Entry → Entry) → ((i : ℕ) (e : Entry) → p i (f e) ≡ p i e)
-      → (k i : ℕ) (es : List Entry) → every p i (changed k f es) ≡ every p i es
+      → (k i : ℕ) (es : List Entry) → every p i (changedAt k f es) ≡ every p i es
   every-changed f h k i [] = refl
   every-changed f h zero i (e ∷ es) = rw h
   every-changed f h (suc k) i (e ∷ es) = rw (every-changed f h k (suc i) es)
@@ -114,11 +114,11 @@ every-same p q h i (e ∷ es) = rw (h i e, every-same p q h (suc i) es)
 pub every-after : (p q : ℕ → Entry → Bool) (f : Entry → Entry) (i k : ℕ) (es : List Entry) → every p i es ≡ true
     → ((m : ℕ) → m < length es → (m ≡ k → ⊥) → p (i + m) (entryAt es m) ≡ true → q (i + m) (entryAt es m) ≡ true)
     → (k < length es → q (i + k) (f (entryAt es k)) ≡ true)
-    → every q i (changed k f es) ≡ true
+    → every q i (changedAt k f es) ≡ true
 every-after p q f i k es a o h =
-    every-all q i (changed k f es) (λ m l. at m (rw length-changed at l) (ℕ-discrete m k))
+    every-all q i (changedAt k f es) (λ m l. at m (rw length-changed at l) (ℕ-discrete m k))
   where
-    at : (m : ℕ) → m < length es → Dec (m ≡ k) → q (i + m) (entryAt (changed k f es) m) ≡ true
+    at : (m : ℕ) → m < length es → Dec (m ≡ k) → q (i + m) (entryAt (changedAt k f es) m) ≡ true
     at m l (yes e) = rw (e, changed-same f k es (rw e at l)) (h (rw e at l))
     at m l (no e) = rw (changed-other f k m es e) (o m l e (every-at p i es a m l))
 
@@ -127,7 +127,7 @@ pub every-place : (p : Entry → Bool) (i k : ℕ) (es : List Entry) → every (
 every-place p i k [] = refl
 every-place p i k (e ∷ es) = rw (every-place p (suc i) (suc k) es)
 
--- the entry at place k passes p, and is the first that does, where the list begins at place i
+-- the entry at place k satisfies p, and is the first that does, where the list begins at place i
 pub record IsFirst (p : Entry → Bool) (i : ℕ) (es : List Entry) (k : ℕ) : Type 0 where
   pub from : i ≤ k
   pub below : k < i + length es
@@ -214,7 +214,7 @@ module _ (p : Entry → Bool) where
       go false r = r
 
   pub first-changed : (f : Entry → Entry) → ((e : Entry) → p (f e) ≡ p e)
-      → (k i : ℕ) (es : List Entry) → firstOf p i (changed k f es) ≡ firstOf p i es
+      → (k i : ℕ) (es : List Entry) → firstOf p i (changedAt k f es) ≡ firstOf p i es
   first-changed f h k i [] = refl
   first-changed f h zero i (e ∷ es) = rw h
   first-changed f h (suc k) i (e ∷ es) = rw (first-changed f h k (suc i) es)

@@ -13,7 +13,7 @@ use Rattle.entry.specs.declared.Entry.{Entry}
 use Rattle.entry.proofs.Bytes.{part-copied}
 use Rattle.entry.proofs.Theorems.{decode-amount}
 use Rattle.journal.specs.declared.Found.the-variants.{At, Nowhere}
-use Rattle.journal.specs.declared.Totals.{Totals}
+use Rattle.kinds.specs.declared.Totals.{Totals}
 use Rattle.journal.specs.Journal.{entriesOf, every, firstOf, totalsOf}
 use Rattle.journal.specs.Sums.{withEntry, Room}
 use Rattle.journal.proofs.Entries.{entries-more, entries-short}

@@ -9,6 +9,7 @@ use native.Mathlib.Decide.{decLt, ℕ-discrete}
 use lib.Dec.{leb}
 use lib.ListN.{length, take, drop}
 use borrow.Author.Tests.{leb-true, le-leb, ne-eqb}
+use Rattle.numbers.specs.Limits.{largestAmount}
 use Rattle.kinds.specs.Kinds.{isDebit, isCredit, sideOf}
 use Rattle.kinds.specs.declared.Side.the-variants.{Debit, Credit, Neither}
 use Rattle.entry.specs.Entry.{entrySize, decode}
@@ -17,8 +18,8 @@ use Rattle.entry.specs.declared.Entry.{Entry}
 use Rattle.entry.proofs.Form.{in-form}
 use Rattle.entry.proofs.Theorems.{decode-amount}
 use Rattle.journal.specs.declared.Found.{Found}
-use Rattle.journal.specs.declared.Totals.{Totals}
-use Rattle.journal.specs.Journal.{entriesOf, every, sumOf, debitEntry, creditEntry, totalsOf, fitsAt, isAt, withVoided, withMark, withResends, changed}
+use Rattle.kinds.specs.declared.Totals.{Totals}
+use Rattle.journal.specs.Journal.{entriesOf, every, sumOf, debitEntry, creditEntry, totalsOf, sumsOf, fitsAt, isAt, withVoided, withMark, withResends, changedAt}
 use Rattle.journal.specs.Sums.{withEntry, Room}
 use Rattle.journal.proofs.Entries.{entries-more, entries-short}
 use Rattle.journal.proofs.Searches.{every-implies}
@@ -37,7 +38,7 @@ module _ (p : Entry → Bool) (f : Entry → ℕ) where
 
   -- a change that keeps what is summed
   pub sum-changed : (g : Entry → Entry) → ((e : Entry) → p (g e) ≡ p e) → ((e : Entry) → f (g e) ≡ f e)
-      → (i : ℕ) (es : List Entry) → sumOf p f (changed i g es) ≡ sumOf p f es
+      → (i : ℕ) (es : List Entry) → sumOf p f (changedAt i g es) ≡ sumOf p f es
   sum-changed g h k i [] = refl
   sum-changed g h k zero (e ∷ es) = rw (h e, k e)
   sum-changed g h k (suc i) (e ∷ es) = rw (sum-changed g h k i es)
@@ -66,15 +67,15 @@ amounts-bounded p (suc n) j = go (amounts-bounded p n (drop entrySize j)) (decLt
         (omega (arith, chosen-bounded (λ e. e .amount) 1000000000000 (p e) e (omega (arith, decode-amount (take entrySize j)))))
 
 -- an amount in range has ten digits
-pub fits-amount : (l : ℕ) (uploading awaited : Bool) (e : Entry) → fits l uploading awaited e ≡ true → e .amount ≤ 9999999999
+pub fits-amount : (l : ℕ) (uploading awaited : Bool) (e : Entry) → fits l uploading awaited e ≡ true → e .amount ≤ largestAmount
 unfolding fits
 fits-amount l uploading awaited e h = in-form e (simp and-eq-true-iff at h .0 .0 .0 .0) .amount-most
 
 pub fitting-bounded : (p : Entry → Bool) (l : ℕ) (uploading : Bool) (awaited : Found) (es : List Entry)
-    → every (fitsAt l uploading awaited) 0 es ≡ true → sumOf p (λ e. e .amount) es ≤ length es * 9999999999
+    → every (fitsAt l uploading awaited) 0 es ≡ true → sumOf p (λ e. e .amount) es ≤ length es * largestAmount
 fitting-bounded p l uploading awaited es h =
-    sum-bounded p (λ e. e .amount) 9999999999 0 es
-    (every-implies (fitsAt l uploading awaited) (λ k e. leb (e .amount) 9999999999)
+    sum-bounded p (λ e. e .amount) largestAmount 0 es
+    (every-implies (fitsAt l uploading awaited) (λ k e. leb (e .amount) largestAmount)
     (λ k e a. le-leb _ _ (fits-amount l uploading (isAt awaited k) e a)) 0 es h)
 
 -- debit and credit are two sides
@@ -149,8 +150,8 @@ credit-same : (f : Entry → Entry) → KeepsTotals f → (e : Entry) → credit
 unfolding creditEntry
 credit-same f h e = rw (h .kind-same e)
 
-pub totals-changed : (f : Entry → Entry) → KeepsTotals f → (i : ℕ) (es : List Entry) → totalsOf (changed i f es) ≡ totalsOf es
-unfolding totalsOf
+pub totals-changed : (f : Entry → Entry) → KeepsTotals f → (i : ℕ) (es : List Entry) → totalsOf (changedAt i f es) ≡ totalsOf es
+unfolding sumsOf
 totals-changed f h i es =
     rw (
       sum-changed debitEntry (λ e. e .amount) f (debit-same f h) (h .amount-same) i es,
@@ -160,7 +161,7 @@ totals-changed f h i es =
     )
 
 pub totals-last : (es : List Entry) (e : Entry) → totalsOf (es ++ (e ∷ [])) ≡ withEntry (totalsOf es) e
-unfolding totalsOf withEntry
+unfolding sumsOf withEntry
 totals-last es e =
     rw (
       sum-last debitEntry (λ e. e .amount) es e,
@@ -187,7 +188,7 @@ unfolding withEntry
 gathered-more t e es = simp add-assoc
 
 gathered-all : (es : List Entry) → gathered (record { debit = 0; debits = 0; credit = 0; credits = 0 }) es ≡ totalsOf es
-unfolding totalsOf
+unfolding sumsOf
 gathered-all es = simp zero-add
 
 -- what a loop that sums keeps: the totals t of the first i entries of es, with those left

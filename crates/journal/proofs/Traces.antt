@@ -10,7 +10,7 @@ use lib.ListN.{length}
 use borrow.Author.Tests.{eq-eqb, ne-eqb, not-true, eqb-false}
 use Rattle.entry.specs.declared.Entry.{Entry}
 use Rattle.journal.specs.declared.Found.the-variants.{Nowhere}
-use Rattle.journal.specs.Journal.{entryAt, firstOf, hasTrace, absent, distinct, withVoided, withMark, withResends, changed}
+use Rattle.journal.specs.Journal.{entryAt, firstOf, hasTrace, absent, distinct, withVoided, withMark, withResends, changedAt}
 use Rattle.journal.proofs.Searches.{every-last, every-at, every-all, every-changed, every-place, first-nowhere, nowhere-first}
 
 -- a change that keeps the trace
@@ -68,7 +68,7 @@ pub absent-last : (x : ℕ) (es : List Entry) (e : Entry) → absent x (es ++ (e
 unfolding absent
 absent-last x es e = every-last (other x) 0 es e
 
-pub absent-changed : (f : Entry → Entry) → KeepsTrace f → (x i : ℕ) (es : List Entry) → absent x (changed i f es) ≡ absent x es
+pub absent-changed : (f : Entry → Entry) → KeepsTrace f → (x i : ℕ) (es : List Entry) → absent x (changedAt i f es) ≡ absent x es
 unfolding absent hasTrace
 absent-changed f h x i es = every-changed (other x) f (λ k e. rw (h e)) i 0 es
 
@@ -84,7 +84,7 @@ distinct-last (x ∷ es) e =
     rw (absent-last (x .trace .0) es e, distinct-last es e, absent-more (e .trace .0) x es, has-comm x e)
     (swap (absent (x .trace .0) es) (not (hasTrace (e .trace .0) x)) (distinct es) (absent (e .trace .0) es))
 
-pub distinct-changed : (f : Entry → Entry) → KeepsTrace f → (i : ℕ) (es : List Entry) → distinct (changed i f es) ≡ distinct es
+pub distinct-changed : (f : Entry → Entry) → KeepsTrace f → (i : ℕ) (es : List Entry) → distinct (changedAt i f es) ≡ distinct es
 distinct-changed f h i [] = refl
 distinct-changed f h zero (e ∷ es) = rw (h e)
 distinct-changed f h (suc i) (e ∷ es) = rw (absent-changed f h (e .trace .0) i es, distinct-changed f h i es)

@@ -4,7 +4,8 @@ use mathlib.Core.Bool.{Bool, true, false, cond, not, _&&_}
 use Prim.Native.Nat.{ℕ, zero, suc, _+_, _*_}
 use lib.Dec.{leb, ltb, eqb}
 use lib.ListN.{length, take, drop, set}
-use Rattle.kinds.specs.Kinds.{isDebit, isCredit, isDue}
+use Rattle.numbers.specs.Numbers.{following}
+use Rattle.kinds.specs.Kinds.{isDebit, isCredit, isDue, originalKind}
 use Rattle.entry.specs.Entry.{entrySize, decode, encode, blank}
 use Rattle.entry.specs.Form.{fits}
 use Rattle.entry.specs.declared.Entry.{Entry}
@@ -12,7 +13,7 @@ use Rattle.journal.specs.declared.Found.{Found}
 use Rattle.journal.specs.declared.Found.the-variants.{At, Nowhere}
 use Rattle.journal.specs.declared.Query.{Query}
 use Rattle.journal.specs.declared.Query.the-variants.{Trace as OfTrace, Original, Due}
-use Rattle.journal.specs.declared.Totals.{Totals}
+use Rattle.kinds.specs.declared.Totals.{Totals}
 
 -- the first n entries of the bytes j; what does not stand there whole is no entry, and bytes after the last are not read
 abbrev pub entriesOf : ℕ → List ℕ → List Entry
@@ -53,11 +54,16 @@ amount e = e .amount
 abbrev one : Entry → ℕ
 one e = 1
 
-unfoldable pub totalsOf : List Entry → Totals
-totalsOf es =
+-- of the entries that satisfy p
+unfoldable pub sumsOf : (Entry → Bool) → List Entry → Totals
+sumsOf p es =
     record {
-      debit = sumOf debitEntry amount es; debits = sumOf debitEntry one es;
-      credit = sumOf creditEntry amount es; credits = sumOf creditEntry one es }
+      debit = sumOf (λ e. p e && debitEntry e) amount es; debits = sumOf (λ e. p e && debitEntry e) one es;
+      credit = sumOf (λ e. p e && creditEntry e) amount es; credits = sumOf (λ e. p e && creditEntry e) one es }
+
+-- of all entries
+abbrev pub totalsOf : List Entry → Totals
+totalsOf es = sumsOf (λ e. true) es
 
 -- an entry has this trace
 unfoldable pub hasTrace : ℕ → Entry → Bool
@@ -66,6 +72,10 @@ hasTrace x e = eqb (e .trace .0) x
 -- rule 19: an entry of this kind has this trace
 unfoldable pub isOriginal : ℕ → ℕ → Entry → Bool
 isOriginal k x e = eqb (e .kind) k && hasTrace x e
+
+-- the entry that a void of a kind is for: its kind is the needed one, and it has this trace
+abbrev pub originalFor : ℕ → ℕ → List Entry → Found
+originalFor kind x es = firstOf (isOriginal (originalKind kind) x) 0 es
 
 -- an entry is due and has this upload mark
 unfoldable pub dueWith : ℕ → Entry → Bool
@@ -76,11 +86,17 @@ asked (OfTrace x) e = hasTrace (x .0) e
 asked (Original k x) e = isOriginal k (x .0) e
 asked (Due mark) e = dueWith mark e
 
--- an entry at its place, which may be that of the awaited item, keeps what rule 2 says of it alone
+-- there is no such entry
+abbrev pub nowhere : Found → Bool
+nowhere (At i) = false
+nowhere Nowhere = true
+
+-- it is entry i
 abbrev pub isAt : Found → ℕ → Bool
 isAt (At k) i = eqb k i
 isAt Nowhere i = false
 
+-- an entry at its place, which may be that of the awaited item, keeps what rule 2 says of it alone
 abbrev pub fitsAt : ℕ → Bool → Found → ℕ → Entry → Bool
 fitsAt l uploading awaited i e = fits l uploading (isAt awaited i) e
 
@@ -100,10 +116,7 @@ abbrev pub distinct : List Entry → Bool
 distinct [] = true
 distinct (e ∷ es) = absent (e .trace .0) es && distinct es
 
--- each new message takes the next trace; after 999999 comes 1; a number in the journal is skipped
-unfoldable pub following : ℕ → ℕ
-following x = cond (ltb x 999999) (x + 1) 1
-
+-- each new message takes the next trace; a number in the journal is skipped
 abbrev pub takenFrom : ℕ → List Entry → ℕ → ℕ
 takenFrom zero es x = x
 takenFrom (suc k) es x = cond (absent x es) x (takenFrom k es (following x))
@@ -119,7 +132,7 @@ putEntry i e j =
       (take (entrySize * i) j ++ (encode e ++ drop (entrySize * i + entrySize) j))
       j
 
--- the bytes j with a byte of entry i changed: 1 voided, 2 upload mark, 3 resends
+-- the bytes j with a byte of entry i changedAt: 1 voided, 2 upload mark, 3 resends
 unfoldable pub setByte : ℕ → ℕ → ℕ → List ℕ → List ℕ
 setByte i at x j = set j (entrySize * i + at) x
 
@@ -145,8 +158,8 @@ withResends x e =
       digits = e .digits; card = e .card; date = e .date;
       authorisation = e .authorisation; reference = e .reference; reserved = e .reserved }
 
--- the entries with entry i changed by f
-abbrev pub changed : ℕ → (Entry → Entry) → List Entry → List Entry
-changed i f [] = []
-changed zero f (e ∷ es) = f e ∷ es
-changed (suc i) f (e ∷ es) = e ∷ changed i f es
+-- the entries with entry i changedAt by f
+abbrev pub changedAt : ℕ → (Entry → Entry) → List Entry → List Entry
+changedAt i f [] = []
+changedAt zero f (e ∷ es) = f e ∷ es
+changedAt (suc i) f (e ∷ es) = e ∷ changedAt i f es

@@ -2,7 +2,7 @@
 use mathlib.Core.Bool.{cond}
 use Prim.Native.Nat.{_+_, _≤_, _<_}
 use Rattle.entry.specs.declared.Entry.{Entry}
-use Rattle.journal.specs.declared.Totals.{Totals}
+use Rattle.kinds.specs.declared.Totals.{Totals}
 use Rattle.journal.specs.Journal.{debitEntry, creditEntry}
 
 -- the totals with one entry more

@@ -1,12 +1,13 @@
 // The journal: lent bytes, one entry per approval, oldest first (document 01, "State and journal").
 use entry::Entry;
 use kinds::Side;
-use parts::Trace;
+use kinds::Totals;
+use numbers::Trace;
 ghost use mathlib.Core.Path.{_≡_};
 ghost use Prim.Native.Nat.{_+_, _*_, _≤_, _<_};
 ghost use lib.ListN.{length, take, drop};
-ghost use Rattle.entry.specs.Entry.{decode};
-ghost use Rattle.journal.specs.Journal.{entriesOf, entryAt, every, firstOf, asked, totalsOf, isAt, fitsAt, nextDue, putEntry, setByte};
+ghost use Rattle.entry.specs.Entry.{decode, entrySize};
+ghost use Rattle.journal.specs.Journal.{entriesOf, entryAt, every, firstOf, asked, totalsOf, isAt, nowhere, originalFor, fitsAt, nextDue, putEntry, setByte};
 ghost use Rattle.journal.specs.Sums.{withEntry, Room};
 
 // The place of an entry, the oldest being 0, or that there is none.
@@ -15,36 +16,33 @@ pub enum Found {
     Nowhere,
 }
 
+impl Found {
+    // Whether there is no such entry.
+    pub fn is_nowhere(self) -> bool
+        ensures { λ r. ⌜ r ≡ nowhere self ⌝ }
+    {
+        match self {
+            Found::At(_) => false,
+            Found::Nowhere => true,
+        }
+    }
+
+    // Whether it is entry i.
+    pub fn is_at(self, i: u16) -> bool
+        ensures { λ r. ⌜ r ≡ isAt self i ⌝ }
+    {
+        match self {
+            Found::At(k) => k == i,
+            Found::Nowhere => false,
+        }
+    }
+}
+
 // What an entry is looked for by.
 pub enum Query {
     Trace(Trace),
     Original { kind: u8, trace: Trace },
     Due(u8),
-}
-
-// Debit and credit, amounts and counts.
-pub struct Totals {
-    pub debit: u64,
-    pub debits: u16,
-    pub credit: u64,
-    pub credits: u16,
-}
-
-fn wide(x: u16) -> usize
-    ensures { λ r. ⌜ (r ≡ x) × (r < 65536) ⌝ }
-{
-    x as usize
-}
-
-// The entry whose bytes begin at an index.
-fn load(journal: &[u8], at: usize) -> Entry
-    requires { ⌜ at + 48 ≤ length (now journal) ⌝ }
-    ensures { λ r. ⌜ r ≡ decode (take 48 (drop at (now (journal .entry)))) ⌝ }
-{
-    let mut b = [0u8; 48];
-    let end = at + Entry::SIZE;
-    bytes::copy(&journal[at..end], &mut b);
-    entry::entry_of(&b)
 }
 
 // Entry i of the first n.
@@ -59,18 +57,6 @@ pub fn entry_at(journal: &[u8], n: u16, i: u16) -> Entry
         return entry::blank();
     }
     load(journal, at)
-}
-
-// Whether an entry is what is looked for.
-fn is_asked(e: Entry, query: Query) -> bool
-    ensures { λ r. ⌜ r ≡ asked query e ⌝ }
-{
-    let own = e.trace;
-    match query {
-        Query::Trace(trace) => own.0 == trace.0,
-        Query::Original { kind, trace } => (e.kind == kind) & (own.0 == trace.0),
-        Query::Due(mark) => kinds::is_due(e.kind) & (e.mark == mark),
-    }
 }
 
 // The first entry that is what is looked for.
@@ -92,16 +78,6 @@ pub fn find(journal: &[u8], n: u16, query: Query) -> Found
     Found::Nowhere
 }
 
-// Whether the awaited item is entry i.
-fn is_at(awaited: Found, i: u16) -> bool
-    ensures { λ r. ⌜ r ≡ isAt awaited i ⌝ }
-{
-    match awaited {
-        Found::At(k) => k == i,
-        Found::Nowhere => false,
-    }
-}
-
 // Whether each entry keeps the clauses of rule 2 that are about it alone.
 pub fn all_fit(journal: &[u8], n: u16, sendings: u8, uploading: bool, awaited: Found) -> bool
     ensures { λ r. ⌜ r ≡ every (fitsAt sendings uploading awaited) 0 (entriesOf n (now (journal .entry))) ⌝ }
@@ -112,35 +88,13 @@ pub fn all_fit(journal: &[u8], n: u16, sendings: u8, uploading: bool, awaited: F
         if journal.len() - at < Entry::SIZE {
             return true;
         }
-        if !entry::fits(load(journal, at), sendings, uploading, is_at(awaited, i)) {
+        if !entry::fits(load(journal, at), sendings, uploading, awaited.is_at(i)) {
             return false;
         }
         at += Entry::SIZE;
         i += 1;
     }
     true
-}
-
-// The totals with one entry more.
-fn plus(sums: Totals, e: Entry) -> Totals
-    requires { ⌜ Room sums e ⌝ }
-    ensures { λ r. ⌜ r ≡ withEntry sums e ⌝ }
-{
-    match kinds::side_of(e.kind) {
-        Side::Debit => Totals {
-            debit: sums.debit + e.amount,
-            debits: sums.debits + 1,
-            credit: sums.credit,
-            credits: sums.credits,
-        },
-        Side::Credit => Totals {
-            debit: sums.debit,
-            debits: sums.debits,
-            credit: sums.credit + e.amount,
-            credits: sums.credits + 1,
-        },
-        Side::Neither => sums,
-    }
 }
 
 pub fn totals_of(journal: &[u8], n: u16) -> Totals
@@ -163,6 +117,17 @@ pub fn totals_of(journal: &[u8], n: u16) -> Totals
         i += 1;
     }
     sums
+}
+
+// The entry that a void of a kind is for: its kind is the needed one, and it has this trace.
+pub fn find_original(journal: &[u8], n: u16, kind: u8, trace: Trace) -> Found
+    ensures { λ r. ⌜ r ≡ originalFor kind (trace .0) (entriesOf n (now (journal .entry))) ⌝ }
+{
+    let query = Query::Original {
+        kind: kinds::original_kind(kind),
+        trace: trace,
+    };
+    find(journal, n, query)
 }
 
 // The first due entry of mark 0 or, where no due one is 0, of mark 1.
@@ -194,5 +159,56 @@ pub fn set_byte(journal: &mut [u8], i: u16, offset: u8, x: u8)
     let at = Entry::SIZE * wide(i) + offset as usize;
     if at < journal.len() {
         journal[at] = x;
+    }
+}
+
+fn wide(x: u16) -> usize
+    ensures { λ r. ⌜ (r ≡ x) × (r < 65536) ⌝ }
+{
+    x as usize
+}
+
+// The entry whose bytes begin at an index.
+fn load(journal: &[u8], at: usize) -> Entry
+    requires { ⌜ at + entrySize ≤ length (now journal) ⌝ }
+    ensures { λ r. ⌜ r ≡ decode (take entrySize (drop at (now (journal .entry)))) ⌝ }
+{
+    let mut b = [0u8; Entry::SIZE];
+    let end = at + Entry::SIZE;
+    bytes::copy(&journal[at..end], &mut b);
+    entry::entry_of(&b)
+}
+
+// Whether an entry is what is looked for.
+fn is_asked(e: Entry, query: Query) -> bool
+    ensures { λ r. ⌜ r ≡ asked query e ⌝ }
+{
+    let own = e.trace;
+    match query {
+        Query::Trace(trace) => own.0 == trace.0,
+        Query::Original { kind, trace } => (e.kind == kind) & (own.0 == trace.0),
+        Query::Due(mark) => kinds::is_due(e.kind) & (e.mark == mark),
+    }
+}
+
+// The totals with one entry more.
+fn plus(sums: Totals, e: Entry) -> Totals
+    requires { ⌜ Room sums e ⌝ }
+    ensures { λ r. ⌜ r ≡ withEntry sums e ⌝ }
+{
+    match kinds::side_of(e.kind) {
+        Side::Debit => Totals {
+            debit: sums.debit + e.amount,
+            debits: sums.debits + 1,
+            credit: sums.credit,
+            credits: sums.credits,
+        },
+        Side::Credit => Totals {
+            debit: sums.debit,
+            debits: sums.debits,
+            credit: sums.credit + e.amount,
+            credits: sums.credits + 1,
+        },
+        Side::Neither => sums,
     }
 }

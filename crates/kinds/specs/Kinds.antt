@@ -47,6 +47,30 @@ takesOriginal k = eqb k 21 || eqb k 23
 unfoldable pub originalKind : ℕ → ℕ
 originalKind k = cond (eqb k 23) 22 20
 
+-- of the desk's data, 25 sends reference and date, 11 and 20 send authorisation and date; every kind but 21 and 23 sends the card
+abbrev pub keysReference : ℕ → Bool
+keysReference k = eqb k 25
+
+abbrev pub keysAuthorisation : ℕ → Bool
+keysAuthorisation k = eqb k 11 || eqb k 20
+
+abbrev pub keysDate : ℕ → Bool
+keysDate k = eqb k 11 || eqb k 20 || eqb k 25
+
+-- kinds 21 and 23 add 37 and 38 from the original, kind 25 adds 37, kinds 11 and 20 add 38
+abbrev pub sendsReference : ℕ → Bool
+sendsReference k = takesOriginal k || keysReference k
+
+abbrev pub sendsAuthorisation : ℕ → Bool
+sendsAuthorisation k = takesOriginal k || keysAuthorisation k
+
+-- rule 17 is for 25; a 25 is never reversed
+abbrev pub isRefund : ℕ → Bool
+isRefund k = eqb k 25
+
+abbrev pub isNeverReversed : ℕ → Bool
+isNeverReversed k = eqb k 25
+
 -- rule 2: a voided mark stands on 20 or 22 only
 unfoldable pub isVoidable : ℕ → Bool
 isVoidable k = eqb k 20 || eqb k 22

@@ -1,12 +1,20 @@
 // The kinds of card request, which are the numbers of field 60.1 (document 01, "Kinds").
 ghost use mathlib.Core.Path.{_≡_};
-ghost use Rattle.kinds.specs.Kinds.{isKind, indicatorOf, processingOf, conditionOf, sideOf, isDue, takesOriginal, originalKind, isVoidable};
+ghost use Rattle.kinds.specs.Kinds.{isKind, indicatorOf, processingOf, conditionOf, sideOf, isDue, takesOriginal, originalKind, keysReference, keysAuthorisation, keysDate, isRefund, isNeverReversed, isVoidable};
 
 // The side of the settlement that a kind's amount stands on.
 pub enum Side {
     Debit,
     Credit,
     Neither,
+}
+
+// Debit and credit, amounts and counts.
+pub struct Totals {
+    pub debit: u64,
+    pub debits: u16,
+    pub credit: u64,
+    pub credits: u16,
 }
 
 pub fn is_kind(kind: u8) -> bool
@@ -93,6 +101,39 @@ pub fn original_kind(kind: u8) -> u8
         return 22;
     }
     20
+}
+
+// Whether a request of this kind sends the desk's reference, authorisation or date.
+pub fn keys_reference(kind: u8) -> bool
+    ensures { λ r. ⌜ r ≡ keysReference kind ⌝ }
+{
+    kind == 25
+}
+
+pub fn keys_authorisation(kind: u8) -> bool
+    ensures { λ r. ⌜ r ≡ keysAuthorisation kind ⌝ }
+{
+    (kind == 11) | (kind == 20)
+}
+
+pub fn keys_date(kind: u8) -> bool
+    ensures { λ r. ⌜ r ≡ keysDate kind ⌝ }
+{
+    (kind == 11) | (kind == 20) | (kind == 25)
+}
+
+// Whether the largest refund is set for this kind.
+pub fn is_refund(kind: u8) -> bool
+    ensures { λ r. ⌜ r ≡ isRefund kind ⌝ }
+{
+    kind == 25
+}
+
+// Whether a request of this kind is never reversed.
+pub fn is_never_reversed(kind: u8) -> bool
+    ensures { λ r. ⌜ r ≡ isNeverReversed kind ⌝ }
+{
+    kind == 25
 }
 
 // Whether an entry of this kind may be voided.

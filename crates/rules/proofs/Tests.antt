@@ -7,19 +7,21 @@ use native.Mathlib.Omega.{arith}
 use lib.Dec.{leb, ltb, eqb}
 use lib.ListN.{length, getD}
 use borrow.Author.Tests.{lt-ltb, le-ltb, le-leb, lt-leb, ltb-true, ltb-false}
+use Rattle.numbers.specs.Limits.{largestTotal}
+use Rattle.numbers.specs.Numbers.{within}
 use Rattle.message.specs.Message.{largest}
 use Rattle.entry.specs.Entry.{entrySize}
-use Rattle.entry.specs.Form.{within, inForm, keepsVoided, keepsUnmarked, keepsResends, keepsSilent, fits}
+use Rattle.entry.specs.Form.{inForm, keepsVoided, keepsUnmarked, keepsResends, keepsSilent, fits}
 use Rattle.entry.specs.declared.Entry.{Entry}
-use Rattle.journal.specs.Journal.{entriesOf, every, firstOf, hasTrace, isAt, fitsAt, totalsOf, absent, distinct}
+use Rattle.journal.specs.Journal.{entriesOf, every, firstOf, hasTrace, isAt, fitsAt, totalsOf, absent, distinct, nowhere}
 use Rattle.journal.specs.declared.Found.{Found}
 use Rattle.journal.specs.declared.Found.the-variants.{At, Nowhere}
 use Rattle.journal.proofs.Traces.{absent-first, first-absent}
 use Rattle.state.specs.declared.Card.{Card}
 use Rattle.state.specs.declared.Request.{Request}
 use Rattle.state.specs.declared.State.{State}
-use Rattle.state.specs.Calls.{firstBroken}
-use Rattle.rules.specs.Rules.{settingsInForm, isCard, stateInForm, inUpload, awaitedItem, passes, sumsKept, waiting, balanced, past, originalLeft, requestKept, nowhere, phaseKept, tooShort, inOrder, rules12}
+use Rattle.checks.specs.Checks.{firstBroken}
+use Rattle.rules.specs.Rules.{stateKept, journalKept, settingsInForm, isCard, stateInForm, inUpload, awaitedItem, exceeds, sumsKept, waiting, balanced, past, originalUnvoided, requestKept, phaseKept, tooShort, keepsRule2, rules12}
 
 -- a card of too few or too many digits
 pub few-digits : (c : Card) → c .length < 13 → false ≡ isCard c
@@ -51,15 +53,15 @@ right-digits c a b =
     rw (le-leb 13 (c .length) a, le-leb (c .length) 19 b, power-at (c .length - 13) (omega arith), e)
 
 -- a total past 999,999,999,999, without a sum that might not fit
-pub passes-alone : (total amount : ℕ) → 999999999999 < amount → true ≡ passes total amount
-passes-alone total amount h = rw (lt-ltb 999999999999 (total + amount) (omega arith))
+pub exceeds-alone : (total amount : ℕ) → largestTotal < amount → true ≡ exceeds total amount
+exceeds-alone total amount h = rw (lt-ltb largestTotal (total + amount) (omega arith))
 
-pub passes-both : (total amount : ℕ) → amount ≤ 999999999999 → ltb (999999999999 - amount) total ≡ passes total amount
-passes-both total amount h = go (ltb (999999999999 - amount) total) refl
+pub exceeds-both : (total amount : ℕ) → amount ≤ largestTotal → ltb (largestTotal - amount) total ≡ exceeds total amount
+exceeds-both total amount h = go (ltb (largestTotal - amount) total) refl
   where
-    go : (b : Bool) → ltb (999999999999 - amount) total ≡ b → b ≡ passes total amount
-    go true e = let l = ltb-true (999999999999 - amount) total e in rw (lt-ltb 999999999999 (total + amount) (omega arith))
-    go false e = let l = ltb-false (999999999999 - amount) total e in rw (le-ltb 999999999999 (total + amount) (omega arith))
+    go : (b : Bool) → ltb (largestTotal - amount) total ≡ b → b ≡ exceeds total amount
+    go true e = let l = ltb-true (largestTotal - amount) total e in rw (lt-ltb largestTotal (total + amount) (omega arith))
+    go false e = let l = ltb-false (largestTotal - amount) total e in rw (le-ltb largestTotal (total + amount) (omega arith))
 
 -- a search that finds nothing
 pub nowhere-absent : (x : ℕ) (es : List Entry) → nowhere (firstOf (hasTrace x) 0 es) ≡ absent x es
@@ -96,41 +98,59 @@ every-fits l up item es =
       every-both (λ i e. inForm e) (λ i e. keepsVoided e) 0 es,
     )
 
--- the tests of rule 2 one after another, where the entries are no more than the limit
-pub joined : (a b f g h k m d s w p : Bool)
-    → (a && b && (f && g && h && k && m) && d && s && w && p)
-    ≡ (a && (b && (f && (g && (h && (k && (m && (d && (s && (w && (p && true)))))))))))
-joined false b f g h k m d s w p = refl
-joined true false f g h k m d s w p = refl
-joined true true false g h k m d s w p = refl
-joined true true true false h k m d s w p = refl
-joined true true true true false k m d s w p = refl
-joined true true true true true false m d s w p = refl
-joined true true true true true true false d s w p = refl
-joined true true true true true true true false s w p = refl
-joined true true true true true true true true false w p = refl
-joined true true true true true true true true true false p = refl
-joined true true true true true true true true true true false = refl
-joined true true true true true true true true true true true = refl
+-- the tests of the journal in the order of the code, and in the page's
+pub joined : (f g h k m d s : Bool)
+    → ((f && g && h && k && m) && d && s) ≡ (f && (d && (g && (s && (h && (k && (m && true)))))))
+joined false g h k m d s = refl
+joined true false h k m false s = refl
+joined true false h k m true s = refl
+joined true true false k m false s = refl
+joined true true false k m true false = refl
+joined true true false k m true true = refl
+joined true true true false m false s = refl
+joined true true true false m true false = refl
+joined true true true false m true true = refl
+joined true true true true false false s = refl
+joined true true true true false true false = refl
+joined true true true true false true true = refl
+joined true true true true true false s = refl
+joined true true true true true true false = refl
+joined true true true true true true true = refl
 
-pub in-order-is : (s : State) (es : List Entry) → s .entries ≤ s .settings .limit
-    → (settingsInForm (s .settings) && stateInForm s
-    && every (fitsAt (s .settings .sendings) (inUpload (s .phase)) (awaitedItem (s .phase))) 0 es
-    && distinct es && sumsKept (totalsOf es) && balanced (s .counts) (waiting (s .phase)) (s .entries)
-    && phaseKept (s .settings) (s .entries) es (s .phase))
-    ≡ inOrder s es
-unfolding inOrder
-in-order-is s es h =
-    rw (le-leb (s .entries) (s .settings .limit) h, every-fits (s .settings .sendings) (inUpload (s .phase)) (awaitedItem (s .phase)) es)
-    (joined (settingsInForm (s .settings)) (stateInForm s) (every (λ i e. inForm e) 0 es) (every (λ i e. keepsVoided e) 0 es)
-    (every (λ i e. keepsUnmarked (inUpload (s .phase)) e) 0 es) (every (λ i e. keepsResends (s .settings .sendings) e) 0 es)
-    (every (λ i e. keepsSilent (s .settings .sendings) (isAt (awaitedItem (s .phase)) i) e) 0 es) (distinct es)
-    (sumsKept (totalsOf es)) (balanced (s .counts) (waiting (s .phase)) (s .entries))
-    (phaseKept (s .settings) (s .entries) es (s .phase)))
+pub journal-kept-is : (l : ℕ) (uploading : Bool) (item : Found) (es : List Entry)
+    → (every (fitsAt l uploading item) 0 es && distinct es && sumsKept (totalsOf es)) ≡ journalKept l uploading item es
+unfolding journalKept
+journal-kept-is l uploading item es =
+    rw (every-fits l uploading item es)
+    (joined (every (λ i e. inForm e) 0 es) (every (λ i e. keepsVoided e) 0 es) (every (λ i e. keepsUnmarked uploading e) 0 es)
+    (every (λ i e. keepsResends l e) 0 es) (every (λ i e. keepsSilent l (isAt item i) e) 0 es) (distinct es) (sumsKept (totalsOf es)))
 
-pub too-many : (s : State) (es : List Entry) → s .settings .limit < s .entries → false ≡ inOrder s es
-unfolding inOrder
-too-many s es h = rw (lt-leb (s .entries) (s .settings .limit) h)
+-- the tests of the state
+pub state-kept-is : (s : State) {a b c d : Bool} → a ≡ settingsInForm (s .settings) → b ≡ stateInForm s
+    → c ≡ leb (s .entries) (s .settings .limit) → d ≡ balanced (s .counts) (waiting (s .phase)) (s .entries)
+    → (a && b && c && d) ≡ stateKept s
+unfolding stateKept
+state-kept-is s {a} {b} {c} {d} p q r t = rw (← p, ← q, ← r, ← t) (go a b c d)
+  where
+    go : (a b c d : Bool) → (a && b && c && d) ≡ (a && (b && (c && (d && true))))
+    go false b c d = refl
+    go true false c d = refl
+    go true true false d = refl
+    go true true true false = refl
+    go true true true true = refl
+
+-- where settings and state break a rule, rule 2 is broken; else it goes by journal and phase
+pub state-broken : (s : State) (es : List Entry) (b : Bool) → b ≡ stateKept s → not b ≡ true → false ≡ keepsRule2 s es
+unfolding keepsRule2
+state-broken s es true e h = absurd (true≢false (sym h))
+state-broken s es false e h = rw (← e)
+
+pub state-right : (s : State) (es : List Entry) (b : Bool) {x y : Bool} → b ≡ stateKept s → not b ≡ false
+    → x ≡ journalKept (s .settings .sendings) (inUpload (s .phase)) (awaitedItem (s .phase)) es
+    → y ≡ phaseKept (s .settings) (s .entries) es (s .phase) → (x && y) ≡ keepsRule2 s es
+unfolding keepsRule2
+state-right s es false e h p q = absurd (true≢false h)
+state-right s es true e h p q = rw (← e, ← p, ← q)
 
 -- rules 1 and 2, one after another
 pub short-message : (s : State) (j m : List ℕ) → length m < largest → 1 ≡ firstBroken (rules12 s j m)
@@ -142,20 +162,20 @@ unfolding firstBroken tooShort
 short-journal s j m g h = rw (le-ltb (length m) largest g, lt-ltb (length j) (entrySize * s .settings .limit) h)
 
 pub no-order : (s : State) (j m : List ℕ) (r : Bool) → largest ≤ length m → entrySize * s .settings .limit ≤ length j
-    → r ≡ inOrder s (entriesOf (s .entries) j) → not r ≡ true → 2 ≡ firstBroken (rules12 s j m)
+    → r ≡ keepsRule2 s (entriesOf (s .entries) j) → not r ≡ true → 2 ≡ firstBroken (rules12 s j m)
 unfolding firstBroken tooShort
 no-order s j m true g h e t = absurd (true≢false (sym t))
 no-order s j m false g h e t = rw (le-ltb (length m) largest g, le-ltb (length j) (entrySize * s .settings .limit) h, ← e)
 
 pub all-kept : (s : State) (j m : List ℕ) (r : Bool) → largest ≤ length m → entrySize * s .settings .limit ≤ length j
-    → r ≡ inOrder s (entriesOf (s .entries) j) → not r ≡ false → 0 ≡ firstBroken (rules12 s j m)
+    → r ≡ keepsRule2 s (entriesOf (s .entries) j) → not r ≡ false → 0 ≡ firstBroken (rules12 s j m)
 unfolding firstBroken tooShort
 all-kept s j m false g h e t = absurd (true≢false t)
 all-kept s j m true g h e t = rw (le-ltb (length m) largest g, le-ltb (length j) (entrySize * s .settings .limit) h, ← e)
 
 -- an awaited request's tests, where its trace is looked for
 pub request-kept-is : (limit n : ℕ) (es : List Entry) (q : Request)
-    → (ltb n limit && not (past (q .kind) (q .amount) (totalsOf es)) && originalLeft (q .kind) (q .original .0) es
+    → (ltb n limit && not (past (q .kind) (q .amount) (totalsOf es)) && originalUnvoided (q .kind) (q .original .0) es
     && nowhere (firstOf (hasTrace (q .trace .0)) 0 es)) ≡ requestKept limit n es q
 unfolding requestKept
 request-kept-is limit n es q = rw (nowhere-absent (q .trace .0) es)

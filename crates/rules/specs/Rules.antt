@@ -1,21 +1,23 @@
 -- Document 01, "Why a call is turned down", rules 1 and 2.
-use mathlib.Core.List.{List, [], _∷_}
+use mathlib.Core.List.{List, [], _∷_, _++_}
 use mathlib.Core.Bool.{Bool, true, false, cond, not, _&&_, _||_}
 use Prim.Native.Nat.{ℕ, _+_, _*_, _^_}
 use lib.Dec.{leb, ltb, eqb}
 use lib.ListN.{length}
+use Rattle.numbers.specs.Limits.{largestAmount, largestTotal, mostRequests, mostEntries, mostSendings}
+use Rattle.numbers.specs.Numbers.{within, isNumber, isAmount}
 use Rattle.field.specs.Contents.{allPrintable}
 use Rattle.message.specs.Message.{largest}
-use Rattle.kinds.specs.Kinds.{isKind, sideOf, takesOriginal, originalKind}
+use Rattle.kinds.specs.Kinds.{isKind, sideOf, takesOriginal, isNeverReversed}
 use Rattle.kinds.specs.declared.Side.{Side}
 use Rattle.kinds.specs.declared.Side.the-variants.{Debit, Credit, Neither}
 use Rattle.entry.specs.Entry.{entrySize}
-use Rattle.entry.specs.Form.{within, inForm, keepsVoided, keepsUnmarked, keepsResends, keepsSilent}
+use Rattle.entry.specs.Form.{inForm, keepsVoided, keepsUnmarked, keepsResends, keepsSilent}
 use Rattle.entry.specs.declared.Entry.{Entry}
-use Rattle.journal.specs.Journal.{entriesOf, entryAt, every, firstOf, isOriginal, isAt, nextDue, totalsOf, absent, distinct}
+use Rattle.journal.specs.Journal.{entriesOf, entryAt, every, originalFor, nowhere, isAt, nextDue, totalsOf, absent, distinct}
 use Rattle.journal.specs.declared.Found.{Found}
 use Rattle.journal.specs.declared.Found.the-variants.{At, Nowhere}
-use Rattle.journal.specs.declared.Totals.{Totals}
+use Rattle.kinds.specs.declared.Totals.{Totals}
 use Rattle.state.specs.declared.Card.{Card}
 use Rattle.state.specs.declared.Request.{Request}
 use Rattle.state.specs.declared.Reversal.{Reversal}
@@ -26,29 +28,24 @@ use Rattle.state.specs.declared.Phase.the-variants.{Resting, Waiting, Pending, 
 use Rattle.state.specs.declared.Settings.{Settings}
 use Rattle.state.specs.declared.Counts.{Counts}
 use Rattle.state.specs.declared.State.{State}
-use Rattle.state.specs.Calls.{Rule, rule}
+use Rattle.checks.specs.Checks.{Rule, rule}
+use Rattle.state.specs.State.{isWaiting}
 
 -- 1. The message buffer is below 248 bytes, or the journal below 48 times the entry limit.
 unfoldable pub tooShort : State → List ℕ → List ℕ → Bool
 tooShort s j m = ltb (length m) largest || ltb (length j) (entrySize * s .settings .limit)
 
--- 2. A value out of its range or form.
--- Entry limit 1 to 300; sendings L 1 to 9; largest refund 1 to 9,999,999,999 fen; fields 41 and 42.
+-- 2. Settings, state or journal break a rule: in three parts, each in the page's order.
+
+-- Rule 2, settings and state.
+-- Entry limit 1 to 300; sendings L 1 to 9; largest refund 1 to 9,999,999,999 fen; fields 41 and 42 printable.
 unfoldable pub settingsInForm : Settings → Bool
 settingsInForm x =
-    within 1 (x .limit) 300
-    && within 1 (x .sendings) 9
-    && within 1 (x .refund) 9999999999
+    within 1 (x .limit) mostEntries
+    && within 1 (x .sendings) mostSendings
+    && within 1 (x .refund) largestAmount
     && allPrintable (x .terminal)
     && allPrintable (x .merchant)
-
--- a batch number or a trace number, 1 to 999999
-abbrev pub isNumber : ℕ → Bool
-isNumber x = within 1 x 999999
-
--- an amount, 1 to 9,999,999,999 fen
-abbrev pub isAmount : ℕ → Bool
-isAmount x = within 1 x 9999999999
 
 -- a card number of 13 to 19 digits
 unfoldable pub isCard : Card → Bool
@@ -65,7 +62,7 @@ requestInForm q =
 
 -- a refund is never reversed
 unfoldable pub reversalInForm : Reversal → Bool
-reversalInForm v = requestInForm (v .request) && not (eqb (v .request .kind) 25)
+reversalInForm v = requestInForm (v .request) && not (isNeverReversed (v .request .kind))
 
 abbrev pub awaitedInForm : Awaited → Bool
 awaitedInForm (awaited.Request q) = requestInForm q
@@ -86,9 +83,86 @@ unfoldable pub stateInForm : State → Bool
 stateInForm s =
     isNumber (s .batch .0)
     && isNumber (s .next .0)
-    && leb (s .counts .sent) 900000
+    && leb (s .counts .sent) mostRequests
     && phaseInForm (s .phase)
 
+-- Waiting is 1 for a card request until its decision or, with a reversal, until its end.
+abbrev pub awaitedWaiting : Awaited → ℕ
+awaitedWaiting (awaited.Request q) = 1
+awaitedWaiting (awaited.Reversal v) = 1
+awaitedWaiting (awaited.Settlement x) = 0
+awaitedWaiting (awaited.Item i) = 0
+awaitedWaiting (awaited.End x) = 0
+
+abbrev pub waiting : Phase → ℕ
+waiting Resting = 0
+waiting (Waiting a) = awaitedWaiting a
+waiting (Pending v) = 1
+waiting Settling = 0
+waiting Uploading = 0
+
+-- the sum in demand 3, and approved is the number of entries
+unfoldable pub balanced : Counts → ℕ → ℕ → Bool
+balanced c undecided n =
+    eqb (c .sent) (c .approved + c .declined + c .reversed + c .«given_up» + c .unanswered + undecided)
+    && eqb (c .approved) n
+
+abbrev pub allOf : List Bool → Bool
+allOf [] = true
+allOf (b ∷ bs) = b && allOf bs
+
+abbrev pub stateClauses : State → List Bool
+stateClauses s =
+    -- each value is in its range and form
+    settingsInForm (s .settings)
+    ∷ stateInForm s
+    -- no more entries than the limit
+    ∷ leb (s .entries) (s .settings .limit)
+    -- the counts balance
+    ∷ balanced (s .counts) (waiting (s .phase)) (s .entries)
+    ∷ []
+
+unfoldable pub stateKept : State → Bool
+stateKept s = allOf (stateClauses s)
+
+-- Rule 2, the journal: by L, whether it is the upload, and the place of the awaited item.
+-- Sums past rule 21: the kind's debit or credit total would pass 999,999,999,999.
+abbrev pub exceeds : ℕ → ℕ → Bool
+exceeds total amount = ltb largestTotal (total + amount)
+
+abbrev pub pastOn : Side → ℕ → Totals → Bool
+pastOn Debit amount t = exceeds (t .debit) amount
+pastOn Credit amount t = exceeds (t .credit) amount
+pastOn Neither amount t = false
+
+unfoldable pub past : ℕ → ℕ → Totals → Bool
+past kind amount t = pastOn (sideOf kind) amount t
+
+unfoldable pub sumsKept : Totals → Bool
+sumsKept t = leb (t .debit) largestTotal && leb (t .credit) largestTotal
+
+abbrev pub journalClauses : ℕ → Bool → Found → List Entry → List Bool
+journalClauses l uploading item es =
+    -- each value is in its range and form
+    every (λ i e. inForm e) 0 es
+    -- no two entries have one trace
+    ∷ distinct es
+    -- a voided mark stands on 20 or 22 only
+    ∷ every (λ i e. keepsVoided e) 0 es
+    -- the sums are not past rule 21
+    ∷ sumsKept (totalsOf es)
+    -- outside the upload, and on an entry not due, mark and resends are 0
+    ∷ every (λ i e. keepsUnmarked uploading e) 0 es
+    -- resends are at most L, and 0 at mark 0
+    ∷ every (λ i e. keepsResends l e) 0 es
+    -- a mark 1 already resent L times is awaited
+    ∷ every (λ i e. keepsSilent l (isAt item i) e) 0 es
+    ∷ []
+
+unfoldable pub journalKept : ℕ → Bool → Found → List Entry → Bool
+journalKept l uploading item es = allOf (journalClauses l uploading item es)
+
+-- Rule 2, the phase.
 -- the upload is the phase uploading or the wait for an item or the end
 abbrev pub awaitedInUpload : Awaited → Bool
 awaitedInUpload (awaited.Request q) = false
@@ -119,64 +193,24 @@ awaitedItem (Pending v) = Nowhere
 awaitedItem Settling = Nowhere
 awaitedItem Uploading = Nowhere
 
--- Sums past rule 21: the kind's debit or credit total would pass 999,999,999,999.
-abbrev pub passes : ℕ → ℕ → Bool
-passes total amount = ltb 999999999999 (total + amount)
-
-abbrev pub pastOn : Side → ℕ → Totals → Bool
-pastOn Debit amount t = passes (t .debit) amount
-pastOn Credit amount t = passes (t .credit) amount
-pastOn Neither amount t = false
-
-unfoldable pub past : ℕ → ℕ → Totals → Bool
-past kind amount t = pastOn (sideOf kind) amount t
-
-unfoldable pub sumsKept : Totals → Bool
-sumsKept t = leb (t .debit) 999999999999 && leb (t .credit) 999999999999
-
--- Counts out of balance: the sum in demand 3, or approved not the number of entries.
--- Waiting is 1 for a card request until its decision or, with a reversal, until its end.
-abbrev pub awaitedWaiting : Awaited → ℕ
-awaitedWaiting (awaited.Request q) = 1
-awaitedWaiting (awaited.Reversal v) = 1
-awaitedWaiting (awaited.Settlement x) = 0
-awaitedWaiting (awaited.Item i) = 0
-awaitedWaiting (awaited.End x) = 0
-
-abbrev pub waiting : Phase → ℕ
-waiting Resting = 0
-waiting (Waiting a) = awaitedWaiting a
-waiting (Pending v) = 1
-waiting Settling = 0
-waiting Uploading = 0
-
-unfoldable pub balanced : Counts → ℕ → ℕ → Bool
-balanced c undecided n =
-    eqb (c .sent) (c .approved + c .declined + c .reversed + c .«given_up» + c .unanswered + undecided)
-    && eqb (c .approved) n
-
--- the entry that a void is for, where it is not voided yet
+-- the entry that a void is for is not voided yet
 abbrev pub unvoidedAt : Found → List Entry → Bool
 unvoidedAt (At i) es = eqb (entryAt es i .voided) 0
 unvoidedAt Nowhere es = false
 
-unfoldable pub originalLeft : ℕ → ℕ → List Entry → Bool
-originalLeft kind x es = cond (takesOriginal kind) (unvoidedAt (firstOf (isOriginal (originalKind kind) x) 0 es) es) true
+unfoldable pub originalUnvoided : ℕ → ℕ → List Entry → Bool
+originalUnvoided kind x es = cond (takesOriginal kind) (unvoidedAt (originalFor kind x es) es) true
 
--- An awaited card request for which the journal has no place, sum or unvoided original left or whose trace stands in it.
+-- for an awaited card request the journal has a place, a sum and an unvoided original left, and its trace does not stand in it
 unfoldable pub requestKept : ℕ → ℕ → List Entry → Request → Bool
 requestKept limit n es q =
     ltb n limit
     && not (past (q .kind) (q .amount) (totalsOf es))
-    && originalLeft (q .kind) (q .original .0) es
+    && originalUnvoided (q .kind) (q .original .0) es
     && absent (q .trace .0) es
 
-abbrev pub nowhere : Found → Bool
-nowhere (At i) = false
-nowhere Nowhere = true
-
--- An awaited item that is not the first due entry of mark 0 or, where no due one is 0, of mark 1; an upload's end awaited while
--- a due entry is 0 or 1; an awaited card request, see above; an awaited reversal never sent or sent more than L times.
+-- an awaited item is the first due entry of mark 0 or, where no due one is 0, of mark 1; at an awaited end no due entry is 0
+-- or 1; an awaited reversal has been sent, at most L times
 abbrev pub awaitedKept : Settings → ℕ → List Entry → Awaited → Bool
 awaitedKept x n es (awaited.Request q) = requestKept (x .limit) n es q
 awaitedKept x n es (awaited.Reversal v) = within 1 (v .sendings) (x .sendings)
@@ -184,7 +218,7 @@ awaitedKept x n es (awaited.Settlement t) = true
 awaitedKept x n es (awaited.Item i) = isAt (nextDue es) i
 awaitedKept x n es (awaited.End t) = nowhere (nextDue es)
 
--- a pending reversal already sent L times
+-- a pending reversal has been sent fewer than L times
 abbrev pub phaseKept : Settings → ℕ → List Entry → Phase → Bool
 phaseKept x n es Resting = true
 phaseKept x n es (Waiting a) = awaitedKept x n es a
@@ -192,40 +226,17 @@ phaseKept x n es (Pending v) = ltb (v .sendings) (x .sendings)
 phaseKept x n es Settling = true
 phaseKept x n es Uploading = true
 
-abbrev pub allOf : List Bool → Bool
-allOf [] = true
-allOf (b ∷ bs) = b && allOf bs
-
--- 2. Settings, state or journal break a rule: each clause of the page.
-abbrev pub clauses : State → List Entry → List Bool
-clauses s es =
-    -- 2.1 more entries than the limit
-    leb (s .entries) (s .settings .limit)
-    -- 2.2 a value out of its range or form
-    ∷ settingsInForm (s .settings)
-    ∷ stateInForm s
-    ∷ every (λ i e. inForm e) 0 es
-    -- 2.3 a voided mark on a kind other than 20 or 22
-    ∷ every (λ i e. keepsVoided e) 0 es
-    -- 2.4 a mark or resend other than 0 outside the upload or on an entry not due
-    ∷ every (λ i e. keepsUnmarked (inUpload (s .phase)) e) 0 es
-    -- 2.5 a resend at mark 0 or above L
-    ∷ every (λ i e. keepsResends (s .settings .sendings) e) 0 es
-    -- 2.6 a mark 1 already resent L times and not awaited
-    ∷ every (λ i e. keepsSilent (s .settings .sendings) (isAt (awaitedItem (s .phase)) i) e) 0 es
-    -- 2.7 two entries of one trace
-    ∷ distinct es
-    -- 2.8 sums past rule 21
-    ∷ sumsKept (totalsOf es)
-    -- 2.9 counts out of balance
-    ∷ balanced (s .counts) (waiting (s .phase)) (s .entries)
-    -- 2.10 an awaited item, an awaited end, an awaited card request, a pending or awaited reversal (awaitedKept, phaseKept)
-    ∷ phaseKept (s .settings) (s .entries) es (s .phase)
-    ∷ []
-
-unfoldable pub inOrder : State → List Entry → Bool
-inOrder s es = allOf (clauses s es)
+-- Rule 2 is kept.
+unfoldable pub keepsRule2 : State → List Entry → Bool
+keepsRule2 s es =
+    stateKept s
+    && journalKept (s .settings .sendings) (inUpload (s .phase)) (awaitedItem (s .phase)) es
+    && phaseKept (s .settings) (s .entries) es (s .phase)
 
 -- rules 1 and 2, which every call on a terminal begins with
 abbrev pub rules12 : State → List ℕ → List ℕ → List Rule
-rules12 s j m = rule 1 (tooShort s j m) ∷ rule 2 (not (inOrder s (entriesOf (s .entries) j))) ∷ []
+rules12 s j m = rule 1 (tooShort s j m) ∷ rule 2 (not (keepsRule2 s (entriesOf (s .entries) j))) ∷ []
+
+-- and 10 and 11: signed on, and nothing awaited
+abbrev pub idleRules : State → List ℕ → List ℕ → List Rule
+idleRules s j m = rules12 s j m ++ (rule 10 (not (s .«signed_on»)) ∷ rule 11 (isWaiting s) ∷ [])

@@ -2,7 +2,7 @@
 use entry::Entry;
 use journal::Found;
 use journal::Query;
-use journal::Totals;
+use kinds::Totals;
 use kinds::Side;
 use message::Message;
 use state::Awaited;
@@ -15,35 +15,9 @@ use state::Settings;
 use state::State;
 ghost use mathlib.Core.Path.{_≡_};
 ghost use Prim.Native.Nat.{_^_, _<_, _≤_};
-ghost use Rattle.entry.specs.Form.{within};
-ghost use Rattle.journal.specs.Journal.{entriesOf, isAt};
-ghost use Rattle.state.specs.Calls.{firstBroken};
-ghost use Rattle.rules.specs.Rules.{tooShort, settingsInForm, isNumber, isCard, requestInForm, reversalInForm, awaitedInForm, phaseInForm, stateInForm, awaitedInUpload, inUpload, itemIn, awaitedItem, passes, past, sumsKept, awaitedWaiting, waiting, balanced, unvoidedAt, originalLeft, requestKept, nowhere, awaitedKept, phaseKept, inOrder, rules12};
-
-fn is_within(low: u64, x: u64, high: u64) -> bool
-    ensures { λ r. ⌜ r ≡ within low x high ⌝ }
-{
-    (low <= x) & (x <= high)
-}
-
-// Whether x is a batch number or a trace number.
-pub fn is_number(x: u32) -> bool
-    ensures { λ r. ⌜ r ≡ isNumber x ⌝ }
-{
-    (1 <= x) & (x <= State::LAST_NUMBER)
-}
-
-fn settings_in_form(x: Settings) -> bool
-    ensures { λ r. ⌜ r ≡ settingsInForm x ⌝ }
-{
-    let terminal = x.terminal;
-    let merchant = x.merchant;
-    ((1 <= x.limit) & (x.limit <= State::MOST_ENTRIES))
-        & ((1 <= x.sendings) & (x.sendings <= State::MOST_SENDINGS))
-        & is_within(1, x.refund, State::LARGEST_AMOUNT)
-        & field::all_printable(&terminal)
-        & field::all_printable(&merchant)
-}
+ghost use Rattle.journal.specs.Journal.{entriesOf};
+ghost use Rattle.checks.specs.Checks.{firstBroken};
+ghost use Rattle.rules.specs.Rules.{settingsInForm, isCard, requestInForm, reversalInForm, awaitedInForm, phaseInForm, stateInForm, awaitedWaiting, waiting, balanced, stateKept, exceeds, past, sumsKept, journalKept, awaitedInUpload, inUpload, itemIn, awaitedItem, unvoidedAt, originalUnvoided, requestKept, awaitedKept, phaseKept, keepsRule2, rules12, idleRules};
 
 // The powers of ten from 10^13 to 10^19.
 const POWERS: [u64; 7] = [
@@ -72,6 +46,105 @@ pub fn is_card(card: Card) -> bool
     card.number < powers[k]
 }
 
+// Whether a kind's total would pass 999,999,999,999.
+pub fn is_past(kind: u8, amount: u64, t: Totals) -> bool
+    ensures { λ r. ⌜ r ≡ past kind amount t ⌝ }
+{
+    match kinds::side_of(kind) {
+        Side::Debit => exceeds(t.debit, amount),
+        Side::Credit => exceeds(t.credit, amount),
+        Side::Neither => false,
+    }
+}
+
+// How many card requests are undecided.
+pub fn waiting_in(p: Phase) -> u64
+    ensures { λ r. ⌜ (r ≡ waiting p) × (r ≤ 1) ⌝ }
+{
+    match p {
+        Phase::Resting => 0,
+        Phase::Waiting(a) => awaited_waiting(a),
+        Phase::Pending(_) => 1,
+        Phase::Settling => 0,
+        Phase::Uploading => 0,
+    }
+}
+
+// Rule 2, the journal of n entries: by the sendings set, whether it is the upload, and the place of the awaited item.
+pub fn journal_kept(journal: &[u8], n: u16, sendings: u8, uploading: bool, item: Found) -> bool
+    ensures { λ r. ⌜ r ≡ journalKept sendings uploading item (entriesOf n (now (journal .entry))) ⌝ }
+{
+    journal::all_fit(journal, n, sendings, uploading, item)
+        & traces::are_distinct(journal, n)
+        & sums_kept(journal::totals_of(journal, n))
+}
+
+// Rule 2: whether settings, state and journal break no rule.
+pub fn keeps_rule2(s: State, journal: &[u8]) -> bool
+    ensures { λ r. ⌜ r ≡ keepsRule2 s (entriesOf (s .entries) (now (journal .entry))) ⌝ }
+{
+    if !state_kept(s) {
+        return false;
+    }
+    let settings = s.settings;
+    let phase = s.phase;
+    let n = s.entries;
+    journal_kept(
+        journal,
+        n,
+        settings.sendings,
+        in_upload(phase),
+        awaited_item(phase),
+    ) & phase_kept(settings, journal, n, phase)
+}
+
+// The number of the first of rules 1 and 2 that is broken, 0 for none.
+pub fn first_refusal(s: State, journal: &[u8], message: &[u8]) -> u8
+    ensures { λ r. ⌜ r ≡ firstBroken (rules12 s (now (journal .entry)) (now (message .entry))) ⌝ }
+{
+    let settings = s.settings;
+    let limit = settings.limit as usize;
+    if message.len() < Message::LARGEST {
+        return 1;
+    }
+    if journal.len() < Entry::SIZE * limit {
+        return 1;
+    }
+    if !keeps_rule2(s, journal) {
+        return 2;
+    }
+    0
+}
+
+// The number of the first of rules 1, 2, 10 and 11 that is broken, 0 for none.
+pub fn idle_refusal(s: State, journal: &[u8], message: &[u8]) -> u8
+    ensures { λ r. ⌜ r ≡ firstBroken (idleRules s (now (journal .entry)) (now (message .entry))) ⌝ }
+{
+    let number = first_refusal(s, journal, message);
+    if number != 0 {
+        return number;
+    }
+    if !s.signed_on {
+        return 10;
+    }
+    if s.is_waiting() {
+        return 11;
+    }
+    0
+}
+
+fn settings_in_form(x: Settings) -> bool
+    ensures { λ r. ⌜ r ≡ settingsInForm x ⌝ }
+{
+    let terminal = x.terminal;
+    let merchant = x.merchant;
+    ((1 <= x.limit) & (x.limit <= numbers::MOST_ENTRIES))
+        & ((1 <= x.sendings) & (x.sendings <= numbers::MOST_SENDINGS))
+        & numbers::is_within(1, x.refund, numbers::LARGEST_AMOUNT)
+        & field::all_printable(&terminal)
+        & field::all_printable(&merchant)
+}
+
 fn request_in_form(q: Request) -> bool
     ensures { λ r. ⌜ r ≡ requestInForm q ⌝ }
 {
@@ -80,11 +153,11 @@ fn request_in_form(q: Request) -> bool
     let original = q.original;
     let number = original.0;
     let form = kinds::is_kind(q.kind)
-        & is_within(1, q.amount, State::LARGEST_AMOUNT)
+        & numbers::is_within(1, q.amount, numbers::LARGEST_AMOUNT)
         & is_card(card)
-        & is_number(trace.0);
+        & numbers::is_number(trace.0);
     if kinds::takes_original(q.kind) {
-        return form & is_number(number);
+        return form & numbers::is_number(number);
     }
     form & (number == 0)
 }
@@ -93,7 +166,7 @@ fn reversal_in_form(v: Reversal) -> bool
     ensures { λ r. ⌜ r ≡ reversalInForm v ⌝ }
 {
     let q = v.request;
-    request_in_form(q) & !(q.kind == 25)
+    request_in_form(q) & !kinds::is_never_reversed(q.kind)
 }
 
 fn awaited_in_form(a: Awaited) -> bool
@@ -102,9 +175,9 @@ fn awaited_in_form(a: Awaited) -> bool
     match a {
         Awaited::Request(q) => request_in_form(q),
         Awaited::Reversal(v) => reversal_in_form(v),
-        Awaited::Settlement(x) => is_number(x.0),
+        Awaited::Settlement(x) => numbers::is_number(x.0),
         Awaited::Item(_) => true,
-        Awaited::End(x) => is_number(x.0),
+        Awaited::End(x) => numbers::is_number(x.0),
     }
 }
 
@@ -127,9 +200,9 @@ fn state_in_form(s: State) -> bool
     let next = s.next;
     let counts = s.counts;
     let phase = s.phase;
-    is_number(batch.0)
-        & is_number(next.0)
-        & (counts.sent <= State::MOST_REQUESTS)
+    numbers::is_number(batch.0)
+        & numbers::is_number(next.0)
+        & (counts.sent <= numbers::MOST_REQUESTS)
         & phase_in_form(phase)
 }
 
@@ -181,30 +254,19 @@ fn awaited_item(p: Phase) -> Found
     }
 }
 
-fn passes(total: u64, amount: u64) -> bool
-    ensures { λ r. ⌜ r ≡ passes total amount ⌝ }
+fn exceeds(total: u64, amount: u64) -> bool
+    ensures { λ r. ⌜ r ≡ exceeds total amount ⌝ }
 {
-    if State::LARGEST_TOTAL < amount {
+    if numbers::LARGEST_TOTAL < amount {
         return true;
     }
-    State::LARGEST_TOTAL - amount < total
-}
-
-// Whether a kind's total would pass 999,999,999,999.
-pub fn is_past(kind: u8, amount: u64, t: Totals) -> bool
-    ensures { λ r. ⌜ r ≡ past kind amount t ⌝ }
-{
-    match kinds::side_of(kind) {
-        Side::Debit => passes(t.debit, amount),
-        Side::Credit => passes(t.credit, amount),
-        Side::Neither => false,
-    }
+    numbers::LARGEST_TOTAL - amount < total
 }
 
 fn sums_kept(t: Totals) -> bool
     ensures { λ r. ⌜ r ≡ sumsKept t ⌝ }
 {
-    (t.debit <= State::LARGEST_TOTAL) & (t.credit <= State::LARGEST_TOTAL)
+    (t.debit <= numbers::LARGEST_TOTAL) & (t.credit <= numbers::LARGEST_TOTAL)
 }
 
 fn awaited_waiting(a: Awaited) -> u64
@@ -216,19 +278,6 @@ fn awaited_waiting(a: Awaited) -> u64
         Awaited::Settlement(_) => 0,
         Awaited::Item(_) => 0,
         Awaited::End(_) => 0,
-    }
-}
-
-// How many card requests are undecided.
-pub fn waiting_in(p: Phase) -> u64
-    ensures { λ r. ⌜ (r ≡ waiting p) × (r ≤ 1) ⌝ }
-{
-    match p {
-        Phase::Resting => 0,
-        Phase::Waiting(a) => awaited_waiting(a),
-        Phase::Pending(_) => 1,
-        Phase::Settling => 0,
-        Phase::Uploading => 0,
     }
 }
 
@@ -256,37 +305,14 @@ fn unvoided_at(place: Found, journal: &[u8], n: u16) -> bool
     }
 }
 
-fn original_left(q: Request, journal: &[u8], n: u16) -> bool
-    ensures { λ r. ⌜ r ≡ originalLeft (q .kind) (q .original .0) (entriesOf n (now (journal .entry))) ⌝ }
+fn original_unvoided(q: Request, journal: &[u8], n: u16) -> bool
+    ensures { λ r. ⌜ r ≡ originalUnvoided (q .kind) (q .original .0) (entriesOf n (now (journal .entry))) ⌝ }
 {
     if kinds::takes_original(q.kind) {
         let original = q.original;
-        let query = Query::Original {
-            kind: kinds::original_kind(q.kind),
-            trace: original,
-        };
-        return unvoided_at(journal::find(journal, n, query), journal, n);
+        return unvoided_at(journal::find_original(journal, n, q.kind, original), journal, n);
     }
     true
-}
-
-// Whether there is no such entry.
-pub fn is_nowhere(place: Found) -> bool
-    ensures { λ r. ⌜ r ≡ nowhere place ⌝ }
-{
-    match place {
-        Found::At(_) => false,
-        Found::Nowhere => true,
-    }
-}
-
-fn is_at(place: Found, i: u16) -> bool
-    ensures { λ r. ⌜ r ≡ isAt place i ⌝ }
-{
-    match place {
-        Found::At(k) => k == i,
-        Found::Nowhere => false,
-    }
 }
 
 fn request_kept(limit: u32, journal: &[u8], n: u16, q: Request) -> bool
@@ -295,8 +321,8 @@ fn request_kept(limit: u32, journal: &[u8], n: u16, q: Request) -> bool
     let trace = q.trace;
     ((n as u32) < limit)
         & !is_past(q.kind, q.amount, journal::totals_of(journal, n))
-        & original_left(q, journal, n)
-        & is_nowhere(journal::find(journal, n, Query::Trace(trace)))
+        & original_unvoided(q, journal, n)
+        & journal::find(journal, n, Query::Trace(trace)).is_nowhere()
 }
 
 fn awaited_kept(x: Settings, journal: &[u8], n: u16, a: Awaited) -> bool
@@ -306,8 +332,8 @@ fn awaited_kept(x: Settings, journal: &[u8], n: u16, a: Awaited) -> bool
         Awaited::Request(q) => request_kept(x.limit, journal, n, q),
         Awaited::Reversal(v) => (1 <= v.sendings) & (v.sendings <= x.sendings),
         Awaited::Settlement(_) => true,
-        Awaited::Item(i) => is_at(journal::next_due(journal, n), i),
-        Awaited::End(_) => is_nowhere(journal::next_due(journal, n)),
+        Awaited::Item(i) => journal::next_due(journal, n).is_at(i),
+        Awaited::End(_) => journal::next_due(journal, n).is_nowhere(),
     }
 }
 
@@ -323,46 +349,15 @@ fn phase_kept(x: Settings, journal: &[u8], n: u16, p: Phase) -> bool
     }
 }
 
-// Rule 2: whether settings, state and journal break no rule.
-pub fn in_order(s: State, journal: &[u8]) -> bool
-    ensures { λ r. ⌜ r ≡ inOrder s (entriesOf (s .entries) (now (journal .entry))) ⌝ }
+// Rule 2, settings and state.
+fn state_kept(s: State) -> bool
+    ensures { λ r. ⌜ r ≡ stateKept s ⌝ }
 {
     let settings = s.settings;
     let counts = s.counts;
     let phase = s.phase;
-    let n = s.entries;
-    if settings.limit < n as u32 {
-        return false;
-    }
     settings_in_form(settings)
         & state_in_form(s)
-        & journal::all_fit(
-            journal,
-            n,
-            settings.sendings,
-            in_upload(phase),
-            awaited_item(phase),
-        )
-        & traces::are_distinct(journal, n)
-        & sums_kept(journal::totals_of(journal, n))
-        & is_balanced(counts, waiting_in(phase), n)
-        & phase_kept(settings, journal, n, phase)
-}
-
-// The number of the first of rules 1 and 2 that is broken, 0 for none.
-pub fn unfit(s: State, journal: &[u8], message: &[u8]) -> u8
-    ensures { λ r. ⌜ r ≡ firstBroken (rules12 s (now (journal .entry)) (now (message .entry))) ⌝ }
-{
-    let settings = s.settings;
-    let limit = settings.limit as usize;
-    if message.len() < Message::LARGEST {
-        return 1;
-    }
-    if journal.len() < Entry::SIZE * limit {
-        return 1;
-    }
-    if !in_order(s, journal) {
-        return 2;
-    }
-    0
+        & (s.entries as u32 <= settings.limit)
+        & is_balanced(counts, waiting_in(phase), s.entries)
 }

@@ -1,6 +1,6 @@
 -- Document 01, "Calls": one event gives back either a message to send, a quiet change or a refusal number.
-use mathlib.Core.List.{List, [], _∷_, _++_}
-use mathlib.Core.Bool.{Bool, cond}
+use mathlib.Core.List.{List, _++_}
+use mathlib.Core.Bool.{cond}
 use Prim.Native.Nat.{ℕ}
 use lib.Dec.{eqb}
 use lib.ListN.{length, drop}
@@ -28,21 +28,8 @@ abbrev pub quiet : State → List ℕ → List ℕ → Result
 quiet s j m = record { outcome = Quiet; state = s; journal = j; message = m }
 
 -- bytes that leave; bytes past them in the message buffer stay
-abbrev pub sent : List ℕ → State → List ℕ → List ℕ → Result
-sent bs s j m = record { outcome = Send (length bs); state = s; journal = j; message = bs ++ drop (length bs) m }
-
--- a rule's number, and whether a call breaks it
-pub record Rule : Type 0 where
-  pub number : ℕ
-  pub broken : Bool
-
-abbrev pub rule : ℕ → Bool → Rule
-rule n b = record { number = n; broken = b }
-
--- the number of the first rule of a list that is broken; 0 where none is
-unfoldable pub firstBroken : List Rule → ℕ
-firstBroken [] = 0
-firstBroken (r ∷ rs) = cond (r .broken) (r .number) (firstBroken rs)
+abbrev pub sends : List ℕ → State → List ℕ → List ℕ → Result
+sends bs s j m = record { outcome = Send (length bs); state = s; journal = j; message = bs ++ drop (length bs) m }
 
 -- a call that is refused by the first rule broken, or does what is said
 unfoldable pub judged : ℕ → State → List ℕ → List ℕ → Result → Result

@@ -1,58 +1,127 @@
 -- Document 01, "State and journal": the state, and how a call changes it.
 use mathlib.Core.Bool.{Bool, true, false}
 use Prim.Native.Nat.{ℕ, _+_}
-use Rattle.parts.specs.declared.Trace.{Trace}
-use Rattle.parts.specs.declared.Batch.{Batch}
+use Rattle.numbers.specs.Numbers.{following}
+use Rattle.numbers.specs.declared.Trace.{Trace}
+use Rattle.numbers.specs.declared.Batch.{Batch}
 use Rattle.state.specs.declared.Settings.{Settings}
+use Rattle.state.specs.declared.Count.{Count}
+use Rattle.state.specs.declared.Count.the-variants.{Sent, Approved, Declined, Reversed, GivenUp, Unanswered}
 use Rattle.state.specs.declared.Counts.{Counts}
 use Rattle.state.specs.declared.Awaited.{Awaited}
 use Rattle.state.specs.declared.Phase.{Phase}
 use Rattle.state.specs.declared.Phase.the-variants.{Resting, Waiting, Pending, Settling, Uploading}
 use Rattle.state.specs.declared.State.{State}
 
+-- the six counts: sent, approved, declined, reversed, given up, unanswered
+abbrev countsOf : ℕ → ℕ → ℕ → ℕ → ℕ → ℕ → Counts
+countsOf s a d r g u = record { sent = s; approved = a; declined = d; reversed = r; «given_up» = g; unanswered = u }
+
 abbrev pub noCounts : Counts
-noCounts = record { sent = 0; approved = 0; declined = 0; reversed = 0; «given_up» = 0; unanswered = 0 }
+noCounts = countsOf 0 0 0 0 0 0
+
+-- one card request more
+abbrev pub plus : Count → Counts → Counts
+plus Sent c = countsOf (c .sent + 1) (c .approved) (c .declined) (c .reversed) (c .«given_up») (c .unanswered)
+plus Approved c = countsOf (c .sent) (c .approved + 1) (c .declined) (c .reversed) (c .«given_up») (c .unanswered)
+plus Declined c = countsOf (c .sent) (c .approved) (c .declined + 1) (c .reversed) (c .«given_up») (c .unanswered)
+plus Reversed c = countsOf (c .sent) (c .approved) (c .declined) (c .reversed + 1) (c .«given_up») (c .unanswered)
+plus GivenUp c = countsOf (c .sent) (c .approved) (c .declined) (c .reversed) (c .«given_up» + 1) (c .unanswered)
+plus Unanswered c = countsOf (c .sent) (c .approved) (c .declined) (c .reversed) (c .«given_up») (c .unanswered + 1)
+
+-- a state from its members
+abbrev stateOf : Settings → Bool → Batch → Trace → ℕ → Counts → Phase → State
+stateOf x on batch next n c p =
+    record { settings = x; «signed_on» = on; batch = batch; next = next; entries = n; counts = c; phase = p }
 
 -- a fresh terminal is signed off, in batch 1, resting, journal empty, counts 0, next trace 1
 abbrev pub fresh : Settings → State
-fresh s =
-    record {
-      settings = s; «signed_on» = false; batch = record { 0 = 1 }; next = record { 0 = 1 }; entries = 0; counts = noCounts;
-      phase = Resting }
+fresh x = stateOf x false (record { 0 = 1 }) (record { 0 = 1 }) 0 noCounts Resting
 
-abbrev pub inPhase : Phase → Counts → State → State
-inPhase p c s =
-    record {
-      settings = s .settings; «signed_on» = s .«signed_on»; batch = s .batch; next = s .next; entries = s .entries; counts = c;
-      phase = p }
+-- the state with one member changed; the settings never change
+abbrev pub signed : Bool → State → State
+signed on s = stateOf (s .settings) on (s .batch) (s .next) (s .entries) (s .counts) (s .phase)
+
+abbrev pub inBatch : Batch → State → State
+inBatch batch s = stateOf (s .settings) (s .«signed_on») batch (s .next) (s .entries) (s .counts) (s .phase)
+
+abbrev pub withNext : Trace → State → State
+withNext next s = stateOf (s .settings) (s .«signed_on») (s .batch) next (s .entries) (s .counts) (s .phase)
+
+abbrev pub withEntries : ℕ → State → State
+withEntries n s = stateOf (s .settings) (s .«signed_on») (s .batch) (s .next) n (s .counts) (s .phase)
+
+abbrev pub withCounts : Counts → State → State
+withCounts c s = stateOf (s .settings) (s .«signed_on») (s .batch) (s .next) (s .entries) c (s .phase)
+
+abbrev pub inPhase : Phase → State → State
+inPhase p s = stateOf (s .settings) (s .«signed_on») (s .batch) (s .next) (s .entries) (s .counts) p
+
+-- the next trace is the one after that taken
+abbrev pub took : Trace → State → State
+took trace s = withNext (record { 0 = following (trace .0) }) s
+
+-- a card request is counted
+abbrev pub counted : Count → State → State
+counted k s = withCounts (plus k (s .counts)) s
+
+-- closing empties the journal, zeroes the counts, adds 1 to the batch (999999 to 1) and signs off
+abbrev pub closed : State → State
+closed s =
+    inPhase Resting
+      (withCounts noCounts (withEntries 0 (inBatch (record { 0 = following (s .batch .0) }) (signed false s))))
 
 -- something is awaited
-abbrev pub isWaiting : Phase → Bool
-isWaiting Resting = false
-isWaiting (Waiting a) = true
-isWaiting (Pending v) = false
-isWaiting Settling = false
-isWaiting Uploading = false
+abbrev pub waits : Phase → Bool
+waits Resting = false
+waits (Waiting a) = true
+waits (Pending v) = false
+waits Settling = false
+waits Uploading = false
+
+abbrev pub isWaiting : State → Bool
+isWaiting s = waits (s .phase)
 
 -- a reversal is pending
-abbrev pub isPending : Phase → Bool
-isPending Resting = false
-isPending (Waiting a) = false
-isPending (Pending v) = true
-isPending Settling = false
-isPending Uploading = false
+abbrev pub pends : Phase → Bool
+pends Resting = false
+pends (Waiting a) = false
+pends (Pending v) = true
+pends Settling = false
+pends Uploading = false
+
+abbrev pub isPending : State → Bool
+isPending s = pends (s .phase)
 
 -- the batch is settling or uploading
-abbrev pub isClosing : Phase → Bool
-isClosing Resting = false
-isClosing (Waiting a) = false
-isClosing (Pending v) = false
-isClosing Settling = true
-isClosing Uploading = true
+abbrev pub closes : Phase → Bool
+closes Resting = false
+closes (Waiting a) = false
+closes (Pending v) = false
+closes Settling = true
+closes Uploading = true
 
-abbrev pub isResting : Phase → Bool
-isResting Resting = true
-isResting (Waiting a) = false
-isResting (Pending v) = false
-isResting Settling = false
-isResting Uploading = false
+abbrev pub isClosing : State → Bool
+isClosing s = closes (s .phase)
+
+-- the batch is uploading, and nothing is awaited
+abbrev pub uploads : Phase → Bool
+uploads Resting = false
+uploads (Waiting a) = false
+uploads (Pending v) = false
+uploads Settling = false
+uploads Uploading = true
+
+abbrev pub isUploading : State → Bool
+isUploading s = uploads (s .phase)
+
+-- the terminal rests
+abbrev pub rests : Phase → Bool
+rests Resting = true
+rests (Waiting a) = false
+rests (Pending v) = false
+rests Settling = false
+rests Uploading = false
+
+abbrev pub isResting : State → Bool
+isResting s = rests (s .phase)

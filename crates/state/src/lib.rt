@@ -1,9 +1,8 @@
 // The terminal's state (document 01, "State and journal").
-use parts::Batch;
-use parts::Trace;
+use numbers::Batch;
+use numbers::Trace;
 ghost use mathlib.Core.Path.{_≡_};
-ghost use Prim.Native.Nat.{_+_};
-ghost use Rattle.state.specs.State.{noCounts, fresh, inPhase, isResting, isWaiting, isPending, isClosing};
+ghost use Rattle.state.specs.State.{noCounts, fresh, inPhase, withCounts, withEntries, withNext, inBatch, signed, took, closed, isResting, isWaiting, isPending, isClosing, isUploading};
 
 // A card number keyed at the desk: its digits as a number, and how many they are.
 pub struct Card {
@@ -85,10 +84,27 @@ pub enum Outcome {
     Refused(u8),
 }
 
+// What card requests are counted as since the last closing.
+pub enum Count {
+    Sent,
+    Approved,
+    Declined,
+    Reversed,
+    GivenUp,
+    Unanswered,
+}
+
 // The outcome of a call, with the state beside it.
 pub struct Called {
     pub outcome: Outcome,
     pub state: State,
+}
+
+impl Settings {
+    // The sendings of a reversal and the largest refund, where nobody has set them.
+    pub const SENDINGS: u8 = 3;
+
+    pub const REFUND: u64 = 100000;
 }
 
 impl Counts {
@@ -107,19 +123,6 @@ impl Counts {
 }
 
 impl State {
-    // The most entries that a setting allows, and the most sendings of a reversal.
-    pub const MOST_ENTRIES: u32 = 300;
-
-    pub const MOST_SENDINGS: u8 = 9;
-    // The largest amount of a request, and of a total, in fen.
-    pub const LARGEST_AMOUNT: u64 = 9999999999;
-
-    pub const LARGEST_TOTAL: u64 = 999999999999;
-    // The most card requests of a batch, and the last batch or trace number.
-    pub const MOST_REQUESTS: u32 = 900000;
-
-    pub const LAST_NUMBER: u32 = 999999;
-
     // A fresh terminal.
     pub fn new(settings: Settings) -> Self
         ensures { λ r. ⌜ r ≡ fresh settings ⌝ }
@@ -137,13 +140,14 @@ impl State {
         }
     }
 
-    // The state in another phase, with other counts.
-    pub fn in_phase(self, phase: Phase, counts: Counts) -> Self
-        ensures { λ r. ⌜ r ≡ inPhase phase counts self ⌝ }
+    // The state in another phase.
+    pub fn in_phase(self, phase: Phase) -> Self
+        ensures { λ r. ⌜ r ≡ inPhase phase self ⌝ }
     {
         let settings = self.settings;
         let batch = self.batch;
         let next = self.next;
+        let counts = self.counts;
         State {
             settings: settings,
             signed_on: self.signed_on,
@@ -154,56 +158,158 @@ impl State {
             phase: phase,
         }
     }
-}
 
-// Whether nothing goes on.
-pub fn is_resting(phase: Phase) -> bool
-    ensures { λ r. ⌜ r ≡ isResting phase ⌝ }
-{
-    match phase {
-        Phase::Resting => true,
-        Phase::Waiting(_) => false,
-        Phase::Pending(_) => false,
-        Phase::Settling => false,
-        Phase::Uploading => false,
+    // The state with other counts.
+    pub fn with_counts(mut self, counts: Counts) -> Self
+        ensures { λ r. ⌜ r ≡ withCounts counts self ⌝ }
+    {
+        self.counts = counts;
+        self
+    }
+
+    // The state with another number of entries.
+    pub fn with_entries(mut self, entries: u16) -> Self
+        ensures { λ r. ⌜ r ≡ withEntries entries self ⌝ }
+    {
+        self.entries = entries;
+        self
+    }
+
+    // The state once a trace has been taken: the next one is the one after it.
+    pub fn took(mut self, trace: Trace) -> Self
+        ensures { λ r. ⌜ r ≡ took trace self ⌝ }
+    {
+        let next = trace.following();
+        self.next = next;
+        self
+    }
+
+    // The state in another batch.
+    pub fn in_batch(mut self, batch: Batch) -> Self
+        ensures { λ r. ⌜ r ≡ inBatch batch self ⌝ }
+    {
+        self.batch = batch;
+        self
+    }
+
+    // The state signed on or off.
+    pub fn signed(mut self, on: bool) -> Self
+        ensures { λ r. ⌜ r ≡ signed on self ⌝ }
+    {
+        self.signed_on = on;
+        self
+    }
+
+    // The state once the batch is closed.
+    pub fn closed(self) -> Self
+        ensures { λ r. ⌜ r ≡ closed self ⌝ }
+    {
+        let batch = self.batch;
+        let next = batch.following();
+        let off = self.signed(false).in_batch(next);
+        let empty = off.with_entries(0).with_counts(Counts::new());
+        empty.in_phase(Phase::Resting)
+    }
+
+    // Whether nothing goes on.
+    pub fn is_resting(self) -> bool
+        ensures { λ r. ⌜ r ≡ isResting self ⌝ }
+    {
+        let phase = self.phase;
+        match phase {
+            Phase::Resting => true,
+            Phase::Waiting(_) => false,
+            Phase::Pending(_) => false,
+            Phase::Settling => false,
+            Phase::Uploading => false,
+        }
+    }
+
+    // Whether something is awaited.
+    pub fn is_waiting(self) -> bool
+        ensures { λ r. ⌜ r ≡ isWaiting self ⌝ }
+    {
+        let phase = self.phase;
+        match phase {
+            Phase::Resting => false,
+            Phase::Waiting(_) => true,
+            Phase::Pending(_) => false,
+            Phase::Settling => false,
+            Phase::Uploading => false,
+        }
+    }
+
+    // Whether a reversal is pending.
+    pub fn is_pending(self) -> bool
+        ensures { λ r. ⌜ r ≡ isPending self ⌝ }
+    {
+        let phase = self.phase;
+        match phase {
+            Phase::Resting => false,
+            Phase::Waiting(_) => false,
+            Phase::Pending(_) => true,
+            Phase::Settling => false,
+            Phase::Uploading => false,
+        }
+    }
+
+    // Whether the batch is settling or uploading.
+    pub fn is_closing(self) -> bool
+        ensures { λ r. ⌜ r ≡ isClosing self ⌝ }
+    {
+        let phase = self.phase;
+        match phase {
+            Phase::Resting => false,
+            Phase::Waiting(_) => false,
+            Phase::Pending(_) => false,
+            Phase::Settling => true,
+            Phase::Uploading => true,
+        }
+    }
+
+    // Whether the batch is uploading and nothing is awaited.
+    pub fn is_uploading(self) -> bool
+        ensures { λ r. ⌜ r ≡ isUploading self ⌝ }
+    {
+        let phase = self.phase;
+        match phase {
+            Phase::Resting => false,
+            Phase::Waiting(_) => false,
+            Phase::Pending(_) => false,
+            Phase::Settling => false,
+            Phase::Uploading => true,
+        }
     }
 }
 
-// Whether something is awaited.
-pub fn is_waiting(phase: Phase) -> bool
-    ensures { λ r. ⌜ r ≡ isWaiting phase ⌝ }
-{
-    match phase {
-        Phase::Resting => false,
-        Phase::Waiting(_) => true,
-        Phase::Pending(_) => false,
-        Phase::Settling => false,
-        Phase::Uploading => false,
+impl Called {
+    // A call that is refused by a number: the state stays.
+    pub fn refused(state: State, number: u8) -> Self
+        ensures { λ r. ⌜ r ≡ record { outcome = Outcome.Refused number; state = state } ⌝ }
+    {
+        Called {
+            outcome: Outcome::Refused(number),
+            state: state,
+        }
     }
-}
 
-// Whether a reversal is pending.
-pub fn is_pending(phase: Phase) -> bool
-    ensures { λ r. ⌜ r ≡ isPending phase ⌝ }
-{
-    match phase {
-        Phase::Resting => false,
-        Phase::Waiting(_) => false,
-        Phase::Pending(_) => true,
-        Phase::Settling => false,
-        Phase::Uploading => false,
+    // A call that has changed the state quietly.
+    pub fn quiet(state: State) -> Self
+        ensures { λ r. ⌜ r ≡ record { outcome = Outcome.Quiet; state = state } ⌝ }
+    {
+        Called {
+            outcome: Outcome::Quiet,
+            state: state,
+        }
     }
-}
 
-// Whether the batch is settling or uploading.
-pub fn is_closing(phase: Phase) -> bool
-    ensures { λ r. ⌜ r ≡ isClosing phase ⌝ }
-{
-    match phase {
-        Phase::Resting => false,
-        Phase::Waiting(_) => false,
-        Phase::Pending(_) => false,
-        Phase::Settling => true,
-        Phase::Uploading => true,
+    // A call that gives a message of so many bytes to send.
+    pub fn sends(state: State, length: usize) -> Self
+        ensures { λ r. ⌜ r ≡ record { outcome = Outcome.Send length; state = state } ⌝ }
+    {
+        Called {
+            outcome: Outcome::Send(length),
+            state: state,
+        }
     }
 }

@@ -10,16 +10,16 @@ use lib.ListN.{length, take, drop, length-drop}
 use lib.Seq.{drop-drop, take-take, length-take-le}
 use borrow.Author.Tests.{ltb-false}
 use Rattle.digits.proofs.Lists.{tail-part}
-use Rattle.packed.specs.Packed.{packedNumber}
-use Rattle.packed.proofs.Packed.{number-below}
-use Rattle.entry.specs.Entry.{decode}
+use Rattle.digits.specs.Packed.{packedNumber}
+use Rattle.digits.proofs.Packed.{number-below}
+use Rattle.entry.specs.Entry.{decode, entrySize}
 use Rattle.entry.specs.declared.Entry.{Entry}
 use Rattle.journal.specs.Journal.{entriesOf, entryAt}
 use Rattle.journal.proofs.Entries.{entries-more, entries-short, entry-there}
 use Rattle.traces.specs.Traces.{traceAt}
 
 -- m of them, where these are all or there are no bytes for one more
-pub length-entries : (n m : ℕ) (j : List ℕ) → m ≤ n → 48 * m ≤ length j → (m < n → length j < 48 * m + 48)
+pub length-entries : (n m : ℕ) (j : List ℕ) → m ≤ n → entrySize * m ≤ length j → (m < n → length j < entrySize * m + entrySize)
     → length (entriesOf n j) ≡ m
 length-entries zero zero j a b d = refl
 length-entries zero (suc m) j a b d = absurd (omega arith)
@@ -27,40 +27,40 @@ length-entries (suc n) zero j a b d = rw (entries-short (suc n) j (d (omega arit
 length-entries (suc n) (suc m) j a b d =
     rw (entries-more n j (omega arith))
     (ap suc
-    (length-entries n m (drop 48 j) (omega arith) (rw length-drop (omega arith)) (λ h. rw length-drop (omega (arith, d (omega arith))))))
+    (length-entries n m (drop entrySize j) (omega arith) (rw length-drop (omega arith)) (λ h. rw length-drop (omega (arith, d (omega arith))))))
 
 -- where there is an entry, the bytes are not too few
-whole : (n : ℕ) (j : List ℕ) → 0 < length (entriesOf (suc n) j) → 48 ≤ length j
-whole n j h = by (ltb (length j) 48) refl h
+whole : (n : ℕ) (j : List ℕ) → 0 < length (entriesOf (suc n) j) → entrySize ≤ length j
+whole n j h = by (ltb (length j) entrySize) refl h
   where
-    by : (b : Bool) → ltb (length j) 48 ≡ b → 0 < length (cond b [] (decode (take 48 j) ∷ entriesOf n (drop 48 j))) → 48 ≤ length j
+    by : (b : Bool) → ltb (length j) entrySize ≡ b → 0 < length (cond b [] (decode (take entrySize j) ∷ entriesOf n (drop entrySize j))) → entrySize ≤ length j
     by true q h = absurd (omega arith)
-    by false q h = ltb-false (length j) 48 q
+    by false q h = ltb-false (length j) entrySize q
 
-pub entries-room : (n i : ℕ) (j : List ℕ) → i < length (entriesOf n j) → (48 * i + 48 ≤ length j) × (i < n)
+pub entries-room : (n i : ℕ) (j : List ℕ) → i < length (entriesOf n j) → (entrySize * i + entrySize ≤ length j) × (i < n)
 entries-room zero i j h = absurd (omega arith)
 entries-room (suc n) i j h =
     let w = whole n j (omega arith) in
     by w (entries-room n) i (rw (entries-more n j w) at h)
   where
-    by : 48 ≤ length j
-        → ((i : ℕ) (j : List ℕ) → i < length (entriesOf n j) → (48 * i + 48 ≤ length j) × (i < n))
-        → (i : ℕ) → i < suc (length (entriesOf n (drop 48 j))) → (48 * i + 48 ≤ length j) × (i < suc n)
+    by : entrySize ≤ length j
+        → ((i : ℕ) (j : List ℕ) → i < length (entriesOf n j) → (entrySize * i + entrySize ≤ length j) × (i < n))
+        → (i : ℕ) → i < suc (length (entriesOf n (drop entrySize j))) → (entrySize * i + entrySize ≤ length j) × (i < suc n)
     by w ih zero h = (omega arith, omega arith)
-    by w ih (suc i) h = let r = rw length-drop at (ih i (drop 48 j) (omega arith)) in (omega arith, omega arith)
+    by w ih (suc i) h = let r = rw length-drop at (ih i (drop entrySize j) (omega arith)) in (omega arith, omega arith)
 
-drop-entries : (n i : ℕ) (j : List ℕ) → i ≤ length (entriesOf n j) → drop i (entriesOf n j) ≡ entriesOf (n - i) (drop (48 * i) j)
+drop-entries : (n i : ℕ) (j : List ℕ) → i ≤ length (entriesOf n j) → drop i (entriesOf n j) ≡ entriesOf (n - i) (drop (entrySize * i) j)
 drop-entries n zero j h = simp unary-clauses
 drop-entries zero (suc i) j h = absurd (omega arith)
 drop-entries (suc n) (suc i) j h =
     let w = whole n j (omega arith) in
     let k : n - i ≡ suc n - suc i = omega arith in
-    let m : 48 + 48 * i ≡ 48 * suc i = omega arith in
+    let m : entrySize + entrySize * i ≡ entrySize * suc i = omega arith in
     rw (entries-more n j w)
-    (drop-entries n i (drop 48 j) (omega (arith, rw (entries-more n j w) at h)) ∙ rw (drop-drop (48 * i) 48 j, k, m))
+    (drop-entries n i (drop entrySize j) (omega (arith, rw (entries-more n j w) at h)) ∙ rw (drop-drop (entrySize * i) entrySize j, k, m))
 
 -- those after entry i, whose bytes end at an index
-pub entries-after : (n i at : ℕ) (j : List ℕ) → at ≡ 48 * (i + 1) → i < length (entriesOf n j)
+pub entries-after : (n i at : ℕ) (j : List ℕ) → at ≡ entrySize * (i + 1) → i < length (entriesOf n j)
     → entriesOf (n - (i + 1)) (take (length j - at) (drop at j)) ≡ drop (i + 1) (entriesOf n j)
 entries-after n i at j q h = rw (tail-part at j, q) (sym (drop-entries n (i + 1) j (omega arith)))
 
@@ -78,14 +78,14 @@ inner m (suc a) (suc k) (x ∷ b) h = inner m a k b (omega arith)
 
 -- the trace of entry i, from its bytes
 trace-bytes : (n i : ℕ) (j : List ℕ) → i < length (entriesOf n j)
-    → traceAt (entriesOf n j) i ≡ packedNumber 6 (take 3 (drop (48 * i + 4) j))
+    → traceAt (entriesOf n j) i ≡ packedNumber 6 (take 3 (drop (entrySize * i + 4) j))
 unfolding traceAt decode
 trace-bytes n i j h =
     let r = entries-room n i j h in
     ap (λ (e : Entry). e .trace .0) (entry-there n i j (r .1) (r .0))
-    ∙ ap (packedNumber 6) (inner 3 4 48 (drop (48 * i) j) (omega arith) ∙ ap (take 3) (drop-drop 4 (48 * i) j))
+    ∙ ap (packedNumber 6) (inner 3 4 entrySize (drop (entrySize * i) j) (omega arith) ∙ ap (take 3) (drop-drop 4 (entrySize * i) j))
 
-pub trace-is : {t : ℕ} (n i : ℕ) (j : List ℕ) → i < length (entriesOf n j) → t ≡ packedNumber 6 (take 3 (drop (48 * i + 4) j))
+pub trace-is : {t : ℕ} (n i : ℕ) (j : List ℕ) → i < length (entriesOf n j) → t ≡ packedNumber 6 (take 3 (drop (entrySize * i + 4) j))
     → t ≡ traceAt (entriesOf n j) i
 trace-is n i j h q = q ∙ sym (trace-bytes n i j h)
 

@@ -7,8 +7,10 @@ use native.Mathlib.Omega.{arith}
 use lib.Dec.{eqb, ltb}
 use lib.ListN.{length}
 use borrow.Author.Tests.{ne-eqb, eqb-true, eqb-false, ltb-true, ltb-false}
+use Rattle.numbers.specs.Limits.{lastNumber}
+use Rattle.numbers.specs.Numbers.{following}
 use Rattle.entry.specs.declared.Entry.{Entry}
-use Rattle.journal.specs.Journal.{absent, following, takenFrom, taken}
+use Rattle.journal.specs.Journal.{absent, takenFrom, taken}
 use Rattle.traces.proofs.Absent.{absent-none, absent-cons}
 
 -- 1 where x is y
@@ -106,15 +108,15 @@ none-free es (suc k) x q i p = by (none-free es k (following x)) (absent x es) r
     by ih false f zero p = f
     by ih false f (suc i) p = ih (rw f at q) i (omega arith)
 
-following-is : (x : ℕ) → 1 ≤ x → x ≤ 999999 → following x ≡ x % 999999 + 1
+following-is : (x : ℕ) → 1 ≤ x → x ≤ lastNumber → following x ≡ x % lastNumber + 1
 unfolding following
-following-is x a b = by (ltb x 999999) refl
+following-is x a b = by (ltb x lastNumber) refl
   where
-    by : (c : Bool) → ltb x 999999 ≡ c → cond c (x + 1) 1 ≡ x % 999999 + 1
-    by true e = omega (arith, ltb-true x 999999 e)
-    by false e = omega (arith, ltb-false x 999999 e)
+    by : (c : Bool) → ltb x lastNumber ≡ c → cond c (x + 1) 1 ≡ x % lastNumber + 1
+    by true e = omega (arith, ltb-true x lastNumber e)
+    by false e = omega (arith, ltb-false x lastNumber e)
 
-later-is : (k x : ℕ) → 1 ≤ x → x ≤ 999999 → later x k ≡ (x + k - 1) % 999999 + 1
+later-is : (k x : ℕ) → 1 ≤ x → x ≤ lastNumber → later x k ≡ (x + k - 1) % lastNumber + 1
 unfolding later
 later-is zero x a b = omega arith
 later-is (suc k) x a b =
@@ -122,11 +124,11 @@ later-is (suc k) x a b =
     later-is k (following x) (rw w (omega arith)) (rw w (omega arith)) ∙ rw w (omega arith)
 
 -- no more than 999999 of them are apart
-apart : (x m : ℕ) → 1 ≤ x → x ≤ 999999 → m ≤ 999999 → Apart (later x) m
+apart : (x m : ℕ) → 1 ≤ x → x ≤ lastNumber → m ≤ lastNumber → Apart (later x) m
 unfolding Apart
 apart x m a b c i k p q e = omega (arith, sym (later-is i x a b) ∙ e ∙ later-is k x a b)
 
-pub taken-free : (es : List Entry) (x : ℕ) → 1 ≤ x → x ≤ 999999 → length es < 999999 → absent (taken es x) es ≡ true
+pub taken-free : (es : List Entry) (x : ℕ) → 1 ≤ x → x ≤ lastNumber → length es < lastNumber → absent (taken es x) es ≡ true
 unfolding taken
 taken-free es x a b c = by (absent (takenFrom (length es) es x) es) refl
   where
@@ -140,23 +142,23 @@ taken-free es x a b c = by (absent (takenFrom (length es) es x) es) refl
           total-least (λ i. count es (later x i)) (suc (length es)) (λ i p. not-absent (later x i) es (none-free es (length es) x q i p)),
         ))
 
-pub following-range : (x : ℕ) → (1 ≤ following x) × (following x ≤ 999999)
+pub following-range : (x : ℕ) → (1 ≤ following x) × (following x ≤ lastNumber)
 unfolding following
-following-range x = by (ltb x 999999) refl
+following-range x = by (ltb x lastNumber) refl
   where
-    by : (c : Bool) → ltb x 999999 ≡ c → (1 ≤ cond c (x + 1) 1) × (cond c (x + 1) 1 ≤ 999999)
-    by true e = (omega arith, omega (arith, ltb-true x 999999 e))
+    by : (c : Bool) → ltb x lastNumber ≡ c → (1 ≤ cond c (x + 1) 1) × (cond c (x + 1) 1 ≤ lastNumber)
+    by true e = (omega arith, omega (arith, ltb-true x lastNumber e))
     by false e = (omega arith, omega arith)
 
-from-range : (k : ℕ) (es : List Entry) (x : ℕ) → 1 ≤ x → x ≤ 999999 → (1 ≤ takenFrom k es x) × (takenFrom k es x ≤ 999999)
+from-range : (k : ℕ) (es : List Entry) (x : ℕ) → 1 ≤ x → x ≤ lastNumber → (1 ≤ takenFrom k es x) × (takenFrom k es x ≤ lastNumber)
 from-range zero es x a b = (a, b)
 from-range (suc k) es x a b = by (absent x es) (from-range k es (following x) (following-range x .0) (following-range x .1))
   where
-    by : (c : Bool) → (1 ≤ takenFrom k es (following x)) × (takenFrom k es (following x) ≤ 999999)
-        → (1 ≤ cond c x (takenFrom k es (following x))) × (cond c x (takenFrom k es (following x)) ≤ 999999)
+    by : (c : Bool) → (1 ≤ takenFrom k es (following x)) × (takenFrom k es (following x) ≤ lastNumber)
+        → (1 ≤ cond c x (takenFrom k es (following x))) × (cond c x (takenFrom k es (following x)) ≤ lastNumber)
     by true ih = (a, b)
     by false ih = ih
 
-pub taken-range : (es : List Entry) (x : ℕ) → 1 ≤ x → x ≤ 999999 → (1 ≤ taken es x) × (taken es x ≤ 999999)
+pub taken-range : (es : List Entry) (x : ℕ) → 1 ≤ x → x ≤ lastNumber → (1 ≤ taken es x) × (taken es x ≤ lastNumber)
 unfolding taken
 taken-range es x a b = from-range (length es) es x a b

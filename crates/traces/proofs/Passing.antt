@@ -9,9 +9,10 @@ use lib.Dec.{eqb, ltb}
 use lib.ListN.{length, take}
 use lib.Seq.{take-length}
 use borrow.Author.Tests.{eq-eqb, lt-ltb, eqb-true, ltb-true}
-use Rattle.parts.specs.declared.Trace.{Trace}
+use Rattle.numbers.specs.Numbers.{following}
+use Rattle.numbers.specs.declared.Trace.{Trace}
 use Rattle.entry.specs.declared.Entry.{Entry}
-use Rattle.journal.specs.Journal.{absent, following, takenFrom, taken}
+use Rattle.journal.specs.Journal.{absent, takenFrom, taken}
 use Rattle.traces.specs.Traces.{traceAt, Pass}
 use Rattle.traces.proofs.Absent.{absent-none, absent-next, present-at}
 

@@ -2,12 +2,13 @@
 use entry::Entry;
 use journal::Found;
 use journal::Query;
-use parts::Trace;
+use numbers::Trace;
 ghost use mathlib.Core.Path.{_≡_};
 ghost use Prim.Native.Nat.{_+_, _*_, _≤_};
 ghost use lib.ListN.{length, take, drop};
-ghost use Rattle.packed.specs.Packed.{packedNumber};
-ghost use Rattle.journal.specs.Journal.{entriesOf, absent, distinct, following, takenFrom, taken};
+ghost use Rattle.entry.specs.Entry.{entrySize};
+ghost use Rattle.digits.specs.Packed.{packedNumber};
+ghost use Rattle.journal.specs.Journal.{entriesOf, absent, distinct, takenFrom, taken};
 ghost use Rattle.traces.specs.Traces.{mayFollow, ordered, Pass};
 
 // Where a pass has led: the number it has come to, and how many it may still leave behind.
@@ -16,15 +17,27 @@ struct Passed {
     left: u16,
 }
 
-// The number after a trace number.
-pub fn following(x: Trace) -> Trace
-    ensures { λ r. ⌜ r ≡ record { 0 = following (x .0) } ⌝ }
+// Whether no two of the first n entries have one trace: at once where they stand in order.
+pub fn are_distinct(journal: &[u8], n: u16) -> bool
+    ensures { λ r. ⌜ r ≡ distinct (entriesOf n (now (journal .entry))) ⌝ }
 {
-    let n = x.0;
-    if n < 999999 {
-        return Trace(n + 1);
+    if is_ordered(journal, n) {
+        return true;
     }
-    Trace(1)
+    are_apart(journal, n)
+}
+
+// The first trace number from next on that none of the first n entries has.
+pub fn take(journal: &[u8], n: u16, next: Trace) -> Trace
+    ensures { λ r. ⌜ r ≡ record { 0 = taken (entriesOf n (now (journal .entry))) (next .0) } ⌝ }
+{
+    let mut left = count_of(journal, n);
+    let mut p = pass(journal, n, next, left);
+    while p.left < left {
+        left = p.left;
+        p = pass(journal, n, p.next, left);
+    }
+    p.next
 }
 
 // How many of the first n entries are there.
@@ -40,12 +53,12 @@ fn count_of(journal: &[u8], n: u16) -> u16
 
 // The trace of entry i.
 fn trace_at(journal: &[u8], i: u16) -> u32
-    requires { ⌜ 48 * i + 48 ≤ length (now journal) ⌝ }
-    ensures { λ r. ⌜ r ≡ packedNumber 6 (take 3 (drop (48 * i + 4) (now (journal .entry)))) ⌝ }
+    requires { ⌜ entrySize * i + entrySize ≤ length (now journal) ⌝ }
+    ensures { λ r. ⌜ r ≡ packedNumber 6 (take 3 (drop (entrySize * i + 4) (now (journal .entry)))) ⌝ }
 {
     let at = Entry::SIZE * i as usize + 4;
     let end = at + 3;
-    packed::number_in(&journal[at..end]) as u32
+    digits::packed_number(&journal[at..end]) as u32
 }
 
 // Whether t may come after x, in the order in which traces are taken.
@@ -107,16 +120,6 @@ fn are_apart(journal: &[u8], n: u16) -> bool
     true
 }
 
-// Whether no two of the first n entries have one trace: at once where they stand in order.
-pub fn are_distinct(journal: &[u8], n: u16) -> bool
-    ensures { λ r. ⌜ r ≡ distinct (entriesOf n (now (journal .entry))) ⌝ }
-{
-    if is_ordered(journal, n) {
-        return true;
-    }
-    are_apart(journal, n)
-}
-
 // Goes once over the entries, from x on to the next number whenever it meets the one it has come to.
 fn pass(journal: &[u8], n: u16, x: Trace, left: u16) -> Passed
     ensures { λ r.
@@ -129,7 +132,7 @@ fn pass(journal: &[u8], n: u16, x: Trace, left: u16) -> Passed
     while i < count {
         let t = trace_at(journal, i);
         if (t == next.0) & (0 < rest) {
-            next = following(next);
+            next = next.following();
             rest -= 1;
         }
         i += 1;
@@ -138,17 +141,4 @@ fn pass(journal: &[u8], n: u16, x: Trace, left: u16) -> Passed
         next: next,
         left: rest,
     }
-}
-
-// The first trace number from next on that none of the first n entries has.
-pub fn take(journal: &[u8], n: u16, next: Trace) -> Trace
-    ensures { λ r. ⌜ r ≡ record { 0 = taken (entriesOf n (now (journal .entry))) (next .0) } ⌝ }
-{
-    let mut left = count_of(journal, n);
-    let mut p = pass(journal, n, next, left);
-    while p.left < left {
-        left = p.left;
-        p = pass(journal, n, p.next, left);
-    }
-    p.next
 }

@@ -4,6 +4,7 @@ use native.Mathlib.Omega.{arith}
 use denote.Ref.{now}
 use lib.ListN.{length}
 use borrow.Author.Needs.{needs}
+use Rattle.entry.specs.Entry.{entrySize}
 use Rattle.entry.proofs.Bytes.{part-number, part-copied, decode-is}
 use Rattle.entry.proofs.entry_of.Statement.{statement}
 use Rattle.entry.proofs.entry_of.Tie as tie
@@ -98,33 +99,41 @@ shared-slice-read-t42 c = search needs
 shared-slice-read-t44 : tie.Need-shared-slice-read-t44
 shared-slice-read-t44 c = search needs
 
-sub-number-in : tie.Need-sub-number-in
-sub-number-in c = search needs
+sub-packed-number : tie.Need-sub-packed-number
+sub-packed-number c = search needs
 
-part-number-in-start : tie.Need-part-number-in-start
-part-number-in-start c = search needs
+part-packed-number-start : tie.Need-part-packed-number-start
+part-packed-number-start c = search needs
 
-part-number-in-end : tie.Need-part-number-in-end
-part-number-in-end c = search needs
+part-packed-number-end : tie.Need-part-packed-number-end
+part-packed-number-end c = search needs
 
-number-in-requires : tie.Need-number-in-requires
-number-in-requires c κs = search needs
+packed-number-requires : tie.Need-packed-number-requires
+packed-number-requires c κs = search needs
 
 shared-slice-read-t50 : tie.Need-shared-slice-read-t50
 shared-slice-read-t50 c = search needs
 
 returns : tie.Need-returns
 returns c =
-    let s = now (c .before .before .before .before .before .before .before .before .before .before .before .before .before .before .before .before .before .before .before .before .before .before .before .before .before .before .before .before .before .args .b) in
-    let l : length s ≡ 48 = search needs in
-    decode-is s
-    (c .before .before .before .before .before .before .before .trace-in .ensures)
-    (c .before .number-in .ensures ∙ part-number 7 6 s (omega arith))
-    (part-copied 14 10 s _ (omega arith) refl (c .before .before .before .before .before .before .before .before .before .before .before .before .before .before .before .before .before .before .before .before .before .before .before .before .before .copy .ensures .1))
-    (part-copied 24 2 s _ (omega arith) refl (c .before .before .before .before .before .before .before .before .before .before .before .before .before .before .before .before .before .before .before .before .before .copy2 .ensures .1))
-    (part-copied 26 6 s _ (omega arith) refl (c .before .before .before .before .before .before .before .before .before .before .before .before .before .before .before .before .before .copy3 .ensures .1))
-    (part-copied 32 12 s _ (omega arith) refl (c .before .before .before .before .before .before .before .before .before .before .before .before .before .copy4 .ensures .1))
-    (part-copied 44 4 s _ (omega arith) refl (c .before .before .before .before .before .before .before .before .before .copy5 .ensures .1))
+    let at-args-b = c .before .before .before .before .before .before .before .before .before .before .before .before .before .before
+    .before .before .before .before .before .before .before .before .before .before .before .before .before .before .before .args .b in
+    let at-copy-ensures = c .before .before .before .before .before .before .before .before .before .before .before .before .before .before
+    .before .before .before .before .before .before .before .before .before .before .before .copy .ensures in
+    let at-copy2-ensures = c .before .before .before .before .before .before .before .before .before .before .before .before .before
+    .before .before .before .before .before .before .before .before .copy2 .ensures in
+    let at-copy3-ensures = c .before .before .before .before .before .before .before .before .before .before .before .before .before
+    .before .before .before .before .copy3 .ensures in
+    let at-copy4-ensures = c .before .before .before .before .before .before .before .before .before .before .before .before .before .copy4
+    .ensures in
+    let at-copy5-ensures = c .before .before .before .before .before .before .before .before .before .copy5 .ensures in
+    let at-trace-in-ensures = c .before .before .before .before .before .before .before .trace-in .ensures in
+    let s = now at-args-b in
+    let l : length s ≡ entrySize = search needs in
+    decode-is s at-trace-in-ensures (c .before .packed-number .ensures ∙ part-number 7 6 s (omega arith))
+    (part-copied 14 10 s _ (omega arith) refl (at-copy-ensures .1)) (part-copied 24 2 s _ (omega arith) refl (at-copy2-ensures .1))
+    (part-copied 26 6 s _ (omega arith) refl (at-copy3-ensures .1)) (part-copied 32 12 s _ (omega arith) refl (at-copy4-ensures .1))
+    (part-copied 44 4 s _ (omega arith) refl (at-copy5-ensures .1))
 
 pub entry-of-spec : {M : Type 1} → statement M
 entry-of-spec =
@@ -160,9 +169,9 @@ entry-of-spec =
     shared-slice-read-t40
     shared-slice-read-t42
     shared-slice-read-t44
-    sub-number-in
-    part-number-in-start
-    part-number-in-end
-    number-in-requires
+    sub-packed-number
+    part-packed-number-start
+    part-packed-number-end
+    packed-number-requires
     shared-slice-read-t50
     returns)

@@ -15,7 +15,11 @@ is-due-requires c κs = search needs
 
 returns : tie.Need-returns
 unfolding fits keepsVoided keepsUnmarked keepsResends keepsSilent
-returns c = rw (c .before .before .before .before .before .before .before .before .before .before .is-in-form .ensures, c .before .before .before .before .before .before .before .before .is-voidable .ensures, c .before .before .before .before .before .before .before .is-due .ensures)
+returns c =
+    let at-is-in-form = c .before .before .before .before .before .before .before .before .before .before .is-in-form in
+    let at-is-voidable = c .before .before .before .before .before .before .before .before .is-voidable in
+    let at-is-due = c .before .before .before .before .before .before .before .is-due in
+    rw (at-is-in-form .ensures, at-is-voidable .ensures, at-is-due .ensures)
 
 pub fits-spec : {M : Type 1} → statement M
 fits-spec = tie.close (tie.spec is-in-form-requires is-voidable-requires is-due-requires returns)

@@ -5,7 +5,7 @@ use lib.Seq.{length-take-le}
 use borrow.Author.Needs.{needs}
 use Rattle.digits.proofs.Lists.{tail-part}
 use Rattle.entry.specs.Form.{cardInForm}
-use Rattle.entry.proofs.Form.{within-bounds}
+use Rattle.numbers.proofs.Bounds.{within-bounds}
 use Rattle.entry.proofs.is_card.Statement.{statement}
 use Rattle.entry.proofs.is_card.Tie as tie
 
@@ -17,17 +17,29 @@ add-size c = search needs
 
 slice-aggregate-is-packed : tie.Need-slice-aggregate-is-packed
 slice-aggregate-is-packed c =
-    let w = within-bounds 13 (c .before .before .before .before .args .n) 19 (sym (c .before .before .is-within .ensures) ∙ c .before .if1 .taken) in
+    let at-args-n = c .before .before .before .before .args .n in
+    let at-is-within-ensures = c .before .before .is-within .ensures in
+    let w = within-bounds 13 at-args-n 19 (sym at-is-within-ensures ∙ c .before .if1 .taken) in
     sym (length-take-le _ _ (omega arith))
 
 is-packed-requires : tie.Need-is-packed-requires
 is-packed-requires c κs = search needs
 
 sub-is-zero : tie.Need-sub-is-zero
-sub-is-zero c = let w = within-bounds 13 (c .before .before .before .before .before .args .n) 19 (sym (c .before .before .before .is-within .ensures) ∙ c .before .before .if1 .taken) in omega arith
+sub-is-zero c =
+    let at-args-n = c .before .before .before .before .before .args .n in
+    let at-is-within-ensures = c .before .before .before .is-within .ensures in
+    let at-if1-taken = c .before .before .if1 .taken in
+    let w = within-bounds 13 at-args-n 19 (sym at-is-within-ensures ∙ at-if1-taken) in
+    omega arith
 
 part-is-zero-start : tie.Need-part-is-zero-start
-part-is-zero-start c = let w = within-bounds 13 (c .before .before .before .before .before .args .n) 19 (sym (c .before .before .before .is-within .ensures) ∙ c .before .before .if1 .taken) in omega arith
+part-is-zero-start c =
+    let at-args-n = c .before .before .before .before .before .args .n in
+    let at-is-within-ensures = c .before .before .before .is-within .ensures in
+    let at-if1-taken = c .before .before .if1 .taken in
+    let w = within-bounds 13 at-args-n 19 (sym at-is-within-ensures ∙ at-if1-taken) in
+    omega arith
 
 part-is-zero-end : tie.Need-part-is-zero-end
 part-is-zero-end c = search needs
@@ -37,7 +49,11 @@ is-zero-requires c κs = search needs
 
 returns : tie.Need-returns
 unfolding cardInForm
-returns c = rw (sym (c .before .before .before .before .before .is-within .ensures) ∙ c .before .before .before .before .if1 .taken, c .before .before .is-packed .ensures, c .is-zero .ensures, tail-part)
+returns c =
+    let at-is-within = c .before .before .before .before .before .is-within in
+    let at-if1 = c .before .before .before .before .if1 in
+    let at-is-packed = c .before .before .is-packed in
+    rw (sym (at-is-within .ensures) ∙ at-if1 .taken, at-is-packed .ensures, c .is-zero .ensures, tail-part)
 
 returns-2 : tie.Need-returns-2
 unfolding cardInForm

@@ -26,8 +26,10 @@ shared-slice-read-if1 c = search needs
 returns : tie.Need-returns Inv-loop μ-loop
 unfolding allZero
 returns c =
-    let s = now (c .before .before .before .before .args .s) in
-    sym (all-fails (isNought s) (length s) (c .before .before .before .loop .i) (search needs) (ne-eqb _ _ (c .if1 .taken)))
+    let at-args-s = c .before .before .before .before .args .s in
+    let at-loop-i = c .before .before .before .loop .i in
+    let s = now at-args-s in
+    sym (all-fails (isNought s) (length s) at-loop-i (search needs) (ne-eqb _ _ (c .if1 .taken)))
 
 add-i : tie.Need-add-i Inv-loop μ-loop
 add-i c = search needs
@@ -36,12 +38,15 @@ loop-less : tie.Need-loop-less Inv-loop μ-loop
 loop-less c = search needs
 
 loop-again : tie.Need-loop-again Inv-loop μ-loop
-loop-again c = (search needs, passed-more (c .before .before .before .loop .inv .1) (eq-eqb _ _ (c .if1 .left)))
+loop-again c =
+    let at-loop-inv = c .before .before .before .loop .inv in
+    (search needs, passed-more (at-loop-inv .1) (eq-eqb _ _ (c .if1 .left)))
 
 returns-2 : tie.Need-returns-2 Inv-loop μ-loop
 unfolding allZero
 returns-2 c =
-    let e : c .before .loop .i ≡ length (now (c .before .before .args .s)) = search needs in
+    let at-args-s = c .before .before .args .s in
+    let e : c .before .loop .i ≡ length (now at-args-s) = search needs in
     sym (rw e at (c .before .loop .inv .1 .holds))
 
 pub is-zero-spec : {M : Type 1} → statement M

@@ -24,7 +24,12 @@ same-length : tie.Need-same-length
 same-length c = search needs
 
 returns : tie.Need-returns
-returns c = put-is (c .before .before .before .before .before .before .args .at) (now (c .before .before .before .before .before .before .args .s)) (now (c .before .before .before .before .before .before .args .out)) (search needs) (c .before .before .copy .ensures .1)
+returns c =
+    let at-args-at = c .before .before .before .before .before .before .args .at in
+    let at-args-out = c .before .before .before .before .before .before .args .out in
+    let at-args-s = c .before .before .before .before .before .before .args .s in
+    let at-copy-ensures = c .before .before .copy .ensures in
+    put-is at-args-at (now at-args-s) (now at-args-out) (search needs) (at-copy-ensures .1)
 
 pub put-spec : {M : Type 1} → statement M
 put-spec =

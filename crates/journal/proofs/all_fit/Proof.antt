@@ -22,7 +22,9 @@ sub-if1 : tie.Need-sub-if1 Inv-loop μ-loop
 sub-if1 c = search needs
 
 returns : tie.Need-returns Inv-loop μ-loop
-returns c = testing-short (c .before .before .loop .inv) (c .if1 .taken)
+returns c =
+    let at-loop = c .before .before .loop in
+    testing-short (at-loop .inv) (c .if1 .taken)
 
 load-requires : tie.Need-load-requires Inv-loop μ-loop
 load-requires c κs = omega arith
@@ -35,9 +37,12 @@ fits-requires c κs = search needs
 
 returns-2 : tie.Need-returns-2 Inv-loop μ-loop
 returns-2 c =
-    let turn = c .before .before .before .before .before in
-    let e = rw (c .before .before .before .load .ensures, c .before .before .is-at .ensures) at (c .before .fits2 .ensures) in
-    testing-fails (turn .before .loop .inv) (turn .loop-test .taken) (omega arith) (sym e ∙ not-true _ (c .if2 .taken))
+    let at-loop-inv = c .before .before .before .before .before .before .loop .inv in
+    let at-loop-test-taken = c .before .before .before .before .before .loop-test .taken in
+    let at-load-ensures = c .before .before .before .load .ensures in
+    let at-is-at-ensures = c .before .before .is-at .ensures in
+    let e = rw (at-load-ensures, at-is-at-ensures) at (c .before .fits2 .ensures) in
+    testing-fails at-loop-inv at-loop-test-taken (omega arith) (sym e ∙ not-true _ (c .if2 .taken))
 
 add-at : tie.Need-add-at Inv-loop μ-loop
 add-at c = search needs
@@ -50,9 +55,12 @@ loop-less c = search needs
 
 loop-again : tie.Need-loop-again Inv-loop μ-loop
 loop-again c =
-    let turn = c .before .before .before .before .before in
-    let e = rw (c .before .before .before .load .ensures, c .before .before .is-at .ensures) at (c .before .fits2 .ensures) in
-    testing-more (turn .before .loop .inv) (turn .loop-test .taken) (omega arith) (sym e ∙ not-false _ (c .if2 .left))
+    let at-loop-inv = c .before .before .before .before .before .before .loop .inv in
+    let at-loop-test-taken = c .before .before .before .before .before .loop-test .taken in
+    let at-load-ensures = c .before .before .before .load .ensures in
+    let at-is-at-ensures = c .before .before .is-at .ensures in
+    let e = rw (at-load-ensures, at-is-at-ensures) at (c .before .fits2 .ensures) in
+    testing-more at-loop-inv at-loop-test-taken (omega arith) (sym e ∙ not-false _ (c .if2 .left))
 
 returns-3 : tie.Need-returns-3 Inv-loop μ-loop
 returns-3 c = testing-done (c .before .loop .inv) (c .loop-test .left)

@@ -18,8 +18,8 @@ blank-requires c κs = search needs
 
 returns : tie.Need-returns
 returns c =
-    let a = c .before .before .before .before .args in
-    c .blank .ensures ∙ sym (entry-beyond (a .n) (a .i) (now (a .journal)) (omega arith))
+    let at-args = c .before .before .before .before .args in
+    c .blank .ensures ∙ sym (entry-beyond (at-args .n) (at-args .i) (now (at-args .journal)) (omega arith))
 
 add-if2 : tie.Need-add-if2
 add-if2 c = search needs
@@ -29,17 +29,18 @@ blank-requires-2 c κs = search needs
 
 returns-2 : tie.Need-returns-2
 returns-2 c =
-    let a = c .before .before .before .before .before .args in
-    c .blank2 .ensures ∙ sym (entry-short (a .n) (a .i) (now (a .journal)) (omega arith))
+    let at-args = c .before .before .before .before .before .args in
+    c .blank2 .ensures ∙ sym (entry-short (at-args .n) (at-args .i) (now (at-args .journal)) (omega arith))
 
 load-requires : tie.Need-load-requires
 load-requires c κs = search needs
 
 returns-3 : tie.Need-returns-3
 returns-3 c =
-    let a = c .before .before .before .before .before .args in
-    rw (c .before .before .before .wide .ensures .0) at (c .load .ensures)
-    ∙ sym (entry-there (a .n) (a .i) (now (a .journal)) (omega arith) (omega arith))
+    let at-args = c .before .before .before .before .before .args in
+    let at-wide-ensures = c .before .before .before .wide .ensures in
+    rw (at-wide-ensures .0) at (c .load .ensures)
+    ∙ sym (entry-there (at-args .n) (at-args .i) (now (at-args .journal)) (omega arith) (omega arith))
 
 pub entry-at-spec : {M : Type 1} → statement M
 entry-at-spec =

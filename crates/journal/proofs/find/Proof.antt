@@ -21,7 +21,9 @@ sub-if1 : tie.Need-sub-if1 Inv-loop μ-loop
 sub-if1 c = search needs
 
 returns : tie.Need-returns Inv-loop μ-loop
-returns c = seeking-short (c .before .before .loop .inv) (c .if1 .taken)
+returns c =
+    let at-loop = c .before .before .loop in
+    seeking-short (at-loop .inv) (c .if1 .taken)
 
 load-requires : tie.Need-load-requires Inv-loop μ-loop
 load-requires c κs = omega arith
@@ -31,9 +33,11 @@ is-asked-requires c κs = search needs
 
 returns-2 : tie.Need-returns-2 Inv-loop μ-loop
 returns-2 c =
-    let turn = c .before .before .before .before in
-    let e = rw (c .before .before .load .ensures) at (c .before .is-asked .ensures) in
-    seeking-here (turn .before .loop .inv) (turn .loop-test .taken) (omega arith) (sym e ∙ c .if2 .taken)
+    let at-loop-inv = c .before .before .before .before .before .loop .inv in
+    let at-loop-test-taken = c .before .before .before .before .loop-test .taken in
+    let at-load-ensures = c .before .before .load .ensures in
+    let e = rw at-load-ensures at (c .before .is-asked .ensures) in
+    seeking-here at-loop-inv at-loop-test-taken (omega arith) (sym e ∙ c .if2 .taken)
 
 add-at : tie.Need-add-at Inv-loop μ-loop
 add-at c = search needs
@@ -46,9 +50,11 @@ loop-less c = search needs
 
 loop-again : tie.Need-loop-again Inv-loop μ-loop
 loop-again c =
-    let turn = c .before .before .before .before in
-    let e = rw (c .before .before .load .ensures) at (c .before .is-asked .ensures) in
-    seeking-more (turn .before .loop .inv) (turn .loop-test .taken) (omega arith) (sym e ∙ c .if2 .left)
+    let at-loop-inv = c .before .before .before .before .before .loop .inv in
+    let at-loop-test-taken = c .before .before .before .before .loop-test .taken in
+    let at-load-ensures = c .before .before .load .ensures in
+    let e = rw at-load-ensures at (c .before .is-asked .ensures) in
+    seeking-more at-loop-inv at-loop-test-taken (omega arith) (sym e ∙ c .if2 .left)
 
 returns-3 : tie.Need-returns-3 Inv-loop μ-loop
 returns-3 c = seeking-done (c .before .loop .inv) (c .loop-test .left)

@@ -18,15 +18,21 @@ is-due-requires c κs = search needs
 
 returns : tie.Need-returns
 unfolding hasTrace
-returns c = rw (c .before .before .before .query .given .1)
+returns c =
+    let at-query = c .before .before .before .query in
+    rw (at-query .given .1)
 
 returns-2 : tie.Need-returns-2
 unfolding hasTrace isOriginal
-returns-2 c = rw (c .before .before .before .before .query2 .given .1)
+returns-2 c =
+    let at-query2 = c .before .before .before .before .query2 in
+    rw (at-query2 .given .1)
 
 returns-3 : tie.Need-returns-3
 unfolding dueWith
-returns-3 c = rw (c .before .before .before .query3 .given .1, ← c .before .is-due .ensures)
+returns-3 c =
+    let at-query3 = c .before .before .before .query3 in
+    rw (at-query3 .given .1, ← c .before .is-due .ensures)
 
 pub is-asked-spec : {M : Type 1} → statement M
 is-asked-spec =

@@ -4,7 +4,7 @@ use borrow.Author.Needs.{needs}
 use native.Mathlib.Omega.{arith}
 use lib.ListN.{replicate}
 use denote.Ref.{now}
-use Rattle.entry.specs.Entry.{decode}
+use Rattle.entry.specs.Entry.{decode, entrySize}
 use Rattle.journal.proofs.Steps.{here-copied}
 use Rattle.journal.proofs.load.Statement.{statement}
 use Rattle.journal.proofs.load.Tie as tie
@@ -32,9 +32,10 @@ entry-of-requires c κs = search needs
 
 returns : tie.Need-returns
 returns c =
-    let a = c .before .before .before .before .before .before .before .args in
+    let at-args = c .before .before .before .before .before .before .before .args in
+    let at-copy-ensures = c .before .before .before .copy .ensures in
     c .entry-of .ensures
-    ∙ ap decode (here-copied (now (a .journal)) (replicate 48 0) _ (a .at) (omega arith) refl (c .before .before .before .copy .ensures .1))
+    ∙ ap decode (here-copied (now (at-args .journal)) (replicate entrySize 0) _ (at-args .at) (omega arith) refl (at-copy-ensures .1))
 
 pub load-spec : {M : Type 1} → statement M
 load-spec =

@@ -19,11 +19,15 @@ find-requires-2 c κs = search needs
 
 returns : tie.Need-returns
 unfolding nextDue
-returns c = rw (sym (c .before .before .before .find .ensures) ∙ c .before .i .given .1)
+returns c =
+    let at-find = c .before .before .before .find in
+    rw (sym (at-find .ensures) ∙ c .before .i .given .1)
 
 returns-2 : tie.Need-returns-2
 unfolding nextDue
-returns-2 c = rw (sym (c .before .before .before .find .ensures) ∙ c .before .enum-told .given .1) (c .find2 .ensures)
+returns-2 c =
+    let at-find = c .before .before .before .find in
+    rw (sym (at-find .ensures) ∙ c .before .enum-told .given .1) (c .find2 .ensures)
 
 pub next-due-spec : {M : Type 1} → statement M
 next-due-spec =

@@ -31,16 +31,20 @@ enum-told-3 c = search needs
 
 returns : tie.Need-returns
 returns c =
-    let told = c .before .before .before in
-    sym (with-debit _ _ (sym (told .before .before .side-of .ensures) ∙ told .enum-told .given .1))
+    let at-side-of = c .before .before .before .before .before .side-of in
+    let at-enum-told = c .before .before .before .enum-told in
+    sym (with-debit _ _ (sym (at-side-of .ensures) ∙ at-enum-told .given .1))
 
 returns-2 : tie.Need-returns-2
 returns-2 c =
-    let told = c .before .before .before in
-    sym (with-credit _ _ (sym (told .before .before .side-of .ensures) ∙ told .enum-told2 .given .1))
+    let at-side-of = c .before .before .before .before .before .side-of in
+    let at-enum-told2 = c .before .before .before .enum-told2 in
+    sym (with-credit _ _ (sym (at-side-of .ensures) ∙ at-enum-told2 .given .1))
 
 returns-3 : tie.Need-returns-3
-returns-3 c = sym (with-neither _ _ (sym (c .before .before .side-of .ensures) ∙ c .enum-told3 .given .1))
+returns-3 c =
+    let at-side-of = c .before .before .side-of in
+    sym (with-neither _ _ (sym (at-side-of .ensures) ∙ c .enum-told3 .given .1))
 
 pub plus-spec : {M : Type 1} → statement M
 plus-spec =

@@ -38,13 +38,10 @@ same-length c = search needs
 
 returns : tie.Need-returns
 returns c =
-    let made = c .before .before .before .before .before in
-    put-copied _ _ _ _ _ _
-    (made .before .before .wide .ensures .0)
-    (omega arith)
-    (search needs)
-    (made .bytes-of .ensures)
-    (c .before .before .copy .ensures .1)
+    let at-wide-ensures = c .before .before .before .before .before .before .before .wide .ensures in
+    let at-bytes-of-ensures = c .before .before .before .before .before .bytes-of .ensures in
+    let at-copy-ensures = c .before .before .copy .ensures in
+    put-copied _ _ _ _ _ _ (at-wide-ensures .0) (omega arith) (search needs) at-bytes-of-ensures (at-copy-ensures .1)
 
 returns-2 : tie.Need-returns-2
 returns-2 c = sym (put-short _ _ _ (omega arith))

@@ -19,13 +19,17 @@ sub-if1 : tie.Need-sub-if1 Inv-loop μ-loop
 sub-if1 c = search needs
 
 returns : tie.Need-returns Inv-loop μ-loop
-returns c = summing-short (c .before .before .loop .inv) (c .if1 .taken)
+returns c =
+    let at-loop = c .before .before .loop in
+    summing-short (at-loop .inv) (c .if1 .taken)
 
 load-requires : tie.Need-load-requires Inv-loop μ-loop
 load-requires c κs = omega arith
 
 plus-requires : tie.Need-plus-requires Inv-loop μ-loop
-plus-requires c κs = rw (c .load .ensures) (summing-room (c .before .before .before .loop .inv) (omega arith))
+plus-requires c κs =
+    let at-loop-inv = c .before .before .before .loop .inv in
+    rw (c .load .ensures) (summing-room at-loop-inv (omega arith))
 
 add-at : tie.Need-add-at Inv-loop μ-loop
 add-at c = search needs
@@ -38,8 +42,9 @@ loop-less c = search needs
 
 loop-again : tie.Need-loop-again Inv-loop μ-loop
 loop-again c =
-    let turn = c .before .before .before in
-    rw (c .plus .ensures, c .before .load .ensures) (summing-more (turn .before .loop .inv) (turn .loop-test .taken) (omega arith))
+    let at-loop-inv = c .before .before .before .before .loop .inv in
+    let at-loop-test-taken = c .before .before .before .loop-test .taken in
+    rw (c .plus .ensures, c .before .load .ensures) (summing-more at-loop-inv at-loop-test-taken (omega arith))
 
 returns-2 : tie.Need-returns-2 Inv-loop μ-loop
 returns-2 c = summing-done (c .before .loop .inv) (c .loop-test .left)

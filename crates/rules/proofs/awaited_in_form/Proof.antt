@@ -31,19 +31,27 @@ is-number-requires-2 : tie.Need-is-number-requires-2
 is-number-requires-2 c κs = search needs
 
 returns : tie.Need-returns
-returns c = rw (c .request-in-form .ensures, c .before .before .a .given .1)
+returns c =
+    let at-a = c .before .before .a in
+    rw (c .request-in-form .ensures, at-a .given .1)
 
 returns-2 : tie.Need-returns-2
-returns-2 c = rw (c .reversal-in-form .ensures, c .before .before .a2 .given .1)
+returns-2 c =
+    let at-a2 = c .before .before .a2 in
+    rw (c .reversal-in-form .ensures, at-a2 .given .1)
 
 returns-3 : tie.Need-returns-3
-returns-3 c = rw (c .is-number .ensures, c .before .before .a3 .given .1)
+returns-3 c =
+    let at-a3 = c .before .before .a3 in
+    rw (c .is-number .ensures, at-a3 .given .1)
 
 returns-4 : tie.Need-returns-4
 returns-4 c = search needs
 
 returns-5 : tie.Need-returns-5
-returns-5 c = rw (c .is-number2 .ensures, c .before .before .a4 .given .1)
+returns-5 c =
+    let at-a4 = c .before .before .a4 in
+    rw (c .is-number2 .ensures, at-a4 .given .1)
 
 pub awaited-in-form-spec : {M : Type 1} → statement M
 awaited-in-form-spec =

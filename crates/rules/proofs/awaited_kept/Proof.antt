@@ -1,6 +1,6 @@
 -- `rules::awaited_kept` meets its contract.
 use borrow.Author.Needs.{needs}
-use Rattle.entry.specs.Form.{within}
+use Rattle.numbers.specs.Numbers.{within}
 use Rattle.rules.proofs.awaited_kept.Statement.{statement}
 use Rattle.rules.proofs.awaited_kept.Tie as tie
 
@@ -36,22 +36,30 @@ is-nowhere-requires c κs = search needs
 
 returns : tie.Need-returns
 unfolding within
-returns c = rw (c .request-kept .ensures, c .before .before .a .given .1)
+returns c =
+    let at-a = c .before .before .a in
+    rw (c .request-kept .ensures, at-a .given .1)
 
 returns-2 : tie.Need-returns-2
 unfolding within
-returns-2 c = rw (c .before .before .before .before .a2 .given .1)
+returns-2 c =
+    let at-a2 = c .before .before .before .before .a2 in
+    rw (at-a2 .given .1)
 
 returns-3 : tie.Need-returns-3
 returns-3 c = search needs
 
 returns-4 : tie.Need-returns-4
 unfolding within
-returns-4 c = rw (c .is-at .ensures, c .before .next-due .ensures, c .before .before .before .a3 .given .1)
+returns-4 c =
+    let at-a3 = c .before .before .before .a3 in
+    rw (c .is-at .ensures, c .before .next-due .ensures, at-a3 .given .1)
 
 returns-5 : tie.Need-returns-5
 unfolding within
-returns-5 c = rw (c .is-nowhere .ensures, c .before .next-due2 .ensures, c .before .before .enum-told2 .given .1)
+returns-5 c =
+    let at-enum-told2 = c .before .before .enum-told2 in
+    rw (c .is-nowhere .ensures, c .before .next-due2 .ensures, at-enum-told2 .given .1)
 
 pub awaited-kept-spec : {M : Type 1} → statement M
 awaited-kept-spec =

@@ -1,6 +1,6 @@
 -- `rules::is_past` meets its contract.
 use borrow.Author.Needs.{needs}
-use Rattle.rules.specs.Rules.{passes, past}
+use Rattle.rules.specs.Rules.{exceeds, past}
 use Rattle.rules.proofs.is_past.Statement.{statement}
 use Rattle.rules.proofs.is_past.Tie as tie
 
@@ -10,29 +10,35 @@ side-of-requires c κs = search needs
 enum-told : tie.Need-enum-told
 enum-told c = search needs
 
-passes-requires : tie.Need-passes-requires
-passes-requires c κs = search needs
+exceeds-requires : tie.Need-exceeds-requires
+exceeds-requires c κs = search needs
 
 enum-told-2 : tie.Need-enum-told-2
 enum-told-2 c = search needs
 
-passes-requires-2 : tie.Need-passes-requires-2
-passes-requires-2 c κs = search needs
+exceeds-requires-2 : tie.Need-exceeds-requires-2
+exceeds-requires-2 c κs = search needs
 
 enum-told-3 : tie.Need-enum-told-3
 enum-told-3 c = search needs
 
 returns : tie.Need-returns
 unfolding past
-returns c = rw (c .passes .ensures, ← c .before .before .before .side-of .ensures, c .before .enum-told .given .1)
+returns c =
+    let at-side-of = c .before .before .before .side-of in
+    rw (c .exceeds .ensures, ← at-side-of .ensures, c .before .enum-told .given .1)
 
 returns-2 : tie.Need-returns-2
 unfolding past
-returns-2 c = rw (c .passes2 .ensures, ← c .before .before .before .side-of .ensures, c .before .enum-told2 .given .1)
+returns-2 c =
+    let at-side-of = c .before .before .before .side-of in
+    rw (c .exceeds2 .ensures, ← at-side-of .ensures, c .before .enum-told2 .given .1)
 
 returns-3 : tie.Need-returns-3
 unfolding past
-returns-3 c = rw (← c .before .before .side-of .ensures, c .enum-told3 .given .1)
+returns-3 c =
+    let at-side-of = c .before .before .side-of in
+    rw (← at-side-of .ensures, c .enum-told3 .given .1)
 
 pub is-past-spec : {M : Type 1} → statement M
 is-past-spec =
@@ -40,9 +46,9 @@ is-past-spec =
     (tie.spec
     side-of-requires
     enum-told
-    passes-requires
+    exceeds-requires
     enum-told-2
-    passes-requires-2
+    exceeds-requires-2
     enum-told-3
     returns
     returns-2

@@ -31,7 +31,9 @@ returns-2 : tie.Need-returns-2
 returns-2 c = search needs
 
 returns-3 : tie.Need-returns-3
-returns-3 c = rw (c .reversal-in-form .ensures, c .before .before .p2 .given .1)
+returns-3 c =
+    let at-p2 = c .before .before .p2 in
+    rw (c .reversal-in-form .ensures, at-p2 .given .1)
 
 returns-4 : tie.Need-returns-4
 returns-4 c = search needs

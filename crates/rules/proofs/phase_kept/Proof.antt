@@ -25,10 +25,14 @@ returns : tie.Need-returns
 returns c = search needs
 
 returns-2 : tie.Need-returns-2
-returns-2 c = rw (c .awaited-kept .ensures, c .before .before .p .given .1)
+returns-2 c =
+    let at-p = c .before .before .p in
+    rw (c .awaited-kept .ensures, at-p .given .1)
 
 returns-3 : tie.Need-returns-3
-returns-3 c = rw (c .before .before .before .p2 .given .1)
+returns-3 c =
+    let at-p2 = c .before .before .before .p2 in
+    rw (at-p2 .given .1)
 
 returns-4 : tie.Need-returns-4
 returns-4 c = search needs

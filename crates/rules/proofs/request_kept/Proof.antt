@@ -10,8 +10,8 @@ totals-of-requires c κs = search needs
 is-past-requires : tie.Need-is-past-requires
 is-past-requires c κs = search needs
 
-original-left-requires : tie.Need-original-left-requires
-original-left-requires c κs = search needs
+original-unvoided-requires : tie.Need-original-unvoided-requires
+original-unvoided-requires c κs = search needs
 
 find-requires : tie.Need-find-requires
 find-requires c κs = search needs
@@ -20,7 +20,13 @@ is-nowhere-requires : tie.Need-is-nowhere-requires
 is-nowhere-requires c κs = search needs
 
 returns : tie.Need-returns
-returns c = rw (c .is-nowhere .ensures, c .before .find .ensures, c .before .before .original-left .ensures, c .before .before .before .is-past .ensures, c .before .before .before .before .totals-of .ensures) (request-kept-is _ _ _ (c .before .before .before .before .before .before .before .args .q))
+returns c =
+    let at-args = c .before .before .before .before .before .before .before .args in
+    let at-totals-of = c .before .before .before .before .totals-of in
+    let at-is-past = c .before .before .before .is-past in
+    let at-original-unvoided = c .before .before .original-unvoided in
+    rw (c .is-nowhere .ensures, c .before .find .ensures, at-original-unvoided .ensures, at-is-past .ensures, at-totals-of .ensures)
+    (request-kept-is _ _ _ (at-args .q))
 
 pub request-kept-spec : {M : Type 1} → statement M
 request-kept-spec =
@@ -28,7 +34,7 @@ request-kept-spec =
     (tie.spec
     totals-of-requires
     is-past-requires
-    original-left-requires
+    original-unvoided-requires
     find-requires
     is-nowhere-requires
     returns)

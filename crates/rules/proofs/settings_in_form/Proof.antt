@@ -1,7 +1,7 @@
 -- `rules::settings_in_form` meets its contract.
 use borrow.Author.Needs.{needs}
+use Rattle.numbers.specs.Numbers.{within}
 use Rattle.rules.specs.Rules.{settingsInForm}
-use Rattle.entry.specs.Form.{within}
 use Rattle.rules.proofs.settings_in_form.Statement.{statement}
 use Rattle.rules.proofs.settings_in_form.Tie as tie
 
@@ -22,7 +22,10 @@ all-printable-requires-2 c κs = search needs
 
 returns : tie.Need-returns
 unfolding settingsInForm within
-returns c = rw (c .all-printable2 .ensures, c .before .before .all-printable .ensures, c .before .before .before .before .is-within .ensures)
+returns c =
+    let at-is-within = c .before .before .before .before .is-within in
+    let at-all-printable = c .before .before .all-printable in
+    rw (c .all-printable2 .ensures, at-all-printable .ensures, at-is-within .ensures)
 
 pub settings-in-form-spec : {M : Type 1} → statement M
 settings-in-form-spec =

@@ -15,7 +15,10 @@ phase-in-form-requires c κs = search needs
 
 returns : tie.Need-returns
 unfolding stateInForm
-returns c = rw (c .phase-in-form .ensures, c .before .before .is-number2 .ensures, c .before .before .before .is-number .ensures)
+returns c =
+    let at-is-number = c .before .before .before .is-number in
+    let at-is-number2 = c .before .before .is-number2 in
+    rw (c .phase-in-form .ensures, at-is-number2 .ensures, at-is-number .ensures)
 
 pub state-in-form-spec : {M : Type 1} → statement M
 state-in-form-spec =

@@ -13,7 +13,9 @@ enum-told : tie.Need-enum-told
 enum-told c = search needs
 
 returns : tie.Need-returns
-returns c = rw (c .before .entry-at .ensures, c .before .before .before .place .given .1)
+returns c =
+    let at-place = c .before .before .before .place in
+    rw (c .before .entry-at .ensures, at-place .given .1)
 
 returns-2 : tie.Need-returns-2
 returns-2 c = search needs

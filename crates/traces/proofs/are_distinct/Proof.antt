@@ -12,8 +12,9 @@ is-ordered-requires c κs = search needs
 
 returns : tie.Need-returns
 returns c =
-    let n = c .before .before .before .args .n in
-    let j = now (c .before .before .before .args .journal) in
+    let at-args = c .before .before .before .args in
+    let n = at-args .n in
+    let j = now (at-args .journal) in
     sym (ordered-distinct (entriesOf n j) (sym (c .before .is-ordered .ensures) ∙ c .if1 .taken))
 
 are-apart-requires : tie.Need-are-apart-requires

@@ -5,6 +5,7 @@ use native.Mathlib.Omega.{arith}
 use Prim.Native.Nat.{_/_}
 use lib.ListN.{length}
 use denote.Ref.{now}
+use Rattle.entry.specs.Entry.{entrySize}
 use Rattle.traces.proofs.Entries.{length-entries}
 use Rattle.traces.proofs.count_of.Statement.{statement}
 use Rattle.traces.proofs.count_of.Tie as tie
@@ -16,7 +17,7 @@ returns : tie.Need-returns
 returns c =
     let n = c .before .args .n in
     let j = now (c .before .args .journal) in
-    sym (length-entries n (length j / 48) j (omega arith) (omega arith) (λ h. omega arith))
+    sym (length-entries n (length j / entrySize) j (omega arith) (omega arith) (λ h. omega arith))
 
 returns-2 : tie.Need-returns-2
 returns-2 c =

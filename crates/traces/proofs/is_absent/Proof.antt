@@ -19,18 +19,22 @@ enum-told-2 c = search needs
 
 returns : tie.Need-returns
 returns c =
-    let n = c .before .before .before .before .args .n in
-    let j = now (c .before .before .before .before .args .journal) in
+    let at-args = c .before .before .before .before .args in
+    let at-find = c .before .before .find in
+    let n = at-args .n in
+    let j = now (at-args .journal) in
     let told = c .enum-told .given in
-    let x = c .before .before .before .before .args .x .0 in
-    sym (present-found x (told .0 .0) (entriesOf n j) (sym (c .before .before .find .ensures) ∙ told .1))
+    let x = at-args .x .0 in
+    sym (present-found x (told .0 .0) (entriesOf n j) (sym (at-find .ensures) ∙ told .1))
 
 returns-2 : tie.Need-returns-2
 returns-2 c =
-    let n = c .before .before .before .before .args .n in
-    let j = now (c .before .before .before .before .args .journal) in
-    let x = c .before .before .before .before .args .x .0 in
-    sym (first-absent x (entriesOf n j) (sym (c .before .before .find .ensures) ∙ c .enum-told2 .given .1))
+    let at-args = c .before .before .before .before .args in
+    let at-find = c .before .before .find in
+    let n = at-args .n in
+    let j = now (at-args .journal) in
+    let x = at-args .x .0 in
+    sym (first-absent x (entriesOf n j) (sym (at-find .ensures) ∙ c .enum-told2 .given .1))
 
 pub is-absent-spec : {M : Type 1} → statement M
 is-absent-spec = tie.close (tie.spec find-requires enum-told enum-told-2 returns returns-2)

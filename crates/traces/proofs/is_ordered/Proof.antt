@@ -23,27 +23,31 @@ count-of-requires c κs = search needs
 
 returns : tie.Need-returns Inv-loop μ-loop
 returns c =
+    let at-args-journal = c .before .before .before .args .journal in
     let n = c .before .before .before .args .n in
-    let j = now (c .before .before .before .args .journal) in
+    let j = now at-args-journal in
     sym (rising-none (entriesOf n j) (omega arith))
 
 trace-at-requires : tie.Need-trace-at-requires Inv-loop μ-loop
 trace-at-requires c κs =
+    let at-args-journal = c .before .before .before .args .journal in
     let n = c .before .before .before .args .n in
-    let j = now (c .before .before .before .args .journal) in
+    let j = now at-args-journal in
     entries-room n 0 j (omega arith) .0
 
 loop-holds : tie.Need-loop-holds Inv-loop μ-loop
 loop-holds c =
+    let at-args-journal = c .before .before .before .before .args .journal in
     let n = c .before .before .before .before .args .n in
-    let j = now (c .before .before .before .before .args .journal) in
+    let j = now at-args-journal in
     let h : 0 < length (entriesOf n j) = omega arith in
     rising-first h (trace-is n 0 j h (c .trace-at .ensures))
 
 trace-at-requires-2 : tie.Need-trace-at-requires-2 Inv-loop μ-loop
 trace-at-requires-2 c κs =
+    let at-args-journal = c .before .before .before .before .before .before .args .journal in
     let n = c .before .before .before .before .before .before .args .n in
-    let j = now (c .before .before .before .before .before .before .args .journal) in
+    let j = now at-args-journal in
     let i = c .before .loop .i in
     entries-room n i j (omega arith) .0
 
@@ -52,13 +56,16 @@ may-follow-requires c κs = search needs
 
 returns-2 : tie.Need-returns-2 Inv-loop μ-loop
 returns-2 c =
+    let at-args-journal = c .before .before .before .before .before .before .before .before .before .args .journal in
+    let at-loop-inv = c .before .before .before .before .loop .inv in
+    let at-trace-at2-ensures = c .before .before .trace-at2 .ensures in
     let n = c .before .before .before .before .before .before .before .before .before .args .n in
-    let j = now (c .before .before .before .before .before .before .before .before .before .args .journal) in
+    let j = now at-args-journal in
     let i = c .before .before .before .before .loop .i in
     let h : i < length (entriesOf n j) = omega arith in
     sym
-    (rising-stop (c .before .before .before .before .loop .inv) h
-    (trace-is n i j h (c .before .before .trace-at2 .ensures))
+    (rising-stop at-loop-inv h
+    (trace-is n i j h at-trace-at2-ensures)
     (sym (c .before .may-follow .ensures) ∙ not-true _ (c .if2 .taken)))
 
 add-i : tie.Need-add-i Inv-loop μ-loop
@@ -69,13 +76,14 @@ loop-less c = search needs
 
 loop-again : tie.Need-loop-again Inv-loop μ-loop
 loop-again c =
+    let at-args-journal = c .before .before .before .before .before .before .before .before .before .args .journal in
+    let at-loop-inv = c .before .before .before .before .loop .inv in
+    let at-trace-at2-ensures = c .before .before .trace-at2 .ensures in
     let n = c .before .before .before .before .before .before .before .before .before .args .n in
-    let j = now (c .before .before .before .before .before .before .before .before .before .args .journal) in
+    let j = now at-args-journal in
     let i = c .before .before .before .before .loop .i in
     let h : i < length (entriesOf n j) = omega arith in
-    rising-more (c .before .before .before .before .loop .inv) h
-    (trace-is n i j h (c .before .before .trace-at2 .ensures))
-    (sym (c .before .may-follow .ensures) ∙ not-false _ (c .if2 .left))
+    rising-more at-loop-inv h (trace-is n i j h at-trace-at2-ensures) (sym (c .before .may-follow .ensures) ∙ not-false _ (c .if2 .left))
 
 returns-3 : tie.Need-returns-3 Inv-loop μ-loop
 returns-3 c = sym (rising-done (c .before .loop .inv) (omega arith))

@@ -7,7 +7,7 @@ use Prim.Native.Nat.{ℕ, _-_, _<_}
 use lib.ListN.{length}
 use denote.Ref.{now}
 use Rattle.journal.specs.Journal.{entriesOf, takenFrom}
-use Rattle.parts.specs.declared.Trace.{Trace}
+use Rattle.numbers.specs.declared.Trace.{Trace}
 use Rattle.traces.proofs.Entries.{entries-room, trace-is}
 use Rattle.traces.proofs.Passing.{Passing, some-left, passing-none, passing-met, passing-other, passing-done}
 use Rattle.traces.proofs.pass.Statement.{statement}
@@ -28,14 +28,16 @@ count-of-requires c κs = search needs
 
 loop-holds : tie.Need-loop-holds Inv-loop μ-loop
 loop-holds c =
-    let n = c .before .before .args .n in
-    let j = now (c .before .before .args .journal) in
-    passing-none (entriesOf n j) (c .before .before .args .x .0) (c .before .before .args .left)
+    let at-args = c .before .before .args in
+    let n = at-args .n in
+    let j = now (at-args .journal) in
+    passing-none (entriesOf n j) (at-args .x .0) (at-args .left)
 
 trace-at-requires : tie.Need-trace-at-requires Inv-loop μ-loop
 trace-at-requires c κs =
+    let at-args-journal = c .before .before .before .before .args .journal in
     let n = c .before .before .before .before .args .n in
-    let j = now (c .before .before .before .before .args .journal) in
+    let j = now at-args-journal in
     let i = c .before .loop .i in
     entries-room n i j (omega arith) .0
 
@@ -44,8 +46,9 @@ following-requires c κs = search needs
 
 sub-rest : tie.Need-sub-rest Inv-loop μ-loop
 sub-rest c =
-    let here = c .before .before .before .before .before .loop in
-    some-left (c .before .before .before .trace-at .result) (here .next .0) (here .rest) (c .before .if1 .taken)
+    let at-loop = c .before .before .before .before .before .loop in
+    let at-trace-at = c .before .before .before .trace-at in
+    some-left (at-trace-at .result) (at-loop .next .0) (at-loop .rest) (c .before .if1 .taken)
 
 add-i : tie.Need-add-i Inv-loop μ-loop
 add-i c = search needs
@@ -55,12 +58,14 @@ loop-less c = search needs
 
 loop-again : tie.Need-loop-again Inv-loop μ-loop
 loop-again c =
+    let at-args-journal = c .before .before .before .before .before .before .before .args .journal in
+    let at-trace-at-ensures = c .before .before .trace-at .ensures in
     let n = c .before .before .before .before .before .before .before .args .n in
-    let j = now (c .before .before .before .before .before .before .before .args .journal) in
+    let j = now at-args-journal in
     let i = c .before .before .before .before .loop .i in
     let h : i < length (entriesOf n j) = omega arith in
     let r = c .before .before .before .before .loop .inv in
-    let q = trace-is n i j h (c .before .before .trace-at .ensures) in
+    let q = trace-is n i j h at-trace-at-ensures in
     ⊎-elim
     (λ w. passing-met r h q (w .0 .taken) (ap number (w .2 ∙ w .1 .ensures)) (w .3))
     (λ w. passing-other r h q (w .0 .left) (ap number (w .1)) (w .2))

@@ -29,14 +29,17 @@ loop-less : tie.Need-loop-less Inv-loop μ-loop
 loop-less c = search needs
 
 loop-again : tie.Need-loop-again Inv-loop μ-loop
-loop-again c = pass-on (c .before .before .before .loop .inv) (c .pass2 .ensures)
+loop-again c =
+    let at-loop = c .before .before .before .loop in
+    pass-on (at-loop .inv) (c .pass2 .ensures)
 
 returns : tie.Need-returns Inv-loop μ-loop
 returns c =
+    let at-count-of = c .before .before .before .before .before .count-of in
+    let at-pass = c .before .before .before .before .pass in
+    let at-loop = c .before .before .before .loop in
     let x = c .before .before .before .before .before .before .before .args .next .0 in
-    let begun = c .before .before .before .before .pass in
-    let last = c .before .before .before .loop in
-    search-done x (c .before .before .before .before .before .count-of .ensures) (begun .ensures) (last .inv) (c .before .if1 .left)
+    search-done x (at-count-of .ensures) (at-pass .ensures) (at-loop .inv) (c .before .if1 .left)
 
 pub take-spec : {M : Type 1} → statement M
 take-spec =

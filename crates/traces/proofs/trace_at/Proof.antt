@@ -4,6 +4,7 @@ use borrow.Author.Needs.{needs}
 use native.Mathlib.Omega.{arith}
 use Prim.Native.Nat.{_+_, _*_}
 use denote.Ref.{now}
+use Rattle.entry.specs.Entry.{entrySize}
 use Rattle.traces.proofs.Entries.{three-bytes, trace-below}
 use Rattle.traces.proofs.trace_at.Statement.{statement}
 use Rattle.traces.proofs.trace_at.Tie as tie
@@ -17,29 +18,33 @@ add-at c = search needs
 add-end : tie.Need-add-end
 add-end c = search needs
 
-sub-number-in : tie.Need-sub-number-in
-sub-number-in c = search needs
+sub-packed-number : tie.Need-sub-packed-number
+sub-packed-number c = search needs
 
-part-number-in-start : tie.Need-part-number-in-start
-part-number-in-start c = search needs
+part-packed-number-start : tie.Need-part-packed-number-start
+part-packed-number-start c = search needs
 
-part-number-in-end : tie.Need-part-number-in-end
-part-number-in-end c = search needs
+part-packed-number-end : tie.Need-part-packed-number-end
+part-packed-number-end c = search needs
 
-number-in-requires : tie.Need-number-in-requires
-number-in-requires c κs = search needs
+packed-number-requires : tie.Need-packed-number-requires
+packed-number-requires c κs = search needs
 
 cast-result : tie.Need-cast-result
 cast-result c =
-    let at = 48 * c .before .before .before .args .i + 4 in
-    let j = now (c .before .before .before .args .journal) in
-    omega (arith, c .number-in .ensures, three-bytes at j (search needs), trace-below at j)
+    let at-args-i = c .before .before .before .args .i in
+    let at-args-journal = c .before .before .before .args .journal in
+    let at = entrySize * at-args-i + 4 in
+    let j = now at-args-journal in
+    omega (arith, c .packed-number .ensures, three-bytes at j (search needs), trace-below at j)
 
 returns : tie.Need-returns
 returns c =
-    let at = 48 * c .before .before .before .args .i + 4 in
-    let j = now (c .before .before .before .args .journal) in
-    c .number-in .ensures ∙ three-bytes at j (search needs)
+    let at-args-i = c .before .before .before .args .i in
+    let at-args-journal = c .before .before .before .args .journal in
+    let at = entrySize * at-args-i + 4 in
+    let j = now at-args-journal in
+    c .packed-number .ensures ∙ three-bytes at j (search needs)
 
 pub trace-at-spec : {M : Type 1} → statement M
 trace-at-spec =
@@ -48,9 +53,9 @@ trace-at-spec =
     mul-at
     add-at
     add-end
-    sub-number-in
-    part-number-in-start
-    part-number-in-end
-    number-in-requires
+    sub-packed-number
+    part-packed-number-start
+    part-packed-number-end
+    packed-number-requires
     cast-result
     returns)
