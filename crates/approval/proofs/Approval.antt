@@ -9,13 +9,15 @@ use lib.Dec.{eqb}
 use lib.ListN.{length, getD, take, drop, replicate, length-append, length-take, length-drop, length-replicate, getD-replicate, List·getD-append}
 use lib.Seq.{ext-getD, getD-append-add, getD-take, getD-drop, length-take-le}
 use borrow.Author.Tests.{eq-eqb, le-leb, eqb-true}
+use Rattle.numbers.specs.Limits.{largestAmount, lastNumber}
+use Rattle.numbers.specs.Numbers.{within}
 use Rattle.digits.specs.Digits.{half, bytesFor, unpack, packedByte, pack, halfAllowed, isPacked, allDigits, packable}
 use Rattle.digits.specs.Numbers.{digitsOf}
 use Rattle.digits.proofs.Lists.{getD-past, all-true}
 use Rattle.digits.proofs.Packing.{length-pack, length-unpack, getD-pack, getD-unpack, digit-at, digits-all, half-pack, packed-pack}
 use Rattle.digits.proofs.Numbers.{length-digitsOf, digitsOf-digits, value-digitsOf}
-use Rattle.packed.specs.Packed.{packedNumber}
-use Rattle.packed.proofs.Packed.{number-value}
+use Rattle.digits.specs.Packed.{packedNumber}
+use Rattle.digits.proofs.Packed.{number-value}
 use Rattle.field.specs.Bitmap.{names}
 use Rattle.field.specs.Contents.{allPrintable}
 use Rattle.kinds.specs.Kinds.{isKind}
@@ -24,7 +26,7 @@ use Rattle.message.specs.declared.Message.{Message}
 use Rattle.parts.specs.Parts.{copies}
 use Rattle.entry.specs.declared.Entry.{Entry}
 use Rattle.entry.specs.Entry.{allZero}
-use Rattle.entry.specs.Form.{within, cardInForm, inForm}
+use Rattle.entry.specs.Form.{cardInForm, inForm}
 use Rattle.entry.specs.Theorems.{Shaped}
 use Rattle.entry.proofs.Form.{isNought}
 use Rattle.state.specs.declared.Card.{Card}
@@ -217,9 +219,9 @@ module _ (m : Message) (n k : ℕ) (b : List ℕ) where
   unfolding fieldOr copies
   field-there e l = rw (e, eq-eqb k (length (fieldOf m n .bytes)) (sym l))
 
-  field-passes : (p : List ℕ → Bool) → p b ≡ true → (names (m .bitmap) n ≡ true → p (fieldOf m n .bytes) ≡ true) → p (fieldOr n k b m) ≡ true
+  field-exceeds : (p : List ℕ → Bool) → p b ≡ true → (names (m .bitmap) n ≡ true → p (fieldOf m n .bytes) ≡ true) → p (fieldOr n k b m) ≡ true
   unfolding fieldOr copies
-  field-passes p e h = go (names (m .bitmap) n) (eqb k (length (fieldOf m n .bytes))) h
+  field-exceeds p e h = go (names (m .bitmap) n) (eqb k (length (fieldOf m n .bytes))) h
     where
       go : (t s : Bool) → (t ≡ true → p (fieldOf m n .bytes) ≡ true) → p (cond (t && s) (fieldOf m n .bytes) b) ≡ true
       go true true h = h refl
@@ -247,8 +249,8 @@ unfolding allPrintable
 spaces = refl
 
 -- the entry of a request in form and an answer that was read is in form
-pub in-form : (q : Request) (m : Message) → isKind (q .kind) ≡ true → 1 ≤ q .trace .0 → q .trace .0 ≤ 999999
-    → 1 ≤ q .amount → q .amount ≤ 9999999999 → 13 ≤ q .card .length → q .card .length ≤ 19
+pub in-form : (q : Request) (m : Message) → isKind (q .kind) ≡ true → 1 ≤ q .trace .0 → q .trace .0 ≤ lastNumber
+    → 1 ≤ q .amount → q .amount ≤ largestAmount → 13 ≤ q .card .length → q .card .length ≤ 19
     → (names (m .bitmap) 13 ≡ true → isPacked 4 (fieldOf m 13 .bytes) ≡ true)
     → names (m .bitmap) 37 ≡ true → length (fieldOf m 37 .bytes) ≡ 12 → allPrintable (fieldOf m 37 .bytes) ≡ true
     → (names (m .bitmap) 38 ≡ true → allPrintable (fieldOf m 38 .bytes) ≡ true)
@@ -258,12 +260,12 @@ in-form q m kind t₁ t₂ a₁ a₂ c₁ c₂ date named size reference authori
     rw (
       kind,
       le-leb 1 (q .trace .0) t₁,
-      le-leb (q .trace .0) 999999 t₂,
+      le-leb (q .trace .0) lastNumber t₂,
       le-leb 1 (q .amount) a₁,
-      le-leb (q .amount) 9999999999 a₂,
+      le-leb (q .amount) largestAmount a₂,
       card-in-form (q .card) c₁ c₂,
-      field-passes m 13 2 (replicate 2 0) (isPacked 4) no-date date,
-      field-passes m 38 6 (replicate 6 0x20) allPrintable spaces authorisation,
+      field-exceeds m 13 2 (replicate 2 0) (isPacked 4) no-date date,
+      field-exceeds m 38 6 (replicate 6 0x20) allPrintable spaces authorisation,
       field-there m 37 12 (replicate 12 0) named size,
       reference,
     )

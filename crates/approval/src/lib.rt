@@ -1,21 +1,11 @@
-// The entry of an approval (document 01, "State and journal" and "Calls").
+// The entry of an approval, and the card of an entry (document 01, "State and journal" and "Calls").
 use entry::Entry;
 use message::Message;
 use state::Card;
 use state::Request;
 ghost use mathlib.Core.Path.{_≡_};
+ghost use Rattle.approval.specs.Cards.{cardOf};
 ghost use Rattle.approval.specs.Approval.{zeroFilled, fieldOr, approvedEntry};
-
-fn zero_filled(card: Card) -> [u8; 10]
-    ensures { λ r. ⌜ r ≡ zeroFilled card ⌝ }
-{
-    let n = card.length as usize;
-    let mut ds = [0u8; 275];
-    let mut out = [0u8; 10];
-    digits::digits_into(card.number, &mut ds[..n]);
-    digits::pack_into(&ds[..20], &mut out);
-    out
-}
 
 // The entry that a good answer to a request makes.
 pub fn approved_entry(q: Request, m: Message) -> Entry
@@ -43,4 +33,29 @@ pub fn approved_entry(q: Request, m: Message) -> Entry
         reference: reference,
         reserved: [0u8; 4],
     }
+}
+
+// The card of an entry, as a number and its count of digits.
+pub fn card_of(e: Entry) -> Card
+    ensures { λ r. ⌜ r ≡ cardOf e ⌝ }
+{
+    let n = e.digits as usize;
+    let card = e.card;
+    let mut ds = [0u8; 255];
+    digits::unpack_into(&card, &mut ds[..n]);
+    Card {
+        number: digits::numeral(digits::number_of(&ds[..n])),
+        length: e.digits,
+    }
+}
+
+fn zero_filled(card: Card) -> [u8; 10]
+    ensures { λ r. ⌜ r ≡ zeroFilled card ⌝ }
+{
+    let n = card.length as usize;
+    let mut ds = [0u8; 275];
+    let mut out = [0u8; 10];
+    digits::digits_into(card.number, &mut ds[..n]);
+    digits::pack_into(&ds[..20], &mut out);
+    out
 }

@@ -1,21 +1,21 @@
 -- Each field of what leaves, by itself, may be held.
 use mathlib.Core.Path.{_≡_, refl}
-use mathlib.Core.List.{List, [], _∷_, _++_}
+use mathlib.Core.List.{List, [], _∷_}
 use mathlib.Core.Bool.{true}
-use Prim.Native.Nat.{ℕ, _+_, _≤_}
-use lib.ListN.{length, replicate, length-append}
+use Prim.Native.Nat.{ℕ, _≤_}
+use lib.ListN.{length, replicate}
 use borrow.Author.Tests.{le-leb}
 use Rattle.digits.specs.Numbers.{digitsOf}
-use Rattle.digits.proofs.Numbers.{length-digitsOf, digitsOf-digits}
 use Rattle.field.specs.Table.{formats}
 use Rattle.field.specs.Contents.{allowed, allPrintable}
 use Rattle.message.specs.Build.{digits, bytes}
-use Rattle.parts.specs.declared.Batch.{Batch}
+use Rattle.parts.specs.Layout.{sum, widths, laid}
+use Rattle.parts.proofs.Laid.{laid-digits, length-laid}
+use Rattle.numbers.specs.declared.Batch.{Batch}
 use Rattle.compose.specs.Compose.{mayHold}
 use Rattle.compose.proofs.Items.{takes, isDigits, digits-held, number-held, printable-held, bytes-held}
 use Rattle.outgoing.specs.declared.Original.{Original}
 use Rattle.outgoing.specs.Outgoing.{field60, field61}
-use Rattle.outgoing.proofs.Pieces.{digits-append}
 use Rattle.digits.specs.Digits.{allDigits}
 
 -- a card number, and a fixed field's digits or bytes, are as many as the table allows
@@ -71,25 +71,20 @@ pub mac-held : mayHold formats (bytes 64 (replicate 8 0)) ≡ true
 unfolding formats allowed
 mac-held = bytes-held 64 (replicate 8 0) refl
 
--- three numbers, one after another
-pub joined : (n p q r x y w : ℕ) → takes isDigits formats n (p + (q + r)) ≡ true → mayHold formats (digits n (digitsOf p x ++ (digitsOf q y ++ digitsOf r w))) ≡ true
-joined n p q r x y w h =
-    digits-held n (digitsOf p x ++ (digitsOf q y ++ digitsOf r w)) (simp (length-append, length-digitsOf) h)
-    (digits-append (digitsOf p x) (digitsOf q y ++ digitsOf r w) (digitsOf-digits p x)
-    (digits-append (digitsOf q y) (digitsOf r w) (digitsOf-digits q y) (digitsOf-digits r w)))
+-- the parts of a field
+pub laid-held : (n : ℕ) (xs : List ℕ) → takes isDigits formats n (sum (widths n)) ≡ true → mayHold formats (digits n (laid n xs)) ≡ true
+laid-held n xs h = digits-held n (laid n xs) (rw (length-laid (widths n) xs) h) (laid-digits (widths n) xs)
 
 pub field60-digits : (kind : ℕ) (batch : Batch) (code : ℕ) → allDigits (field60 kind batch code) ≡ true
-field60-digits kind batch code =
-    digits-append (digitsOf 2 kind) (digitsOf 6 (batch .0) ++ digitsOf 3 code) (digitsOf-digits 2 kind)
-    (digits-append (digitsOf 6 (batch .0)) (digitsOf 3 code) (digitsOf-digits 6 (batch .0)) (digitsOf-digits 3 code))
+field60-digits kind batch code = laid-digits (widths 60) (kind ∷ batch .0 ∷ code ∷ [])
 
 pub field60-held : (kind : ℕ) (batch : Batch) (code : ℕ) → mayHold formats (digits 60 (field60 kind batch code)) ≡ true
 unfolding formats allowed
-field60-held kind batch code = joined 60 2 6 3 kind (batch .0) code refl
+field60-held kind batch code = laid-held 60 (kind ∷ batch .0 ∷ code ∷ []) refl
 
 pub field61-held : (o : Original) → mayHold formats (digits 61 (field61 o)) ≡ true
 unfolding formats allowed
-field61-held o = joined 61 6 6 4 (o .batch .0) (o .trace .0) (o .date) refl
+field61-held o = laid-held 61 (o .batch .0 ∷ o .trace .0 ∷ o .date ∷ []) refl
 
 -- the currency is printable
 pub currency-printable : allPrintable (0x31 ∷ 0x35 ∷ 0x36 ∷ []) ≡ true

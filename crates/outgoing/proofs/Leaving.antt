@@ -10,7 +10,7 @@ use Rattle.field.specs.Table.{among, indicators, formats}
 use Rattle.field.specs.Contents.{allPrintable}
 use Rattle.message.specs.Build.{Item, digits, bytes, messageOf}
 use Rattle.message.specs.Message.{largest}
-use Rattle.parts.specs.declared.Batch.{Batch}
+use Rattle.numbers.specs.declared.Batch.{Batch}
 use Rattle.kinds.specs.Kinds.{indicatorOf, processingOf, conditionOf, takesOriginal}
 use Rattle.state.specs.declared.Request.{Request}
 use Rattle.state.specs.declared.Reason.{Reason}
@@ -25,7 +25,7 @@ use Rattle.compose.proofs.Composed.{all-composed}
 use Rattle.compose.proofs.Sound.{sound}
 use Rattle.outgoing.specs.declared.Original.{Original}
 use Rattle.outgoing.specs.Outgoing.{field61, cardFields, originalFields, requestFields, reasonCode, reversalFields, requestMessage, reversalMessage}
-use Rattle.outgoing.specs.Leaving.{CardHeld, OriginalHeld}
+use Rattle.outgoing.specs.Held.{CardHeld, OriginalHeld}
 use Rattle.outgoing.proofs.Fields.{card-taken, processing-held, amount-held, trace-held, entry-held, condition-held, reference-held, authorisation-held, reason-held, terminal-held, merchant-held, currency-held, mac-held, field60-held, field61-held, currency-printable}
 
 pub held-append : (xs ys : List Item) → allHeld xs ≡ true → allHeld ys ≡ true → allHeld (xs ++ ys) ≡ true

@@ -1,4 +1,3 @@
 -- Laws of the messages that leave, for the crates above.
-pub mod Pieces
 pub mod Fields
 pub mod Leaving

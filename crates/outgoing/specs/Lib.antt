@@ -1,2 +1,2 @@
 pub mod Outgoing
-pub mod Leaving
+pub mod Held

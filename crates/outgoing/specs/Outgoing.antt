@@ -1,16 +1,16 @@
 -- Document 01, "Kinds" and "Calls": the fields of the messages that leave.
 use mathlib.Core.List.{List, [], _∷_, _++_}
-use mathlib.Core.Bool.{cond, _||_}
+use mathlib.Core.Bool.{cond}
 use Prim.Native.Nat.{ℕ}
-use lib.Dec.{eqb}
 use lib.ListN.{replicate}
 use Rattle.digits.specs.Numbers.{digitsOf}
 use Rattle.message.specs.Build.{Item, digits, bytes, messageOf}
 use Rattle.message.specs.declared.Message.{Message}
-use Rattle.parts.specs.declared.Batch.{Batch}
+use Rattle.parts.specs.Layout.{laid}
+use Rattle.numbers.specs.declared.Batch.{Batch}
 use Rattle.writing.specs.declared.Writing.{Writing}
 use Rattle.writing.specs.declared.Writing.the-variants.{Written, Refused}
-use Rattle.kinds.specs.Kinds.{indicatorOf, processingOf, conditionOf, takesOriginal}
+use Rattle.kinds.specs.Kinds.{indicatorOf, processingOf, conditionOf, takesOriginal, keysReference, keysAuthorisation}
 use Rattle.state.specs.declared.Request.{Request}
 use Rattle.state.specs.declared.Reason.{Reason}
 use Rattle.state.specs.declared.Reason.the-variants.{Silence, BadMac}
@@ -18,13 +18,17 @@ use Rattle.state.specs.declared.Reversal.{Reversal}
 use Rattle.state.specs.declared.Settings.{Settings}
 use Rattle.outgoing.specs.declared.Original.{Original}
 
--- field 60 is kind (2), batch (6), management code (3)
+-- field 60 is kind, batch, management code
 abbrev pub field60 : ℕ → Batch → ℕ → List ℕ
-field60 kind batch code = digitsOf 2 kind ++ (digitsOf 6 (batch .0) ++ digitsOf 3 code)
+field60 kind batch code = laid 60 (kind ∷ batch .0 ∷ code ∷ [])
 
--- field 61 is original batch (6), trace (6), date MMDD (4)
+-- field 61 is original batch, trace, date MMDD
 abbrev pub field61 : Original → List ℕ
-field61 o = digitsOf 6 (o .batch .0) ++ (digitsOf 6 (o .trace .0) ++ digitsOf 4 (o .date))
+field61 o = laid 61 (o .batch .0 ∷ o .trace .0 ∷ o .date ∷ [])
+
+-- field 49: Chinese yuan, 156
+abbrev pub currency : List ℕ
+currency = 0x31 ∷ 0x35 ∷ 0x36 ∷ []
 
 -- every card request holds 2, 3, 4, 11, 22, 25, 41, 42, 49, 60, 64; field 22 is 012, the currency 156, the management code 000;
 -- field 64 leaves as eight zero bytes
@@ -38,7 +42,7 @@ cardFields x batch q =
     ∷ digits 25 (digitsOf 2 (conditionOf (q .kind)))
     ∷ bytes 41 (x .terminal)
     ∷ bytes 42 (x .merchant)
-    ∷ bytes 49 (0x31 ∷ 0x35 ∷ 0x36 ∷ [])
+    ∷ bytes 49 currency
     ∷ digits 60 (field60 (q .kind) batch 0)
     ∷ bytes 64 (replicate 8 0)
     ∷ []
@@ -48,9 +52,9 @@ abbrev pub originalFields : ℕ → Original → List Item
 originalFields kind o =
     cond (takesOriginal kind)
       (bytes 37 (o .reference) ∷ bytes 38 (o .authorisation) ∷ digits 61 (field61 o) ∷ [])
-      (cond (eqb kind 25)
+      (cond (keysReference kind)
         (bytes 37 (o .reference) ∷ digits 61 (field61 o) ∷ [])
-        (cond (eqb kind 11 || eqb kind 20) (bytes 38 (o .authorisation) ∷ digits 61 (field61 o) ∷ []) []))
+        (cond (keysAuthorisation kind) (bytes 38 (o .authorisation) ∷ digits 61 (field61 o) ∷ []) []))
 
 abbrev pub requestFields : Settings → Batch → Request → Original → List Item
 requestFields x batch q o = cardFields x batch q ++ originalFields (q .kind) o

@@ -1,7 +1,8 @@
 // The messages that leave (document 01, "Kinds" and "Calls").
 use message::Message;
-use parts::Batch;
-use parts::Trace;
+use numbers::Batch;
+use numbers::Trace;
+use parts::Part;
 use state::Reason;
 use state::Request;
 use state::Reversal;
@@ -29,10 +30,38 @@ pub fn with_field60(m: Message, kind: u8, batch: Batch, code: u64) -> Message
     ensures { λ r. ⌜ r ≡ withItem (digits 60 (field60 kind batch code)) m ⌝ }
 {
     let mut ds = [0u8; 11];
-    digits::digits_into(kind as u64, &mut ds[..2]);
-    digits::digits_into(batch.0 as u64, &mut ds[2..8]);
-    digits::digits_into(code, &mut ds[8..]);
+    parts::put_part(Part::Kind, kind as u64, &mut ds);
+    parts::put_part(Part::Batch, batch.0 as u64, &mut ds);
+    parts::put_part(Part::Management, code, &mut ds);
     compose::with_digits(m, 60, &ds)
+}
+
+// A card request.
+pub fn request_message(x: Settings, batch: Batch, q: Request, o: Original) -> Message
+    ensures { λ r. ⌜ r ≡ withAll (requestFields x batch q o) (messageOf (indicatorOf (q .kind)) []) ⌝ }
+{
+    let m = compose::typed(kinds::indicator_of(q.kind));
+    with_card_fields(with_original_fields(m, q.kind, o), x, batch, q)
+}
+
+// A reversal.
+pub fn reversal_message(x: Settings, batch: Batch, v: Reversal) -> Message
+    ensures { λ r. ⌜ r ≡ withAll (reversalFields x batch v) (messageOf 0x0400 []) ⌝ }
+{
+    let reason = v.reason;
+    let q = v.request;
+    let m = compose::typed(0x0400);
+    with_card_fields(with_reason(m, reason), x, batch, q)
+}
+
+// Writes a message that leaves, and gives its length; 0 where it is not written.
+pub fn write_outgoing(m: Message, message: &mut [u8]) -> usize
+    ensures { λ r. ⌜ (r ≡ lengthOf (writeMessage m (now (message .entry)) .outcome)) × (now (message .exit) ≡ writeMessage m (now (message .entry)) .buffer) ⌝ }
+{
+    match writing::write(m, message) {
+        Writing::Written(n) => n,
+        Writing::Refused(_) => 0,
+    }
 }
 
 fn with_field61(m: Message, o: Original) -> Message
@@ -41,9 +70,9 @@ fn with_field61(m: Message, o: Original) -> Message
     let batch = o.batch;
     let trace = o.trace;
     let mut ds = [0u8; 16];
-    digits::digits_into(batch.0 as u64, &mut ds[..6]);
-    digits::digits_into(trace.0 as u64, &mut ds[6..12]);
-    digits::digits_into(o.date as u64, &mut ds[12..]);
+    parts::put_part(Part::OriginalBatch, batch.0 as u64, &mut ds);
+    parts::put_part(Part::OriginalTrace, trace.0 as u64, &mut ds);
+    parts::put_part(Part::OriginalDate, o.date as u64, &mut ds);
     compose::with_digits(m, 61, &ds)
 }
 
@@ -56,7 +85,7 @@ fn with_card_fields(m: Message, x: Settings, batch: Batch, q: Request) -> Messag
     let card = q.card;
     let trace = q.trace;
     let mac = [0u8; 8];
-    let currency = [0x31u8, 0x35, 0x36];
+    let currency = [b'1', b'5', b'6'];
     let m64 = compose::with_bytes(m, 64, &mac);
     let m60 = with_field60(m64, q.kind, batch, 0);
     let m49 = compose::with_bytes(m60, 49, &currency);
@@ -81,23 +110,15 @@ fn with_original_fields(m: Message, kind: u8, o: Original) -> Message
         let m38 = compose::with_bytes(m61, 38, &authorisation);
         return compose::with_bytes(m38, 37, &reference);
     }
-    if kind == 25 {
+    if kinds::keys_reference(kind) {
         let m61 = with_field61(m, o);
         return compose::with_bytes(m61, 37, &reference);
     }
-    if (kind == 11) | (kind == 20) {
+    if kinds::keys_authorisation(kind) {
         let m61 = with_field61(m, o);
         return compose::with_bytes(m61, 38, &authorisation);
     }
     m
-}
-
-// A card request.
-pub fn request_message(x: Settings, batch: Batch, q: Request, o: Original) -> Message
-    ensures { λ r. ⌜ r ≡ withAll (requestFields x batch q o) (messageOf (indicatorOf (q .kind)) []) ⌝ }
-{
-    let m = compose::typed(kinds::indicator_of(q.kind));
-    with_card_fields(with_original_fields(m, q.kind, o), x, batch, q)
 }
 
 fn with_reason(m: Message, reason: Reason) -> Message
@@ -105,32 +126,12 @@ fn with_reason(m: Message, reason: Reason) -> Message
 {
     match reason {
         Reason::Silence => {
-            let code = [0x39u8, 0x38];
+            let code = [b'9', b'8'];
             compose::with_bytes(m, 39, &code)
         }
         Reason::BadMac => {
-            let code = [0x41u8, 0x30];
+            let code = [b'A', b'0'];
             compose::with_bytes(m, 39, &code)
         }
-    }
-}
-
-// A reversal.
-pub fn reversal_message(x: Settings, batch: Batch, v: Reversal) -> Message
-    ensures { λ r. ⌜ r ≡ withAll (reversalFields x batch v) (messageOf 0x0400 []) ⌝ }
-{
-    let reason = v.reason;
-    let q = v.request;
-    let m = compose::typed(0x0400);
-    with_card_fields(with_reason(m, reason), x, batch, q)
-}
-
-// Writes a message that leaves, and gives its length; 0 where it is not written.
-pub fn put_message(m: Message, message: &mut [u8]) -> usize
-    ensures { λ r. ⌜ (r ≡ lengthOf (writeMessage m (now (message .entry)) .outcome)) × (now (message .exit) ≡ writeMessage m (now (message .entry)) .buffer) ⌝ }
-{
-    match writing::write(m, message) {
-        Writing::Written(n) => n,
-        Writing::Refused(_) => 0,
     }
 }

@@ -3,18 +3,18 @@ use mathlib.Core.Path.{_≡_}
 use Prim.Native.Nat.{ℕ}
 use lib.ListN.{length}
 use Rattle.state.specs.declared.Settings.{Settings}
-use Rattle.terminal.specs.Events.{Event, signs-on, starts, answers, is-silent, has-power, reverses, settles, uploads}
+use Rattle.terminal.specs.Events.{Event, signed-on, starts, answers, no-answer, power-returned, send-reversal, settles, send-next-upload}
 
 pub record SettingsShaped (x : Settings) : Type 0 where
   pub terminal-length : length (x .terminal) ≡ 8
   pub merchant-length : length (x .merchant) ≡ 15
 
 abbrev pub EventShaped : Event → Type 0
-EventShaped (signs-on batch) = Unit {0}
+EventShaped (signed-on batch) = Unit {0}
 EventShaped (starts d) = (length (d .authorisation) ≡ 6) × (length (d .reference) ≡ 12)
 EventShaped (answers b good) = Unit {0}
-EventShaped is-silent = Unit {0}
-EventShaped has-power = Unit {0}
-EventShaped reverses = Unit {0}
+EventShaped no-answer = Unit {0}
+EventShaped power-returned = Unit {0}
+EventShaped send-reversal = Unit {0}
 EventShaped settles = Unit {0}
-EventShaped uploads = Unit {0}
+EventShaped send-next-upload = Unit {0}

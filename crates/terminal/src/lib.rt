@@ -1,19 +1,21 @@
 // The card terminal: its state, and the calls of document 01 as methods.
-use parts::Batch;
-use start::Desk;
+use entry::Entry;
+use message::Message;
+use numbers::Batch;
+use call_start::Desk;
 use state::Called;
 use state::Outcome;
 use state::Settings;
 use state::State;
 ghost use mathlib.Core.Path.{_≡_};
 ghost use Rattle.state.specs.State.{fresh};
-ghost use Rattle.signing.specs.Signing.{signedOn};
-ghost use Rattle.start.specs.Start.{start};
-ghost use Rattle.answering.specs.Answering.{answer, noAnswer, powerReturned};
-ghost use Rattle.reversing.specs.Reversing.{sendReversal};
-ghost use Rattle.settling.specs.Settling.{settle};
-ghost use Rattle.uploading.specs.Uploading.{sendNextUpload};
-ghost use Rattle.terminal.specs.Terminal.{givenBy, stepOf};
+ghost use Rattle.call_sign_on.specs.SignOn.{signedOn};
+ghost use Rattle.call_start.specs.Start.{start};
+ghost use Rattle.call_answer.specs.Answer.{answer, noAnswer, powerReturned};
+ghost use Rattle.call_reversal.specs.SendReversal.{sendReversal};
+ghost use Rattle.call_settle.specs.Settle.{settle};
+ghost use Rattle.call_upload.specs.SendNextUpload.{sendNextUpload};
+ghost use Rattle.terminal.specs.Terminal.{stepResult, stepOf};
 
 pub struct Terminal {
     pub state: State,
@@ -27,15 +29,15 @@ pub struct Step {
 
 impl Terminal {
     // The bytes of a message buffer, and those of one journal entry.
-    pub const MESSAGE: usize = 248;
+    pub const MESSAGE: usize = Message::LARGEST;
 
-    pub const ENTRY: usize = 48;
+    pub const ENTRY: usize = Entry::SIZE;
     // The largest settings.
-    pub const MOST_ENTRIES: u32 = 300;
+    pub const MOST_ENTRIES: u32 = numbers::MOST_ENTRIES;
 
-    pub const MOST_SENDINGS: u8 = 9;
+    pub const MOST_SENDINGS: u8 = numbers::MOST_SENDINGS;
 
-    pub const LARGEST_REFUND: u64 = 9999999999;
+    pub const LARGEST_REFUND: u64 = numbers::LARGEST_AMOUNT;
 
     // A fresh terminal of any settings; the calls judge them.
     pub fn new(settings: Settings) -> Self
@@ -48,66 +50,66 @@ impl Terminal {
 
     // The outer program has signed on, and the centre has told the batch number.
     pub fn signed_on(self, batch: Batch, journal: &mut [u8], message: &mut [u8]) -> Step
-        ensures { λ r. ⌜ givenBy r (now (journal .exit)) (now (message .exit)) ≡ signedOn batch (self .state) (now (journal .entry)) (now (message .entry)) ⌝ }
+        ensures { λ r. ⌜ stepResult r (now (journal .exit)) (now (message .exit)) ≡ signedOn batch (self .state) (now (journal .entry)) (now (message .entry)) ⌝ }
     {
         let state = self.state;
-        step_of(signing::signed_on(state, batch, journal, message))
+        step_of(call_sign_on::signed_on(state, batch, journal, message))
     }
 
     // A card request leaves.
     pub fn start(self, desk: Desk, journal: &mut [u8], message: &mut [u8]) -> Step
-        ensures { λ r. ⌜ givenBy r (now (journal .exit)) (now (message .exit)) ≡ start desk (self .state) (now (journal .entry)) (now (message .entry)) ⌝ }
+        ensures { λ r. ⌜ stepResult r (now (journal .exit)) (now (message .exit)) ≡ start desk (self .state) (now (journal .entry)) (now (message .entry)) ⌝ }
     {
         let state = self.state;
-        step_of(start::start(state, desk, journal, message))
+        step_of(call_start::start(state, desk, journal, message))
     }
 
     // The centre's bytes, and the key pad's word on the MAC.
     pub fn answer(self, bytes: &[u8], good: bool, journal: &mut [u8], message: &mut [u8]) -> Step
-        ensures { λ r. ⌜ givenBy r (now (journal .exit)) (now (message .exit)) ≡ answer (now (bytes .entry)) good (self .state) (now (journal .entry)) (now (message .entry)) ⌝ }
+        ensures { λ r. ⌜ stepResult r (now (journal .exit)) (now (message .exit)) ≡ answer (now (bytes .entry)) good (self .state) (now (journal .entry)) (now (message .entry)) ⌝ }
     {
         let state = self.state;
-        step_of(answering::answer(state, bytes, good, journal, message))
+        step_of(call_answer::answer(state, bytes, good, journal, message))
     }
 
     // The line has fallen silent.
     pub fn no_answer(self, journal: &mut [u8], message: &mut [u8]) -> Step
-        ensures { λ r. ⌜ givenBy r (now (journal .exit)) (now (message .exit)) ≡ noAnswer (self .state) (now (journal .entry)) (now (message .entry)) ⌝ }
+        ensures { λ r. ⌜ stepResult r (now (journal .exit)) (now (message .exit)) ≡ noAnswer (self .state) (now (journal .entry)) (now (message .entry)) ⌝ }
     {
         let state = self.state;
-        step_of(answering::no_answer(state, journal, message))
+        step_of(call_answer::no_answer(state, journal, message))
     }
 
     // Power has returned.
     pub fn power_returned(self, journal: &mut [u8], message: &mut [u8]) -> Step
-        ensures { λ r. ⌜ givenBy r (now (journal .exit)) (now (message .exit)) ≡ powerReturned (self .state) (now (journal .entry)) (now (message .entry)) ⌝ }
+        ensures { λ r. ⌜ stepResult r (now (journal .exit)) (now (message .exit)) ≡ powerReturned (self .state) (now (journal .entry)) (now (message .entry)) ⌝ }
     {
         let state = self.state;
-        step_of(answering::power_returned(state, journal, message))
+        step_of(call_answer::power_returned(state, journal, message))
     }
 
     // The pending reversal leaves.
     pub fn send_reversal(self, journal: &mut [u8], message: &mut [u8]) -> Step
-        ensures { λ r. ⌜ givenBy r (now (journal .exit)) (now (message .exit)) ≡ sendReversal (self .state) (now (journal .entry)) (now (message .entry)) ⌝ }
+        ensures { λ r. ⌜ stepResult r (now (journal .exit)) (now (message .exit)) ≡ sendReversal (self .state) (now (journal .entry)) (now (message .entry)) ⌝ }
     {
         let state = self.state;
-        step_of(reversing::send_reversal(state, journal, message))
+        step_of(call_reversal::send_reversal(state, journal, message))
     }
 
     // The batch's totals leave.
     pub fn settle(self, journal: &mut [u8], message: &mut [u8]) -> Step
-        ensures { λ r. ⌜ givenBy r (now (journal .exit)) (now (message .exit)) ≡ settle (self .state) (now (journal .entry)) (now (message .entry)) ⌝ }
+        ensures { λ r. ⌜ stepResult r (now (journal .exit)) (now (message .exit)) ≡ settle (self .state) (now (journal .entry)) (now (message .entry)) ⌝ }
     {
         let state = self.state;
-        step_of(settling::settle(state, journal, message))
+        step_of(call_settle::settle(state, journal, message))
     }
 
     // The next due entry leaves, or the upload's end.
     pub fn send_next_upload(self, journal: &mut [u8], message: &mut [u8]) -> Step
-        ensures { λ r. ⌜ givenBy r (now (journal .exit)) (now (message .exit)) ≡ sendNextUpload (self .state) (now (journal .entry)) (now (message .entry)) ⌝ }
+        ensures { λ r. ⌜ stepResult r (now (journal .exit)) (now (message .exit)) ≡ sendNextUpload (self .state) (now (journal .entry)) (now (message .entry)) ⌝ }
     {
         let state = self.state;
-        step_of(uploading::send_next_upload(state, journal, message))
+        step_of(call_upload::send_next_upload(state, journal, message))
     }
 }
 

@@ -14,6 +14,7 @@ use Rattle.digits.proofs.Lists.{all-true}
 use Rattle.field.specs.Table.{among, indicators, formats}
 use Rattle.field.specs.Bitmap.{names}
 use Rattle.field.specs.Contents.{allowed, allPrintable}
+use Rattle.message.specs.Message.{largest}
 use Rattle.message.specs.Build.{Item, has, find, digits, bytes, messageOf}
 use Rattle.message.specs.declared.Message.{Message}
 use Rattle.reading.specs.Reading.{readMessage}
@@ -29,9 +30,9 @@ use Rattle.compose.specs.Compose.{allHeld}
 use Rattle.compose.proofs.Items.{number-held}
 use Rattle.outgoing.specs.Outgoing.{field60}
 use Rattle.outgoing.proofs.Leaving.{written-is}
-use Rattle.leaving.specs.Theorems.{Reads}
-use Rattle.leaving.proofs.Theorems.{sent-reads-back}
-use Rattle.answers.specs.Answers.{isValue, matchesSent, approves, approvalHolds, isAnswer, goodMac}
+use Rattle.outgoing_theorems.specs.Theorems.{Reads}
+use Rattle.outgoing_theorems.proofs.Theorems.{sent-reads-back}
+use Rattle.answer_match.specs.Match.{isValue, matchesSent, approves, approvalHolds, isAnswer, goodMac}
 use Rattle.approval.specs.Approval.{approvedEntry}
 use Rattle.approval.proofs.Approval.{in-form}
 use Rattle.worked.specs.Desk.{settings}
@@ -40,7 +41,7 @@ use Rattle.worked.specs.Desk.{settings}
 read-back : (i : ℕ) (xs : List Item) → among i indicators ≡ true → allHeld xs ≡ true
     → Reads i xs (readMessage (messageBytes (messageOf i xs)))
 read-back i xs l h =
-    let o : List ℕ = replicate 248 0 in
+    let o : List ℕ = replicate largest 0 in
     let b = messageBytes (messageOf i xs) in
     rw (take-at b (drop (length b) o) (length b) refl)
     at (rw (written-is i xs o l h (omega arith)) at (sent-reads-back i xs o l h (omega arith)))
@@ -66,7 +67,7 @@ asked amount trace =
     record {
       kind = 22;
       amount = amount;
-      card = record { number = 6222021234567890; length = 16 };
+      card = record { number = 6222021234567894; length = 16 };
       trace = record { 0 = trace };
       original = record { 0 = 0 };
     }

@@ -1,5 +1,6 @@
 -- One name that opens all the calls, for examples that compute.
 use Prim.Native.Nat.{ℕ}
+use Rattle.numbers.specs.Numbers.{within, following}
 use Rattle.digits.specs.Digits.{half, unpack, packedByte, pack, halfAllowed, isPacked, allDigits}
 use Rattle.digits.specs.Numbers.{value, numberOf}
 use Rattle.field.specs.Table.{formats, indicators}
@@ -9,33 +10,34 @@ use Rattle.span.specs.Span.{contentsAt, spanAt, span, fieldBytes}
 use Rattle.message.specs.Message.{fieldIn}
 use Rattle.reading.specs.Reading.{readFields, readMessage}
 use Rattle.writing.specs.Writing.{namedBytes, fieldsBytes, messageBytes}
-use Rattle.packed.specs.Packed.{packedNumber}
+use Rattle.digits.specs.Packed.{packedNumber}
 use Rattle.parts.specs.Parts.{sameBytes, matches, copies, numberIn}
 use Rattle.kinds.specs.Kinds.{isKind, indicatorOf, processingOf, conditionOf, isDebit, isCredit, sideOf, isDue, takesOriginal, originalKind, isVoidable}
 use Rattle.entry.specs.Entry.{decode, encode, allZero}
-use Rattle.entry.specs.Form.{within, cardInForm, inForm, keepsVoided, keepsUnmarked, keepsResends, keepsSilent}
-use Rattle.journal.specs.Journal.{debitEntry, creditEntry, totalsOf, hasTrace, isOriginal, dueWith, nextDue, absent, following, taken, putEntry, setByte}
-use Rattle.state.specs.Calls.{firstBroken, judged}
-use Rattle.rules.specs.Rules.{tooShort, settingsInForm, isCard, requestInForm, reversalInForm, stateInForm, past, sumsKept, balanced, originalLeft, requestKept, inOrder}
+use Rattle.entry.specs.Form.{cardInForm, inForm, keepsVoided, keepsUnmarked, keepsResends, keepsSilent}
+use Rattle.journal.specs.Journal.{debitEntry, creditEntry, sumsOf, hasTrace, isOriginal, dueWith, nextDue, absent, taken, putEntry, setByte}
+use Rattle.checks.specs.Checks.{firstBroken}
+use Rattle.state.specs.Calls.{judged}
+use Rattle.rules.specs.Rules.{tooShort, settingsInForm, isCard, requestInForm, reversalInForm, stateInForm, past, sumsKept, balanced, originalUnvoided, requestKept, stateKept, journalKept, keepsRule2}
 use Rattle.outgoing.specs.Outgoing.{requestMessage, reversalMessage}
-use Rattle.start.specs.Start.{deskInForm, originalOf, start}
-use Rattle.signing.specs.Signing.{adopts, signedOn}
-use Rattle.reversing.specs.Reversing.{sendReversal}
-use Rattle.answers.specs.Answers.{matchesSent, approvalHolds, isAnswer, goodMac, endsReversal, closesBatch}
+use Rattle.call_start.specs.Start.{deskInForm, originalOf, start}
+use Rattle.call_sign_on.specs.SignOn.{adopts, signedOn}
+use Rattle.call_reversal.specs.SendReversal.{sendReversal}
+use Rattle.answer_match.specs.Match.{matchesSent, approvalHolds, isAnswer, goodMac, endsReversal, closesBatch}
 use Rattle.approval.specs.Approval.{fieldOr, zeroFilled, approvedEntry}
-use Rattle.answering.specs.Answering.{doubted, failed, silentMark, silent, noAnswer, originalVoided, approved, onRequest, onReversal, onSettlement, onItem, onEnd, answered, answer}
-use Rattle.settling.specs.Settling.{settlementMessage, settle}
-use Rattle.uploading.specs.Uploading.{itemMessage, endMessage, resent, sendNextUpload}
+use Rattle.call_answer.specs.Answer.{pendingOrUnanswered, failed, silentMark, silent, noAnswer, originalVoided, approved, onRequest, onReversal, onSettlement, onItem, onEnd, answered, answer}
+use Rattle.call_settle.specs.Settle.{settlementMessage, settle}
+use Rattle.call_upload.specs.SendNextUpload.{itemMessage, endMessage, resent, sendNextUpload}
 
 unfoldable pub machine : ℕ
 unfolding half unpack packedByte pack halfAllowed isPacked allDigits value numberOf formats indicators bit names listedAt listed
     allowed allPrintable contentsAt spanAt span fieldBytes fieldIn readFields readMessage namedBytes fieldsBytes messageBytes
     packedNumber sameBytes matches copies numberIn isKind indicatorOf processingOf conditionOf isDebit isCredit sideOf isDue
     takesOriginal originalKind isVoidable decode encode allZero within cardInForm inForm keepsVoided keepsUnmarked keepsResends
-    keepsSilent debitEntry creditEntry totalsOf hasTrace isOriginal dueWith nextDue absent following taken putEntry setByte
-    firstBroken judged tooShort settingsInForm isCard requestInForm reversalInForm stateInForm past sumsKept balanced originalLeft
-    requestKept inOrder requestMessage reversalMessage deskInForm originalOf start adopts signedOn sendReversal matchesSent
-    approvalHolds isAnswer goodMac endsReversal closesBatch fieldOr zeroFilled approvedEntry doubted failed silentMark silent
+    keepsSilent debitEntry creditEntry sumsOf hasTrace isOriginal dueWith nextDue absent following taken putEntry setByte
+    firstBroken judged tooShort settingsInForm isCard requestInForm reversalInForm stateInForm past sumsKept balanced originalUnvoided
+    requestKept stateKept journalKept keepsRule2 requestMessage reversalMessage deskInForm originalOf start adopts signedOn sendReversal matchesSent
+    approvalHolds isAnswer goodMac endsReversal closesBatch fieldOr zeroFilled approvedEntry pendingOrUnanswered failed silentMark silent
     noAnswer originalVoided approved onRequest onReversal onSettlement onItem onEnd answered answer settlementMessage settle
     itemMessage endMessage resent sendNextUpload
 machine = 0

@@ -7,6 +7,7 @@ use native.Mathlib.Numerals.{add-one}
 use native.Mathlib.Omega.{arith}
 use lib.ListN.{length, replicate, length-replicate}
 use borrow.Author.Tests.{lt-ltb, le-ltb, ne-eqb}
+use Rattle.numbers.specs.Numbers.{within, following}
 use Rattle.digits.specs.Digits.{packedByte, pack}
 use Rattle.field.specs.Table.{formats}
 use Rattle.field.specs.Bitmap.{bit, names}
@@ -17,10 +18,9 @@ use Rattle.writing.specs.Writing.{namedBytes, fieldsBytes, messageBytes}
 use Rattle.kinds.specs.Kinds.{indicatorOf, processingOf, conditionOf, isDebit, sideOf, takesOriginal}
 use Rattle.kinds.specs.declared.Side.the-variants.{Debit}
 use Rattle.entry.specs.Entry.{entrySize}
-use Rattle.entry.specs.Form.{within}
 use Rattle.entry.specs.declared.Entry.{Entry}
-use Rattle.journal.specs.Journal.{entriesOf, hasTrace, absent, totalsOf, following, putEntry}
-use Rattle.journal.specs.declared.Totals.{Totals}
+use Rattle.journal.specs.Journal.{entriesOf, hasTrace, absent, totalsOf, sumsOf, putEntry}
+use Rattle.kinds.specs.declared.Totals.{Totals}
 use Rattle.journal.specs.Sums.{withEntry}
 use Rattle.journal.proofs.Entries.{put-appends}
 use Rattle.journal.proofs.Sums.{totals-last, with-debit}
@@ -29,20 +29,21 @@ use Rattle.traces.proofs.Absent.{absent-none}
 use Rattle.state.specs.declared.State.{State}
 use Rattle.state.specs.declared.Outcome.the-variants.{Send, Refused}
 use Rattle.state.specs.State.{fresh}
-use Rattle.state.specs.Calls.{Result, firstBroken, judged, quiet, sent}
-use Rattle.rules.specs.Rules.{tooShort, settingsInForm, stateInForm, past, sumsKept, balanced, inOrder}
+use Rattle.checks.specs.Checks.{firstBroken}
+use Rattle.state.specs.Calls.{Result, judged, quiet, sends}
+use Rattle.rules.specs.Rules.{tooShort, settingsInForm, stateInForm, past, sumsKept, balanced, keepsRule2, stateKept, journalKept}
 use Rattle.rules.proofs.InOrder.{Fit}
 use Rattle.outgoing.specs.Outgoing.{requestMessage}
-use Rattle.signing.specs.Signing.{adopts, signedOn}
-use Rattle.start.specs.Start.{requested}
+use Rattle.call_sign_on.specs.SignOn.{adopts, signedOn}
+use Rattle.call_start.specs.Start.{requested}
 use Rattle.approval.specs.Approval.{approvedEntry}
 use Rattle.approval.proofs.Approval.{shaped}
-use Rattle.answering.specs.Answering.{oneMore, originalVoided, approved, onRequest, answered as answeredBy, answer}
-use Rattle.keeping.proofs.Back.{ready-fits, fit-ready}
-use Rattle.keeping.proofs.Refusing.{Fits}
-use Rattle.keeping.proofs.Signing.{signed-on-fits}
-use Rattle.keeping.proofs.Starting.{start-fits}
-use Rattle.keeping.proofs.Events.{answer-fits}
+use Rattle.call_answer.specs.Answer.{oneMore, originalVoided, approved, onRequest, answered as answeredBy, answer}
+use Rattle.call_theorems.proofs.Back.{ready-fits, fit-ready}
+use Rattle.call_theorems.proofs.Refusing.{Fits}
+use Rattle.call_theorems.proofs.Signing.{signed-on-fits}
+use Rattle.call_theorems.proofs.Starting.{start-fits}
+use Rattle.call_theorems.proofs.Events.{answer-fits}
 use Rattle.terminal.specs.Events.{run}
 use Rattle.worked.specs.Desk.{settings, opened, sale, approval}
 use Rattle.worked.specs.Worked.{sales, hundred}
@@ -71,7 +72,7 @@ record Sold (n : ℕ) (j : List ℕ) : Type 0 where
   sums : totalsOf (entriesOf n j) ≡ record { debit = n * 9999999999; debits = n; credit = 0; credits = 0 }
 
 none-sold : (j : List ℕ) → Sold 0 j
-unfolding totalsOf
+unfolding sumsOf
 none-sold j = record { free = λ x h. absent-none x; sums = refl }
 
 is-sale : sideOf 22 ≡ Debit
@@ -129,7 +130,7 @@ one-after n j m small fit sold =
     let q = asked 9999999999 (suc n) in
     let g = goes 9999999999 n j m fit (omega arith) largest-form (sold .free (suc n) (omega arith))
     (not-past 9999999999 n j sold (omega arith)) in
-    let r = sent (saleBytes 9999999999 (suc n)) (requested (at n) q) j m in
+    let r = sends (saleBytes 9999999999 (suc n)) (requested (at n) q) j m in
     let f : Fits r = rw g at (start-fits (desk 9999999999) (at n) j m fit) in
     let a = taken-in n j (r .message) f in
     let h : Fits (quiet (oneMore (requested (at n) q)) (putEntry n (entry n) j) (r .message)) =
@@ -147,8 +148,8 @@ all-after (suc n) r h b =
     let x = sales n r in next-after n (x .state) (x .journal) (x .message) (omega arith) (all-after n r (omega arith) b)
 
 -- a fresh terminal that has signed on
-fresh-order : inOrder (fresh (settings 300)) [] ≡ true
-unfolding inOrder settingsInForm stateInForm within allPrintable sumsKept totalsOf balanced
+fresh-order : keepsRule2 (fresh (settings 300)) [] ≡ true
+unfolding keepsRule2 stateKept journalKept settingsInForm stateInForm within allPrintable sumsKept sumsOf balanced
 fresh-order = refl
 
 one-number : within 1 1 999999 ≡ true

@@ -6,20 +6,21 @@ use Prim.Native.Nat.{ℕ, zero, suc, _<_}
 use native.Mathlib.Omega.{arith}
 use lib.ListN.{length, replicate}
 use borrow.Author.Tests.{lt-leb}
+use Rattle.numbers.specs.Numbers.{within}
 use Rattle.writing.specs.Writing.{messageBytes}
 use Rattle.kinds.specs.Kinds.{isKind, takesOriginal}
-use Rattle.entry.specs.Form.{within}
 use Rattle.entry.specs.declared.Entry.{Entry}
 use Rattle.journal.specs.Journal.{entriesOf, absent, totalsOf, takenFrom, taken}
 use Rattle.state.specs.declared.State.{State}
 use Rattle.state.specs.declared.Phase.the-variants.{Resting}
-use Rattle.state.specs.Calls.{firstBroken, judged, refused, sent}
+use Rattle.checks.specs.Checks.{firstBroken}
+use Rattle.state.specs.Calls.{judged, refused, sends}
 use Rattle.rules.specs.Rules.{isCard, past}
 use Rattle.rules.proofs.InOrder.{Fit}
 use Rattle.outgoing.specs.Outgoing.{requestMessage}
-use Rattle.start.specs.Start.{deskInForm, requested, start}
-use Rattle.start.specs.declared.Desk.{Desk}
-use Rattle.keeping.proofs.Back.{fit-ready}
+use Rattle.call_start.specs.Start.{deskInForm, requested, start}
+use Rattle.call_start.specs.declared.Desk.{Desk}
+use Rattle.call_theorems.proofs.Back.{fit-ready}
 use Rattle.worked.specs.Desk.{settings}
 use Rattle.worked.proofs.Approvals.{asked}
 
@@ -41,7 +42,7 @@ desk amount =
     record {
       kind = 22;
       amount = amount;
-      card = record { number = 6222021234567890; length = 16 };
+      card = record { number = 6222021234567894; length = 16 };
       original = record { 0 = 0 };
       month = 11;
       day = 15;
@@ -77,7 +78,7 @@ taken-free es x h = taken-from (length es) es x h
 -- a sale after n of them: judged by rule 21 alone
 module _ (amount n : ℕ) (j m : List ℕ) (fit : Fit (at n) j m) (few : n < 300) (form : within 1 amount 9999999999 ≡ true) where
   pub goes : absent (suc n) (entriesOf n j) ≡ true → past 22 amount (totalsOf (entriesOf n j)) ≡ false
-      → start (desk amount) (at n) j m ≡ sent (saleBytes amount (suc n)) (requested (at n) (asked amount (suc n))) j m
+      → start (desk amount) (at n) j m ≡ sends (saleBytes amount (suc n)) (requested (at n) (asked amount (suc n))) j m
   unfolding start judged firstBroken takesOriginal
   goes free p =
       let r = fit-ready (at n) j m fit in

@@ -5,6 +5,7 @@ use Rattle.field.specs.Table.{formats, indicators}
 use Rattle.field.specs.Bitmap.{bit, names, listedAt, listed}
 use Rattle.field.specs.Contents.{allowed, allPrintable}
 use Rattle.span.specs.Span.{fieldBytes}
+use Rattle.checks.specs.Checks.{firstBroken}
 use Rattle.writing.specs.Writing.{fieldFault, fieldsFault, namedBytes, fieldsBytes, messageBytes, messageFault, writeMessage}
 use Rattle.worked.specs.Worked.{Worked}
 use Rattle.worked.proofs.Cases as calls
@@ -12,7 +13,7 @@ use Rattle.worked.proofs.Sales as sales
 
 pub worked : Worked
 unfolding half packedByte pack isPacked halfAllowed formats indicators bit names listedAt listed allowed allPrintable fieldBytes
-    fieldFault fieldsFault namedBytes fieldsBytes messageBytes messageFault writeMessage
+    fieldFault fieldsFault namedBytes fieldsBytes messageBytes messageFault writeMessage firstBroken
 worked =
     record {
       a = refl;

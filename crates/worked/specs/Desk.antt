@@ -9,13 +9,13 @@ use Rattle.message.specs.Build.{Item, digits, bytes, messageOf}
 use Rattle.writing.specs.Writing.{messageBytes}
 use Rattle.entry.specs.Entry.{entrySize}
 use Rattle.journal.specs.Journal.{entriesOf, totalsOf}
-use Rattle.journal.specs.declared.Totals.{Totals}
+use Rattle.kinds.specs.declared.Totals.{Totals}
 use Rattle.state.specs.State.{fresh}
 use Rattle.state.specs.Calls.{Result, quiet}
 use Rattle.state.specs.declared.Settings.{Settings}
-use Rattle.start.specs.declared.Desk.{Desk}
+use Rattle.call_start.specs.declared.Desk.{Desk}
 use Rattle.outgoing.specs.Outgoing.{field60}
-use Rattle.terminal.specs.Events.{Event, signs-on, starts, answers, is-silent, reverses, run}
+use Rattle.terminal.specs.Events.{Event, signed-on, starts, answers, no-answer, send-reversal, run}
 
 -- three sendings, refunds up to 100,000 fen
 abbrev pub settings : ℕ → Settings
@@ -25,14 +25,14 @@ settings limit =
 -- a fresh terminal with room for its journal, that has signed on to batch 1
 abbrev pub opened : ℕ → Result
 opened limit =
-    run (signs-on (record { 0 = 1 }) ∷ [])
+    run (signed-on (record { 0 = 1 }) ∷ [])
       (quiet (fresh (settings limit)) (replicate (entrySize * limit) 0) (replicate largest 0))
 
 -- what the desk keys
 abbrev pub keyed : ℕ → ℕ → ℕ → Event
 keyed kind amount original =
     starts (record {
-      kind = kind; amount = amount; card = record { number = 6222021234567890; length = 16 }; original = record { 0 = original };
+      kind = kind; amount = amount; card = record { number = 6222021234567894; length = 16 }; original = record { 0 = original };
       month = 11; day = 15; authorisation = replicate 6 0x33; reference = replicate 12 0x34 })
 
 abbrev pub sale : ℕ → Event

@@ -13,7 +13,7 @@ use Rattle.state.specs.declared.Phase.{Phase}
 use Rattle.state.specs.declared.Phase.the-variants.{Resting, Waiting, Pending, Settling, Uploading}
 use Rattle.state.specs.declared.State.{State}
 use Rattle.outgoing.specs.Outgoing.{field60}
-use Rattle.terminal.specs.Events.{Event, answers, is-silent, reverses, settles, uploads, run}
+use Rattle.terminal.specs.Events.{Event, answers, no-answer, send-reversal, settles, send-next-upload, run}
 use Rattle.worked.specs.Desk.{opened, keyed, sale, reply, approval, toReversal}
 
 -- a phase without what it holds
@@ -60,19 +60,19 @@ pub record Reached : Type 0 where
   -- each phase
   pub resting : stageAfter [] ≡ rests
   pub request-out : stageAfter (sale 100 ∷ []) ≡ waits-for-request
-  pub pending : stageAfter (sale 100 ∷ is-silent ∷ []) ≡ pends
-  pub reversal-out : stageAfter (sale 100 ∷ is-silent ∷ reverses ∷ []) ≡ waits-for-reversal
+  pub pending : stageAfter (sale 100 ∷ no-answer ∷ []) ≡ pends
+  pub reversal-out : stageAfter (sale 100 ∷ no-answer ∷ send-reversal ∷ []) ≡ waits-for-reversal
   pub settlement-out : stageAfter (settles ∷ []) ≡ waits-for-settlement
-  pub settling : stageAfter (settles ∷ is-silent ∷ []) ≡ settles-again
+  pub settling : stageAfter (settles ∷ no-answer ∷ []) ≡ settles-again
   pub uploading : stageAfter unbalanced ≡ uploads-on
-  pub item-out : stageAfter (unbalanced ++ (uploads ∷ [])) ≡ waits-for-item
-  pub end-out : stageAfter (unbalanced ++ (uploads ∷ toUpload 1 0x30 0x30 ∷ uploads ∷ [])) ≡ waits-for-end
+  pub item-out : stageAfter (unbalanced ++ (send-next-upload ∷ [])) ≡ waits-for-item
+  pub end-out : stageAfter (unbalanced ++ (send-next-upload ∷ toUpload 1 0x30 0x30 ∷ send-next-upload ∷ [])) ≡ waits-for-end
   -- each ending of a request
   pub approved : after (sale 100 ∷ approval 22 100 1 ∷ []) .counts .approved ≡ 1
   pub declined : after (sale 100 ∷ reply 0x0210 22 1 0x30 0x35 [] ∷ []) .counts .declined ≡ 1
-  pub reversed : after (sale 100 ∷ is-silent ∷ reverses ∷ toReversal 1 0x32 0x35 ∷ []) .counts .reversed ≡ 1
-  pub given-up : after (sale 100 ∷ is-silent ∷ reverses ∷ is-silent ∷ reverses ∷ is-silent ∷ reverses ∷ is-silent ∷ []) .counts .«given_up» ≡ 1
-  pub unanswered : after (keyed 25 100 0 ∷ is-silent ∷ []) .counts .unanswered ≡ 1
+  pub reversed : after (sale 100 ∷ no-answer ∷ send-reversal ∷ toReversal 1 0x32 0x35 ∷ []) .counts .reversed ≡ 1
+  pub given-up : after (sale 100 ∷ no-answer ∷ send-reversal ∷ no-answer ∷ send-reversal ∷ no-answer ∷ send-reversal ∷ no-answer ∷ []) .counts .«given_up» ≡ 1
+  pub unanswered : after (keyed 25 100 0 ∷ no-answer ∷ []) .counts .unanswered ≡ 1
   -- both closings
   pub closed : after (sale 100 ∷ approval 22 100 1 ∷ settles ∷ reconciled 2 1 ∷ []) .batch .0 ≡ 2
-  pub closed-after-upload : after (unbalanced ++ (uploads ∷ toUpload 1 0x30 0x30 ∷ uploads ∷ toUpload 3 0x30 0x30 ∷ [])) .batch .0 ≡ 2
+  pub closed-after-upload : after (unbalanced ++ (send-next-upload ∷ toUpload 1 0x30 0x30 ∷ send-next-upload ∷ toUpload 3 0x30 0x30 ∷ [])) .batch .0 ≡ 2

@@ -27,7 +27,7 @@ use Rattle.digits.specs.declared.Number.the-variants.{Is}
 use Rattle.reading.specs.Reading.{readMessage}
 use Rattle.parts.specs.Parts.{partOf}
 use Rattle.parts.specs.declared.Part.the-variants as part
-use Rattle.terminal.specs.Events.{run, is-silent, reverses, settles}
+use Rattle.terminal.specs.Events.{run, no-answer, send-reversal, settles}
 use Rattle.worked.specs.Desk.{opened, keyed, sale, approval, toReversal, totals}
 use Rattle.writing.specs.declared.Writing.the-variants.{Written}
 
@@ -53,7 +53,7 @@ field60 kind batch code = digitsOf 2 kind ++ digitsOf 6 batch ++ digitsOf 3 code
 abbrev pub saleMessage : Message
 saleMessage =
     messageOf 0x0200
-      (digits 2 (digitsOf 16 6222021234567890) ∷ digits 3 (digitsOf 6 0) ∷ digits 4 (digitsOf 12 12000) ∷ digits 11 (digitsOf 6 1)
+      (digits 2 (digitsOf 16 6222021234567894) ∷ digits 3 (digitsOf 6 0) ∷ digits 4 (digitsOf 12 12000) ∷ digits 11 (digitsOf 6 1)
       ∷ digits 22 (digitsOf 3 12) ∷ digits 25 (digitsOf 2 0) ∷ bytes 41 (replicate 8 0x31) ∷ bytes 42 (replicate 15 0x32)
       ∷ bytes 49 (0x31 ∷ 0x35 ∷ 0x36 ∷ []) ∷ digits 60 (field60 22 1 0) ∷ bytes 64 (replicate 8 0) ∷ [])
 
@@ -70,19 +70,19 @@ fullest (f ∷ fs) = record { number = f .number; field = record { count = f .hi
 -- *f, *g, *h: what the desk does and hears, after signing on
 abbrev pub afterF : Result
 afterF =
-    run (sale 12000 ∷ approval 22 12000 1 ∷ sale 8000 ∷ is-silent ∷ reverses ∷ toReversal 2 0x32 0x35 ∷ keyed 23 0 1 ∷ approval 23 12000 3 ∷ [])
+    run (sale 12000 ∷ approval 22 12000 1 ∷ sale 8000 ∷ no-answer ∷ send-reversal ∷ toReversal 2 0x32 0x35 ∷ keyed 23 0 1 ∷ approval 23 12000 3 ∷ [])
       (opened 2)
 
 abbrev pub afterG : Result
-afterG = run (sale 8000 ∷ is-silent ∷ reverses ∷ is-silent ∷ reverses ∷ is-silent ∷ reverses ∷ is-silent ∷ []) (opened 1)
+afterG = run (sale 8000 ∷ no-answer ∷ send-reversal ∷ no-answer ∷ send-reversal ∷ no-answer ∷ send-reversal ∷ no-answer ∷ []) (opened 1)
 
 abbrev pub afterH : Result
-afterH = run (sale 8000 ∷ is-silent ∷ reverses ∷ toReversal 1 0x39 0x36 ∷ []) (opened 1)
+afterH = run (sale 8000 ∷ no-answer ∷ send-reversal ∷ toReversal 1 0x39 0x36 ∷ []) (opened 1)
 
 abbrev pub firstSale : Request
 firstSale =
     record {
-      kind = 22; amount = 8000; card = record { number = 6222021234567890; length = 16 }; trace = record { 0 = 1 };
+      kind = 22; amount = 8000; card = record { number = 6222021234567894; length = 16 }; trace = record { 0 = 1 };
       original = record { 0 = 0 } }
 
 -- the settlement request that would leave now, 80 bytes, as it is read

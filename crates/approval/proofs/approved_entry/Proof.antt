@@ -27,7 +27,12 @@ zero-filled-requires c κs = search needs
 
 returns : tie.Need-returns
 returns c =
-    entry-is (c .before .before .before .before .before .before .before .before .before .before .before .before .args .q) (c .before .before .before .before .before .before .before .before .before .before .before .before .args .m) (c .zero-filled .ensures) (c .before .before .before .before .before .before .before .before .field-into .ensures .1) (c .before .before .before .before .before .field-into2 .ensures .1) (c .before .before .field-into3 .ensures .1)
+    let at-args = c .before .before .before .before .before .before .before .before .before .before .before .before .args in
+    let at-field-into = c .before .before .before .before .before .before .before .before .field-into in
+    let at-field-into2 = c .before .before .before .before .before .field-into2 in
+    let at-field-into3 = c .before .before .field-into3 in
+    entry-is (at-args .q) (at-args .m) (c .zero-filled .ensures) (at-field-into .ensures .1) (at-field-into2 .ensures .1)
+    (at-field-into3 .ensures .1)
 
 pub approved-entry-spec : {M : Type 1} → statement M
 approved-entry-spec =

@@ -20,10 +20,16 @@ digits-into-requires : tie.Need-digits-into-requires
 digits-into-requires c κs = search needs
 
 array-share-prefix-ds : tie.Need-array-share-prefix-ds
-array-share-prefix-ds c = front-there (c .before .before .before .before .args .card .length) (c .before .digits-into .last .1 .0) (c .before .digits-into .kept .1 .0) (search needs)
+array-share-prefix-ds c =
+    let at-args-card = c .before .before .before .before .args .card in
+    front-there (at-args-card .length) (c .before .digits-into .last .1 .0) (c .before .digits-into .kept .1 .0) (search needs)
 
 slice-aggregate-pack-into : tie.Need-slice-aggregate-pack-into
-slice-aggregate-pack-into c = front-taken (c .before .before .before .before .before .args .card .length) (c .before .before .digits-into .last .1 .0) (c .before .before .digits-into .kept .1 .0) (search needs)
+slice-aggregate-pack-into c =
+    let at-args-card = c .before .before .before .before .before .args .card in
+    let at-digits-into-kept = c .before .before .digits-into .kept in
+    let at-digits-into-last = c .before .before .digits-into .last in
+    front-taken (at-args-card .length) (at-digits-into-last .1 .0) (at-digits-into-kept .1 .0) (search needs)
 
 slice-aggregate-pack-into-2 : tie.Need-slice-aggregate-pack-into-2
 slice-aggregate-pack-into-2 c = search needs
@@ -32,7 +38,10 @@ pack-into-requires : tie.Need-pack-into-requires
 pack-into-requires c κs = search needs
 
 returns : tie.Need-returns
-returns c = filled (c .before .before .before .before .before .before .before .before .args .card) _ (search needs) (c .before .before .before .before .before .digits-into .ensures) (c .before .pack-into .ensures .1)
+returns c =
+    let at-args-card = c .before .before .before .before .before .before .before .before .args .card in
+    let at-digits-into-ensures = c .before .before .before .before .before .digits-into .ensures in
+    filled at-args-card _ (search needs) at-digits-into-ensures (c .before .pack-into .ensures .1)
 
 pub zero-filled-spec : {M : Type 1} → statement M
 zero-filled-spec =

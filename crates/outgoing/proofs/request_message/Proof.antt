@@ -23,10 +23,12 @@ with-card-fields-requires c κs = search needs
 
 returns : tie.Need-returns
 returns c =
-    let a = c .before .before .before .before .args in
-    c .with-card-fields .ensures
-    ∙ rw (c .before .with-original-fields .ensures, c .before .before .typed .ensures, c .before .before .before .indicator-of .ensures)
-    (sym (all-append (cardFields (a .x) (a .batch) (a .q)) (originalFields (a .q .kind) (a .o)) (messageOf (indicatorOf (a .q .kind)) [])))
+    let at-args = c .before .before .before .before .args in
+    let at-indicator-of = c .before .before .before .indicator-of in
+    let at-typed = c .before .before .typed in
+    c .with-card-fields .ensures ∙ rw (c .before .with-original-fields .ensures, at-typed .ensures, at-indicator-of .ensures)
+    (sym (all-append (cardFields (at-args .x) (at-args .batch) (at-args .q)) (originalFields (at-args .q .kind) (at-args .o))
+    (messageOf (indicatorOf (at-args .q .kind)) [])))
 
 pub request-message-spec : {M : Type 1} → statement M
 request-message-spec =

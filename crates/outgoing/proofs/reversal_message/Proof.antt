@@ -15,8 +15,8 @@ with-card-fields-requires c κs = search needs
 
 returns : tie.Need-returns
 returns c =
-    c .with-card-fields .ensures
-    ∙ rw (c .before .with-reason .ensures, c .before .before .typed .ensures)
+    let at-typed = c .before .before .typed in
+    c .with-card-fields .ensures ∙ rw (c .before .with-reason .ensures, at-typed .ensures)
 
 pub reversal-message-spec : {M : Type 1} → statement M
 reversal-message-spec =

@@ -67,7 +67,35 @@ with-number-requires-6 c κs = search needs
 
 returns : tie.Need-returns
 returns c =
-    rw (c .with-number6 .ensures, c .before .with-number5 .ensures, c .before .before .processing-of .ensures, c .before .before .before .with-number4 .ensures, c .before .before .before .before .with-number3 .ensures, c .before .before .before .before .before .before .with-number2 .ensures, c .before .before .before .before .before .before .before .with-number .ensures, c .before .before .before .before .before .before .before .before .condition-of .ensures, c .before .before .before .before .before .before .before .before .before .with-bytes4 .ensures, c .before .before .before .before .before .before .before .before .before .before .before .with-bytes3 .ensures, c .before .before .before .before .before .before .before .before .before .before .before .before .before .with-bytes2 .ensures, c .before .before .before .before .before .before .before .before .before .before .before .before .before .before .before .with-field60 .ensures, c .before .before .before .before .before .before .before .before .before .before .before .before .before .before .before .before .with-bytes .ensures)
+    let at-with-bytes = c .before .before .before .before .before .before .before .before .before .before .before .before .before .before
+    .before .before .with-bytes in
+    let at-with-field60 = c .before .before .before .before .before .before .before .before .before .before .before .before .before .before
+    .before .with-field60 in
+    let at-with-bytes2 = c .before .before .before .before .before .before .before .before .before .before .before .before .before
+    .with-bytes2 in
+    let at-with-bytes3 = c .before .before .before .before .before .before .before .before .before .before .before .with-bytes3 in
+    let at-with-bytes4 = c .before .before .before .before .before .before .before .before .before .with-bytes4 in
+    let at-condition-of = c .before .before .before .before .before .before .before .before .condition-of in
+    let at-with-number = c .before .before .before .before .before .before .before .with-number in
+    let at-with-number2 = c .before .before .before .before .before .before .with-number2 in
+    let at-with-number3 = c .before .before .before .before .with-number3 in
+    let at-with-number4 = c .before .before .before .with-number4 in
+    let at-processing-of = c .before .before .processing-of in
+    rw (
+      c .with-number6 .ensures,
+      c .before .with-number5 .ensures,
+      at-processing-of .ensures,
+      at-with-number4 .ensures,
+      at-with-number3 .ensures,
+      at-with-number2 .ensures,
+      at-with-number .ensures,
+      at-condition-of .ensures,
+      at-with-bytes4 .ensures,
+      at-with-bytes3 .ensures,
+      at-with-bytes2 .ensures,
+      at-with-field60 .ensures,
+      at-with-bytes .ensures,
+    )
 
 pub with-card-fields-spec : {M : Type 1} → statement M
 with-card-fields-spec =

@@ -1,7 +1,6 @@
 -- `outgoing::with_original_fields` meets its contract.
 use mathlib.Core.Path.{sym, _∙_}
 use borrow.Author.Needs.{needs}
-use borrow.Author.Tests.{eq-eqb, ne-eqb}
 use Rattle.outgoing.proofs.with_original_fields.Statement.{statement}
 use Rattle.outgoing.proofs.with_original_fields.Tie as tie
 
@@ -25,7 +24,17 @@ with-bytes-requires-2 : tie.Need-with-bytes-requires-2
 with-bytes-requires-2 c κs = search needs
 
 returns : tie.Need-returns
-returns c = rw (sym (c .before .before .before .before .before .before .takes-original .ensures) ∙ c .before .before .before .before .before .if1 .taken, c .with-bytes2 .ensures, c .before .before .with-bytes .ensures, c .before .before .before .before .with-field61 .ensures)
+returns c =
+    let at-takes-original = c .before .before .before .before .before .before .takes-original in
+    let at-if1 = c .before .before .before .before .before .if1 in
+    let at-with-field61 = c .before .before .before .before .with-field61 in
+    let at-with-bytes = c .before .before .with-bytes in
+    rw (
+      sym (at-takes-original .ensures) ∙ at-if1 .taken, c .with-bytes2 .ensures, at-with-bytes .ensures, at-with-field61 .ensures,
+    )
+
+keys-reference-requires : tie.Need-keys-reference-requires
+keys-reference-requires c κs = search needs
 
 with-field61-requires-2 : tie.Need-with-field61-requires-2
 with-field61-requires-2 c κs = search needs
@@ -37,7 +46,19 @@ with-bytes-requires-3 : tie.Need-with-bytes-requires-3
 with-bytes-requires-3 c κs = search needs
 
 returns-2 : tie.Need-returns-2
-returns-2 c = rw (sym (c .before .before .before .before .before .takes-original .ensures) ∙ c .before .before .before .before .if1 .left, eq-eqb _ _ (c .before .before .before .if2 .taken), c .with-bytes3 .ensures, c .before .before .with-field612 .ensures)
+returns-2 c =
+    let at-takes-original = c .before .before .before .before .before .before .takes-original in
+    let at-if1 = c .before .before .before .before .before .if1 in
+    let at-keys-reference = c .before .before .before .before .keys-reference in
+    let at-if2 = c .before .before .before .if2 in
+    let at-with-field612 = c .before .before .with-field612 in
+    rw (
+      sym (at-takes-original .ensures) ∙ at-if1 .left, sym (at-keys-reference .ensures) ∙ at-if2 .taken, c .with-bytes3 .ensures,
+      at-with-field612 .ensures,
+    )
+
+keys-authorisation-requires : tie.Need-keys-authorisation-requires
+keys-authorisation-requires c κs = search needs
 
 with-field61-requires-3 : tie.Need-with-field61-requires-3
 with-field61-requires-3 c κs = search needs
@@ -49,10 +70,29 @@ with-bytes-requires-4 : tie.Need-with-bytes-requires-4
 with-bytes-requires-4 c κs = search needs
 
 returns-3 : tie.Need-returns-3
-returns-3 c = rw (sym (c .before .before .before .before .before .before .takes-original .ensures) ∙ c .before .before .before .before .before .if1 .left, ne-eqb _ _ (c .before .before .before .before .if2 .left), c .before .before .before .if3 .taken, c .with-bytes4 .ensures, c .before .before .with-field613 .ensures)
+returns-3 c =
+    let at-takes-original = c .before .before .before .before .before .before .before .before .takes-original in
+    let at-if1 = c .before .before .before .before .before .before .before .if1 in
+    let at-keys-reference = c .before .before .before .before .before .before .keys-reference in
+    let at-if2 = c .before .before .before .before .before .if2 in
+    let at-keys-authorisation = c .before .before .before .before .keys-authorisation in
+    let at-if3 = c .before .before .before .if3 in
+    let at-with-field613 = c .before .before .with-field613 in
+    rw (
+      sym (at-takes-original .ensures) ∙ at-if1 .left, sym (at-keys-reference .ensures) ∙ at-if2 .left,
+      sym (at-keys-authorisation .ensures) ∙ at-if3 .taken, c .with-bytes4 .ensures, at-with-field613 .ensures,
+    )
 
 returns-4 : tie.Need-returns-4
-returns-4 c = rw (sym (c .before .before .before .takes-original .ensures) ∙ c .before .before .if1 .left, ne-eqb _ _ (c .before .if2 .left), c .if3 .left)
+returns-4 c =
+    let at-takes-original = c .before .before .before .before .before .takes-original in
+    let at-if1 = c .before .before .before .before .if1 in
+    let at-keys-reference = c .before .before .before .keys-reference in
+    let at-if2 = c .before .before .if2 in
+    rw (
+      sym (at-takes-original .ensures) ∙ at-if1 .left, sym (at-keys-reference .ensures) ∙ at-if2 .left,
+      sym (c .before .keys-authorisation .ensures) ∙ c .if3 .left,
+    )
 
 pub with-original-fields-spec : {M : Type 1} → statement M
 with-original-fields-spec =
@@ -65,10 +105,12 @@ with-original-fields-spec =
     slice-aggregate-with-bytes-2
     with-bytes-requires-2
     returns
+    keys-reference-requires
     with-field61-requires-2
     slice-aggregate-with-bytes-3
     with-bytes-requires-3
     returns-2
+    keys-authorisation-requires
     with-field61-requires-3
     slice-aggregate-with-bytes-4
     with-bytes-requires-4

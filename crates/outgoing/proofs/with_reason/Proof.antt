@@ -22,10 +22,14 @@ with-bytes-requires-2 : tie.Need-with-bytes-requires-2
 with-bytes-requires-2 c κs = search needs
 
 returns : tie.Need-returns
-returns c = rw (c .before .before .enum-told .given .1) (c .with-bytes .ensures)
+returns c =
+    let at-enum-told = c .before .before .enum-told in
+    rw (at-enum-told .given .1) (c .with-bytes .ensures)
 
 returns-2 : tie.Need-returns-2
-returns-2 c = rw (c .before .before .enum-told2 .given .1) (c .with-bytes2 .ensures)
+returns-2 c =
+    let at-enum-told2 = c .before .before .enum-told2 in
+    rw (at-enum-told2 .given .1) (c .with-bytes2 .ensures)
 
 pub with-reason-spec : {M : Type 1} → statement M
 with-reason-spec =

@@ -16,7 +16,9 @@ same-length-2 : tie.Need-same-length-2
 same-length-2 c = search needs
 
 returns : tie.Need-returns
-returns c = rw (c .step-of .ensures) (c .before .before .before .before .before .answer .ensures)
+returns c =
+    let at-answer = c .before .before .before .before .before .answer in
+    rw (c .step-of .ensures) (at-answer .ensures)
 
 pub answer-spec : {M : Type 1} → statement M
 answer-spec =

@@ -16,7 +16,9 @@ same-length-2 : tie.Need-same-length-2
 same-length-2 c = search needs
 
 returns : tie.Need-returns
-returns c = rw (c .step-of .ensures) (c .before .before .before .before .before .no-answer .ensures)
+returns c =
+    let at-no-answer = c .before .before .before .before .before .no-answer in
+    rw (c .step-of .ensures) (at-no-answer .ensures)
 
 pub no-answer-spec : {M : Type 1} → statement M
 no-answer-spec =

@@ -16,7 +16,9 @@ same-length-2 : tie.Need-same-length-2
 same-length-2 c = search needs
 
 returns : tie.Need-returns
-returns c = rw (c .step-of .ensures) (c .before .before .before .before .before .power-returned .ensures)
+returns c =
+    let at-power-returned = c .before .before .before .before .before .power-returned in
+    rw (c .step-of .ensures) (at-power-returned .ensures)
 
 pub power-returned-spec : {M : Type 1} → statement M
 power-returned-spec =

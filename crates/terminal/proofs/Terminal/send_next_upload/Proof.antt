@@ -16,7 +16,9 @@ same-length-2 : tie.Need-same-length-2
 same-length-2 c = search needs
 
 returns : tie.Need-returns
-returns c = rw (c .step-of .ensures) (c .before .before .before .before .before .send-next-upload .ensures)
+returns c =
+    let at-send-next-upload = c .before .before .before .before .before .send-next-upload in
+    rw (c .step-of .ensures) (at-send-next-upload .ensures)
 
 pub send-next-upload-spec : {M : Type 1} → statement M
 send-next-upload-spec =

@@ -16,7 +16,9 @@ same-length-2 : tie.Need-same-length-2
 same-length-2 c = search needs
 
 returns : tie.Need-returns
-returns c = rw (c .step-of .ensures) (c .before .before .before .before .before .send-reversal .ensures)
+returns c =
+    let at-send-reversal = c .before .before .before .before .before .send-reversal in
+    rw (c .step-of .ensures) (at-send-reversal .ensures)
 
 pub send-reversal-spec : {M : Type 1} → statement M
 send-reversal-spec =

@@ -16,7 +16,9 @@ same-length-2 : tie.Need-same-length-2
 same-length-2 c = search needs
 
 returns : tie.Need-returns
-returns c = rw (c .step-of .ensures) (c .before .before .before .before .before .settle .ensures)
+returns c =
+    let at-settle = c .before .before .before .before .before .settle in
+    rw (c .step-of .ensures) (at-settle .ensures)
 
 pub settle-spec : {M : Type 1} → statement M
 settle-spec =

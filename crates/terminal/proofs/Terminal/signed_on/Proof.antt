@@ -16,7 +16,9 @@ same-length-2 : tie.Need-same-length-2
 same-length-2 c = search needs
 
 returns : tie.Need-returns
-returns c = rw (c .step-of .ensures) (c .before .before .before .before .before .signed-on .ensures)
+returns c =
+    let at-signed-on = c .before .before .before .before .before .signed-on in
+    rw (c .step-of .ensures) (at-signed-on .ensures)
 
 pub signed-on-spec : {M : Type 1} → statement M
 signed-on-spec =

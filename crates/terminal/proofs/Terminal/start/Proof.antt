@@ -16,7 +16,9 @@ same-length-2 : tie.Need-same-length-2
 same-length-2 c = search needs
 
 returns : tie.Need-returns
-returns c = rw (c .step-of .ensures) (c .before .before .before .before .before .start .ensures)
+returns c =
+    let at-start = c .before .before .before .before .before .start in
+    rw (c .step-of .ensures) (at-start .ensures)
 
 pub start-spec : {M : Type 1} → statement M
 start-spec = tie.close (tie.spec start-requires step-of-requires same-length same-length-2 returns)

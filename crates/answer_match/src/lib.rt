@@ -1,0 +1,135 @@
+// What an answer must hold to be one, and what it says (document 01, "Calls").
+use digits::Number;
+use message::Message;
+use numbers::Batch;
+use parts::Part;
+use numbers::Trace;
+use state::Awaited;
+use state::Settings;
+ghost use mathlib.Core.Path.{_≡_};
+ghost use Prim.Native.Nat.{_+_, _*_, _≤_};
+ghost use lib.ListN.{length};
+ghost use Rattle.digits.specs.Digits.{pack};
+ghost use Rattle.digits.specs.Numbers.{digitsOf};
+ghost use Rattle.parts.specs.Parts.{matches};
+ghost use Rattle.answer_match.specs.Match.{indicatorSent, isValue, isValueWithin, matchesSent, hasCode, approves, approvalHolds, holdsNamed, isAnswer, goodMac, endsReversal, closesBatch};
+
+// Whether field 39 is 00.
+pub fn approves(m: Message) -> bool
+    ensures { λ r. ⌜ r ≡ approves m ⌝ }
+{
+    has_code(b'0', b'0', m)
+}
+
+// Rule 22: whether a message answers what is awaited, which was sent with this trace.
+pub fn is_answer(x: Settings, batch: Batch, trace: Trace, a: Awaited, m: Message) -> bool
+    ensures { λ r. ⌜ r ≡ isAnswer x batch trace a m ⌝ }
+{
+    matches_sent(x, batch, indicator_sent(a), trace, m) & holds_named(a, m)
+}
+
+// Whether the MAC is good.
+pub fn is_good(good: bool, m: Message) -> bool
+    ensures { λ r. ⌜ r ≡ goodMac good m ⌝ }
+{
+    let bitmap = m.bitmap;
+    good & field::named(&bitmap, 64)
+}
+
+// Whether an answer ends a reversal.
+pub fn ends_reversal(good: bool, m: Message) -> bool
+    ensures { λ r. ⌜ r ≡ endsReversal good m ⌝ }
+{
+    (approves(m) & is_good(good, m)) | has_code(b'2', b'5', m) | has_code(b'1', b'2', m)
+}
+
+// Whether the answer to a settlement closes the batch.
+pub fn closes_batch(m: Message) -> bool
+    ensures { λ r. ⌜ r ≡ closesBatch m ⌝ }
+{
+    is_value(1, parts::part_of(m, Part::Reconciliation))
+}
+
+// The type of what is awaited, as it was sent.
+fn indicator_sent(a: Awaited) -> u16
+    ensures { λ r. ⌜ (r ≡ indicatorSent a) × (r ≤ 0x0500) ⌝ }
+{
+    match a {
+        Awaited::Request(q) => kinds::indicator_of(q.kind),
+        Awaited::Reversal(_) => 0x0400,
+        Awaited::Settlement(_) => 0x0500,
+        Awaited::Item(_) => 0x0320,
+        Awaited::End(_) => 0x0320,
+    }
+}
+
+fn is_value(n: u64, x: Number) -> bool
+    ensures { λ r. ⌜ r ≡ isValue n x ⌝ }
+{
+    match x {
+        Number::Is(v) => v == n,
+        Number::Not => false,
+    }
+}
+
+fn is_value_within(low: u64, high: u64, x: Number) -> bool
+    ensures { λ r. ⌜ r ≡ isValueWithin low high x ⌝ }
+{
+    match x {
+        Number::Is(v) => (low <= v) & (v <= high),
+        Number::Not => false,
+    }
+}
+
+// Whether field n holds this number in packed digits, two for each byte of room.
+fn holds_number(m: Message, n: u8, x: u64, room: &mut [u8]) -> bool
+    ensures { λ r. ⌜ r ≡ matches m n (pack (digitsOf (2 * length (now (room .entry))) x)) ⌝ }
+{
+    digits::put_number(x, room);
+    parts::field_matches(m, n, room)
+}
+
+fn matches_sent(x: Settings, batch: Batch, indicator: u16, trace: Trace, m: Message) -> bool
+    requires { ⌜ indicator ≤ 0x0500 ⌝ }
+    ensures { λ r. ⌜ r ≡ matchesSent x batch indicator trace m ⌝ }
+{
+    let terminal = x.terminal;
+    let merchant = x.merchant;
+    let mut digits = [0u8; 3];
+    (m.indicator == indicator + 0x10)
+        & holds_number(m, 11, trace.0 as u64, &mut digits)
+        & parts::field_matches(m, 41, &terminal)
+        & parts::field_matches(m, 42, &merchant)
+        & is_value(batch.0 as u64, parts::part_of(m, Part::Batch))
+}
+
+fn has_code(a: u8, b: u8, m: Message) -> bool
+    ensures { λ r. ⌜ r ≡ hasCode a b m ⌝ }
+{
+    let code = [a, b];
+    parts::field_matches(m, 39, &code)
+}
+
+fn approval_holds(amount: u64, m: Message) -> bool
+    ensures { λ r. ⌜ r ≡ approvalHolds amount m ⌝ }
+{
+    let bitmap = m.bitmap;
+    let mut digits = [0u8; 6];
+    !approves(m)
+        | (holds_number(m, 4, amount, &mut digits)
+            & field::named(&bitmap, 13)
+            & field::named(&bitmap, 37))
+}
+
+fn holds_named(a: Awaited, m: Message) -> bool
+    ensures { λ r. ⌜ r ≡ holdsNamed a m ⌝ }
+{
+    let bitmap = m.bitmap;
+    match a {
+        Awaited::Request(q) => field::named(&bitmap, 39) & approval_holds(q.amount, m),
+        Awaited::Reversal(_) => field::named(&bitmap, 39),
+        Awaited::Settlement(_) => is_value_within(1, 3, parts::part_of(m, Part::Reconciliation)),
+        Awaited::Item(_) => field::named(&bitmap, 39),
+        Awaited::End(_) => field::named(&bitmap, 39),
+    }
+}

@@ -1,0 +1,79 @@
+-- `call_answer::answer_in` meets its contract.
+use borrow.Author.Needs.{needs}
+use Rattle.state.proofs.Phases.{not-waiting}
+use Rattle.call_answer.proofs.Steps.{answer-unawaited, answer-changes, answer-unmatched}
+use Rattle.call_answer.proofs.answer_in.Statement.{statement}
+use Rattle.call_answer.proofs.answer_in.Tie as tie
+
+enum-known-phase : tie.Need-enum-known-phase
+enum-known-phase c = search needs
+
+refused-requires : tie.Need-refused-requires
+refused-requires c κs = search needs
+
+returns : tie.Need-returns
+returns c =
+    let at-args = c .before .before .before .args in
+    answer-unawaited _ _ (at-args .s) _ _ (not-waiting (at-args .s .phase) (c .before .match .keys2)) (c .refused .ensures)
+
+trace-sent-requires : tie.Need-trace-sent-requires
+trace-sent-requires c κs = search needs
+
+batch-sent-requires : tie.Need-batch-sent-requires
+batch-sent-requires c κs = search needs
+
+is-answer-requires : tie.Need-is-answer-requires
+is-answer-requires c κs = search needs
+
+answered-requires : tie.Need-answered-requires
+answered-requires c κs = search needs
+
+quiet-requires : tie.Need-quiet-requires
+quiet-requires c κs = search needs
+
+same-length : tie.Need-same-length
+same-length c = search needs
+
+returns-2 : tie.Need-returns-2
+returns-2 c =
+    let at-phase = c .before .before .before .before .before .before .before .before .before .before .before .before .phase in
+    let at-trace-sent = c .before .before .before .before .before .before .before .before .trace-sent in
+    let at-batch-sent = c .before .before .before .before .before .before .before .batch-sent in
+    let at-is-answer = c .before .before .before .before .before .before .is-answer in
+    let at-if1 = c .before .before .before .before .before .if1 in
+    let at-answered = c .before .before .before .answered in
+    answer-changes _ _ _ _ _ _ (at-phase .given .1) _ (rw (at-batch-sent .ensures, at-trace-sent .ensures) at (at-is-answer .ensures)) _ _
+    (at-if1 .taken) (at-answered .ensures) (c .quiet .ensures)
+
+refused-requires-2 : tie.Need-refused-requires-2
+refused-requires-2 c κs = search needs
+
+same-length-2 : tie.Need-same-length-2
+same-length-2 c = search needs
+
+returns-3 : tie.Need-returns-3
+returns-3 c =
+    let at-phase = c .before .before .before .before .before .before .before .before .phase in
+    let at-trace-sent = c .before .before .before .before .trace-sent in
+    let at-batch-sent = c .before .before .before .batch-sent in
+    let at-is-answer = c .before .before .is-answer in
+    answer-unmatched _ _ _ _ _ _ (at-phase .given .1) _ (rw (at-batch-sent .ensures, at-trace-sent .ensures) at (at-is-answer .ensures))
+    (c .before .if1 .left) (c .refused2 .ensures)
+
+pub answer-in-spec : {M : Type 1} → statement M
+answer-in-spec =
+    tie.close
+    (tie.spec
+    enum-known-phase
+    refused-requires
+    returns
+    trace-sent-requires
+    batch-sent-requires
+    is-answer-requires
+    answered-requires
+    quiet-requires
+    same-length
+    returns-2
+    refused-requires-2
+    same-length-2
+    returns-3)

@@ -1,0 +1,87 @@
+-- `call_answer::no_answer` meets its contract.
+use borrow.Author.Needs.{needs}
+use Rattle.state.proofs.Phases.{not-waiting}
+use Rattle.call_answer.proofs.Steps.{room-for-one, no-answer-first-refusal, no-answer-unawaited, no-answer-changes}
+use Rattle.call_answer.proofs.no_answer.Statement.{statement}
+use Rattle.call_answer.proofs.no_answer.Tie as tie
+
+first-refusal-requires : tie.Need-first-refusal-requires
+first-refusal-requires c κs = search needs
+
+refused-requires : tie.Need-refused-requires
+refused-requires c κs = search needs
+
+same-length : tie.Need-same-length
+same-length c = search needs
+
+same-length-2 : tie.Need-same-length-2
+same-length-2 c = search needs
+
+returns : tie.Need-returns
+returns c =
+    let at-first-refusal = c .before .before .first-refusal in
+    no-answer-first-refusal _ _ _ _ (at-first-refusal .ensures) _ (c .before .if1 .taken) (c .refused .ensures)
+
+enum-known-phase : tie.Need-enum-known-phase
+enum-known-phase c = search needs
+
+refused-requires-2 : tie.Need-refused-requires-2
+refused-requires-2 c κs = search needs
+
+same-length-3 : tie.Need-same-length-3
+same-length-3 c = search needs
+
+same-length-4 : tie.Need-same-length-4
+same-length-4 c = search needs
+
+returns-2 : tie.Need-returns-2
+returns-2 c =
+    let at-args = c .before .before .before .before .before .before .before .before .args in
+    let at-first-refusal = c .before .before .before .first-refusal in
+    let at-if1 = c .before .before .if1 in
+    no-answer-unawaited (at-args .s) _ _ _ (at-first-refusal .ensures) _ (at-if1 .left)
+    (not-waiting (at-args .s .phase) (c .before .match .keys2)) (c .refused2 .ensures)
+
+silent-requires : tie.Need-silent-requires
+silent-requires c κs =
+    let at-first-refusal = c .before .before .before .before .before .first-refusal in
+    let at-if1 = c .before .before .before .before .if1 in
+    room-for-one _ _ _ _ (at-first-refusal .ensures) (at-if1 .left)
+
+quiet-requires : tie.Need-quiet-requires
+quiet-requires c κs = search needs
+
+same-length-5 : tie.Need-same-length-5
+same-length-5 c = search needs
+
+same-length-6 : tie.Need-same-length-6
+same-length-6 c = search needs
+
+returns-3 : tie.Need-returns-3
+returns-3 c =
+    let at-first-refusal = c .before .before .before .before .before .before .before .before .before .first-refusal in
+    let at-if1 = c .before .before .before .before .before .before .before .before .if1 in
+    let at-phase = c .before .before .before .before .before .before .phase in
+    let at-silent = c .before .before .before .silent in
+    no-answer-changes _ _ _ _ (at-first-refusal .ensures) _ _ _ _ (at-if1 .left) (at-phase .given .1) (at-silent .ensures)
+    (c .quiet .ensures)
+
+pub no-answer-spec : {M : Type 1} → statement M
+no-answer-spec =
+    tie.close
+    (tie.spec
+    first-refusal-requires
+    refused-requires
+    same-length
+    same-length-2
+    returns
+    enum-known-phase
+    refused-requires-2
+    same-length-3
+    same-length-4
+    returns-2
+    silent-requires
+    quiet-requires
+    same-length-5
+    same-length-6
+    returns-3)

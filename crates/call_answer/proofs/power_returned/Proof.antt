@@ -1,0 +1,63 @@
+-- `call_answer::power_returned` meets its contract.
+use borrow.Author.Needs.{needs}
+use Rattle.call_answer.proofs.Steps.{room-for-one, power-first-refusal, power-changes}
+use Rattle.call_answer.proofs.power_returned.Statement.{statement}
+use Rattle.call_answer.proofs.power_returned.Tie as tie
+
+first-refusal-requires : tie.Need-first-refusal-requires
+first-refusal-requires c κs = search needs
+
+refused-requires : tie.Need-refused-requires
+refused-requires c κs = search needs
+
+same-length : tie.Need-same-length
+same-length c = search needs
+
+same-length-2 : tie.Need-same-length-2
+same-length-2 c = search needs
+
+returns : tie.Need-returns
+returns c =
+    let at-first-refusal = c .before .before .first-refusal in
+    power-first-refusal _ _ _ _ (at-first-refusal .ensures) _ (c .before .if1 .taken) (c .refused .ensures)
+
+silent-in-requires : tie.Need-silent-in-requires
+silent-in-requires c κs =
+    let at-first-refusal = c .before .before .first-refusal in
+    room-for-one _ _ _ _ (at-first-refusal .ensures) (c .before .if1 .left)
+
+signed-requires : tie.Need-signed-requires
+signed-requires c κs = search needs
+
+quiet-requires : tie.Need-quiet-requires
+quiet-requires c κs = search needs
+
+same-length-3 : tie.Need-same-length-3
+same-length-3 c = search needs
+
+same-length-4 : tie.Need-same-length-4
+same-length-4 c = search needs
+
+returns-2 : tie.Need-returns-2
+returns-2 c =
+    let at-first-refusal = c .before .before .before .before .before .before .before .first-refusal in
+    let at-if1 = c .before .before .before .before .before .before .if1 in
+    let at-silent-in = c .before .before .before .before .silent-in in
+    power-changes _ _ _ _ (at-first-refusal .ensures) _ _ _ _ (at-if1 .left) (at-silent-in .ensures) (c .before .signed .ensures)
+    (c .quiet .ensures)
+
+pub power-returned-spec : {M : Type 1} → statement M
+power-returned-spec =
+    tie.close
+    (tie.spec
+    first-refusal-requires
+    refused-requires
+    same-length
+    same-length-2
+    returns
+    silent-in-requires
+    signed-requires
+    quiet-requires
+    same-length-3
+    same-length-4
+    returns-2)

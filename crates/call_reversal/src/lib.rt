@@ -1,0 +1,54 @@
+// Send reversal (document 01, "Calls").
+use state::Awaited;
+use state::Called;
+use state::Phase;
+use state::Reversal;
+use state::State;
+ghost use mathlib.Core.Path.{_≡_};
+ghost use Prim.Native.Nat.{_≤_, _<_};
+ghost use lib.ListN.{length};
+ghost use Rattle.numbers.specs.Limits.{mostSendings};
+ghost use Rattle.message.specs.Message.{largest};
+ghost use Rattle.state.specs.Calls.{resultOf};
+ghost use Rattle.outgoing.specs.Held.{CardHeld};
+ghost use Rattle.call_reversal.specs.SendReversal.{again, sendsReversal, sendReversal};
+
+// Sends the pending reversal.
+pub fn send_reversal(s: State, journal: &mut [u8], message: &mut [u8]) -> Called
+    ensures { λ r. ⌜ resultOf r (now (journal .exit)) (now (message .exit)) ≡ sendReversal s (now (journal .entry)) (now (message .entry)) ⌝ }
+{
+    let number = rules::idle_refusal(s, journal, message);
+    if number != 0 {
+        return Called::refused(s, number);
+    }
+    let phase = s.phase;
+    let Phase::Pending(v) = phase else {
+        return Called::refused(s, 14);
+    };
+    send(s, again(v), journal, message)
+}
+
+fn again(v: Reversal) -> Reversal
+    requires { ⌜ v .sendings < mostSendings ⌝ }
+    ensures { λ r. ⌜ r ≡ again v ⌝ }
+{
+    let request = v.request;
+    let reason = v.reason;
+    Reversal {
+        request: request,
+        reason: reason,
+        sendings: v.sendings + 1,
+    }
+}
+
+// A reversal leaves and is awaited.
+fn send(s: State, v: Reversal, journal: &[u8], message: &mut [u8]) -> Called
+    requires { ⌜ CardHeld (s .settings) (v .request) × (largest ≤ length (now message)) ⌝ }
+    ensures { λ r. ⌜ resultOf r (now (journal .entry)) (now (message .exit)) ≡ sendsReversal v s (now (journal .entry)) (now (message .entry)) ⌝ }
+{
+    let settings = s.settings;
+    let batch = s.batch;
+    let m = outgoing::reversal_message(settings, batch, v);
+    let n = outgoing::write_outgoing(m, message);
+    Called::sends(s.in_phase(Phase::Waiting(Awaited::Reversal(v))), n)
+}

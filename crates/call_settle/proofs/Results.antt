@@ -1,0 +1,66 @@
+-- What settle gives: refused, or sent and awaited.
+use mathlib.Core.Path.{_≡_, sym, ap, _∙_}
+use mathlib.Core.List.{List, []}
+use Prim.Native.Nat.{ℕ}
+use lib.ListN.{length}
+use Rattle.message.specs.Build.{messageOf}
+use Rattle.message.specs.declared.Message.{Message}
+use Rattle.writing.specs.Writing.{writeMessage}
+use Rattle.numbers.specs.declared.Trace.{Trace}
+use Rattle.journal.specs.Journal.{entriesOf, totalsOf, taken}
+use Rattle.kinds.specs.declared.Totals.{Totals}
+use Rattle.state.specs.declared.Outcome.the-variants.{Send}
+use Rattle.state.specs.declared.State.{State}
+use Rattle.checks.specs.Checks.{firstBroken}
+use Rattle.state.specs.Calls.{resultOf, refused}
+use Rattle.state.proofs.Judged.{refuses, goes}
+use Rattle.compose.specs.Compose.{withAll}
+use Rattle.compose.proofs.Composed.{all-composed}
+use Rattle.outgoing.specs.Outgoing.{lengthOf}
+use Rattle.outgoing.proofs.Leaving.{written-is}
+use Rattle.call_settle.specs.Settle.{settlementFields, settlementMessage, settleRules, settles, settleNow, settle}
+use Rattle.call_settle.proofs.Held.{settlement-held, settlement-listed}
+use Rattle.outgoing.specs.Held.{SettingsHeld}
+use Rattle.call_settle.proofs.Refusals.{fits}
+
+module _ (s : State) (j m : List ℕ) (n : ℕ) (e : n ≡ firstBroken (settleRules s j m)) where
+  pub is-refused : (n ≡ 0 → ⊥) → refused n s j m ≡ settle s j m
+  unfolding settle
+  is-refused h = refuses n (firstBroken (settleRules s j m)) s j m _ e h
+
+  module _ (z : n ≡ 0) (lt : length (s .settings .terminal) ≡ 8) (lm : length (s .settings .merchant) ≡ 15) where
+    settings-held : SettingsHeld (s .settings)
+    settings-held =
+        let x = fits s j m (sym e ∙ z) .order .state .settings in
+        record {
+          terminal-length = lt;
+          merchant-length = lm;
+          terminal-printable = x .terminal-printable;
+          merchant-printable = x .merchant-printable;
+        }
+
+    -- the message, its length and the bytes in the buffer are those of the settlement
+    leaves : (trace : Trace) (t : Totals) (b : Message) (k : ℕ) (o : List ℕ) (after : State)
+        → b ≡ withAll (settlementFields (s .settings) (s .batch) trace t) (messageOf 0x0500 [])
+        → k ≡ lengthOf (writeMessage b m .outcome) → o ≡ writeMessage b m .buffer → after ≡ settles s trace
+        → resultOf (record { outcome = Send k; state = after }) j o ≡ settleNow s trace t j m
+    unfolding settlementMessage
+    leaves trace t b k o after p q w u =
+        let fs = settlementFields (s .settings) (s .batch) trace t in
+        let h = settlement-held (s .settings) (s .batch) settings-held trace t in
+        let is = p ∙ all-composed 0x0500 fs h in
+        let room = fits s j m (sym e ∙ z) .message-room in
+        let wr = ap (λ (x : Message). writeMessage x m) is ∙ written-is 0x0500 fs m settlement-listed h room in
+        rw (q, w, u, wr)
+
+    pub is-sent : (trace : Trace) (t : Totals) (b : Message) (k : ℕ) (o : List ℕ) (after : State)
+        → trace ≡ record { 0 = taken (entriesOf (s .entries) j) (s .next .0) } → t ≡ totalsOf (entriesOf (s .entries) j)
+        → b ≡ withAll (settlementFields (s .settings) (s .batch) trace t) (messageOf 0x0500 [])
+        → k ≡ lengthOf (writeMessage b m .outcome) → o ≡ writeMessage b m .buffer → after ≡ settles s trace
+        → resultOf (record { outcome = Send k; state = after }) j o ≡ settle s j m
+    unfolding settle
+    is-sent trace t b k o after x y p q w u =
+        goes n (firstBroken (settleRules s j m)) s j m _ _ e z
+        (leaves trace t b k o after p q w u
+        ∙ ap (λ (c : Trace). settleNow s c t j m) x
+        ∙ ap (λ (c : Totals). settleNow s (record { 0 = taken (entriesOf (s .entries) j) (s .next .0) }) c j m) y)

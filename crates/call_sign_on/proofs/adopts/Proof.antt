@@ -1,0 +1,15 @@
+-- `call_sign_on::adopts` meets its contract.
+use borrow.Author.Needs.{needs}
+use Rattle.call_sign_on.specs.SignOn.{adopts}
+use Rattle.call_sign_on.proofs.adopts.Statement.{statement}
+use Rattle.call_sign_on.proofs.adopts.Tie as tie
+
+is-resting-requires : tie.Need-is-resting-requires
+is-resting-requires c κs = search needs
+
+returns : tie.Need-returns
+unfolding adopts
+returns c = rw (c .is-resting .ensures)
+
+pub adopts-spec : {M : Type 1} → statement M
+adopts-spec = tie.close (tie.spec is-resting-requires returns)

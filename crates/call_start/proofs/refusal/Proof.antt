@@ -1,0 +1,71 @@
+-- `call_start::refusal` meets its contract: the rules in four parts, one after another.
+use borrow.Author.Needs.{needs}
+use denote.Ref.{now}
+use Rattle.journal.specs.Journal.{entriesOf}
+use Rattle.call_start.proofs.Refusals.{stops-first-refusal, stops-rest, stops-desk, asks-journal}
+use Rattle.call_start.proofs.refusal.Statement.{statement}
+use Rattle.call_start.proofs.refusal.Tie as tie
+
+first-refusal-requires : tie.Need-first-refusal-requires
+first-refusal-requires c κs = search needs
+
+returns : tie.Need-returns
+returns c =
+    let at-args = c .before .before .before .before .before .args in
+    stops-first-refusal (at-args .d) (at-args .s) (entriesOf (at-args .s .entries) (now (at-args .journal))) (at-args .place) (at-args .e)
+    (now (at-args .journal)) (now (at-args .message)) _ (c .before .first-refusal .ensures) (c .if1 .taken)
+
+rest-refusal-requires : tie.Need-rest-refusal-requires
+rest-refusal-requires c κs = search needs
+
+returns-2 : tie.Need-returns-2
+returns-2 c =
+    let at-args = c .before .before .before .before .before .before .before .args in
+    let at-first-refusal = c .before .before .before .first-refusal in
+    let at-if1 = c .before .before .if1 in
+    stops-rest (at-args .d) (at-args .s) (entriesOf (at-args .s .entries) (now (at-args .journal))) (at-args .place) (at-args .e)
+    (now (at-args .journal)) (now (at-args .message)) _ _ (at-first-refusal .ensures) (at-if1 .left) (c .before .rest-refusal .ensures)
+    (c .if2 .taken)
+
+desk-refusal-requires : tie.Need-desk-refusal-requires
+desk-refusal-requires c κs = search needs
+
+returns-3 : tie.Need-returns-3
+returns-3 c =
+    let at-args = c .before .before .before .before .before .before .before .before .before .args in
+    let at-first-refusal = c .before .before .before .before .before .first-refusal in
+    let at-if1 = c .before .before .before .before .if1 in
+    let at-rest-refusal = c .before .before .before .rest-refusal in
+    let at-if2 = c .before .before .if2 in
+    stops-desk (at-args .d) (at-args .s) (entriesOf (at-args .s .entries) (now (at-args .journal))) (at-args .place) (at-args .e)
+    (now (at-args .journal)) (now (at-args .message)) _ _ _ (at-first-refusal .ensures) (at-if1 .left) (at-rest-refusal .ensures)
+    (at-if2 .left) (c .before .desk-refusal .ensures) (c .if3 .taken)
+
+journal-refusal-requires : tie.Need-journal-refusal-requires
+journal-refusal-requires c κs = search needs
+
+returns-4 : tie.Need-returns-4
+returns-4 c =
+    let at-args = c .before .before .before .before .before .before .before .before .before .before .args in
+    let at-pre = c .before .before .before .before .before .before .before .before .before .before .pre in
+    let at-first-refusal = c .before .before .before .before .before .before .first-refusal in
+    let at-if1 = c .before .before .before .before .before .if1 in
+    let at-rest-refusal = c .before .before .before .before .rest-refusal in
+    let at-if2 = c .before .before .before .if2 in
+    let at-desk-refusal = c .before .before .desk-refusal in
+    asks-journal (at-args .d) (at-args .s) (entriesOf (at-args .s .entries) (now (at-args .journal))) (at-args .place) (at-args .e)
+    (now (at-args .journal)) (now (at-args .message)) _ _ _ _ at-pre (at-first-refusal .ensures) (at-if1 .left) (at-rest-refusal .ensures)
+    (at-if2 .left) (at-desk-refusal .ensures) (c .before .if3 .left) (c .journal-refusal .ensures)
+
+pub refusal-spec : {M : Type 1} → statement M
+refusal-spec =
+    tie.close
+    (tie.spec
+    first-refusal-requires
+    returns
+    rest-refusal-requires
+    returns-2
+    desk-refusal-requires
+    returns-3
+    journal-refusal-requires
+    returns-4)

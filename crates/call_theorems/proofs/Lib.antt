@@ -1,0 +1,20 @@
+-- Each call keeps rules 1 and 2.
+pub mod Back
+pub mod Refusing
+pub mod Phases
+pub mod Items
+pub mod Growing
+pub mod Approving
+pub mod Events
+pub mod Signing
+pub mod Starting
+pub mod Settling
+pub mod Uploading
+pub mod Keeping
+pub mod Told
+pub mod Leaving
+pub mod Calls
+pub mod Failing
+pub mod Giving
+pub mod Facts
+pub mod Order

@@ -1,0 +1,326 @@
+-- Laws of a terminal in order whose phase and counts change, its journal not.
+use mathlib.Core.Path.{_≡_, refl, _∙_}
+use mathlib.Core.List.{List}
+use mathlib.Core.Bool.{Bool, true, false, cond, or-true}
+use Prim.Native.Nat.{ℕ, _+_, _≤_, _<_}
+use native.Mathlib.Omega.{arith}
+use lib.Dec.{leb, eqb}
+use borrow.Author.Tests.{leb-false, lt-ltb, ltb-true}
+use Rattle.numbers.specs.Limits.{lastNumber}
+use Rattle.kinds.specs.Kinds.{isDue, isNeverReversed}
+use Rattle.entry.specs.Form.{keepsUnmarked, keepsSilent}
+use Rattle.entry.specs.declared.Entry.{Entry}
+use Rattle.journal.specs.Journal.{entriesOf, every, isAt, totalsOf, sumsOf}
+use Rattle.journal.proofs.Searches.{every-implies}
+use Rattle.traces.proofs.Free.{following-range}
+use Rattle.numbers.specs.declared.Trace.{Trace}
+use Rattle.numbers.specs.declared.Batch.{Batch}
+use Rattle.state.specs.declared.Reason.{Reason}
+use Rattle.state.specs.declared.Request.{Request}
+use Rattle.state.specs.declared.Reversal.{Reversal}
+use Rattle.state.specs.declared.Awaited.the-variants as awaited
+use Rattle.state.specs.declared.Phase.{Phase}
+use Rattle.state.specs.declared.Phase.the-variants.{Resting, Waiting, Pending, Settling, Uploading}
+use Rattle.state.specs.declared.Counts.{Counts}
+use Rattle.state.specs.declared.State.{State}
+use Rattle.state.specs.declared.Count.the-variants.{Declined, Reversed, GivenUp, Unanswered}
+use Rattle.state.specs.State.{plus, counted, inPhase, withCounts, withNext, inBatch, signed, closed}
+use Rattle.rules.specs.Rules.{requestInForm, reversalInForm, phaseInForm, inUpload, awaitedItem, waiting, phaseKept}
+use Rattle.rules.proofs.InOrder.{JournalHolds, Fit}
+use Rattle.call_reversal.specs.SendReversal.{again}
+use Rattle.call_answer.specs.Answer.{pendingOrUnanswered, failed}
+use Rattle.numbers.proofs.Bounds.{within-yes}
+
+-- what a new phase and new counts must keep
+pub record Moves (p : Phase) (c : Counts) (s : State) (es : List Entry) : Type 0 where
+  pub sent-same : c .sent ≡ s .counts .sent
+  pub approved-same : c .approved ≡ s .counts .approved
+  pub phase-form : phaseInForm p ≡ true
+  pub balance : c .sent ≡ c .approved + c .declined + c .reversed + c .«given_up» + c .unanswered + waiting p
+  pub journal : JournalHolds (s .settings .sendings) (inUpload p) (awaitedItem p) es
+  pub phase-kept : phaseKept (s .settings) (s .entries) es p ≡ true
+
+pub moved : (p : Phase) (c : Counts) (s : State) (j m : List ℕ) → Fit s j m → Moves p c s (entriesOf (s .entries) j)
+    → Fit (inPhase p (withCounts c s)) j m
+moved p c s j m f w =
+    let h = f .order .state in
+    record {
+      message-room = f .message-room;
+      journal-room = f .journal-room;
+      order =
+          record {
+            state =
+                record {
+                  settings = h .settings;
+                  batch-least = h .batch-least;
+                  batch-most = h .batch-most;
+                  next-least = h .next-least;
+                  next-most = h .next-most;
+                  sent-most = omega arith;
+                  phase-form = w .phase-form;
+                  few = h .few;
+                  balance = w .balance;
+                  approvals = w .approved-same ∙ h .approvals;
+                };
+            journal = w .journal;
+            phase-kept = w .phase-kept;
+          };
+    }
+
+-- no mark stands as the upload begins
+upload-begins : (e : Entry) → keepsUnmarked false e ≡ true → keepsUnmarked true e ≡ true
+unfolding keepsUnmarked
+upload-begins e h = rw h (or-true (isDue (e .kind)))
+
+-- a request that is no refund makes a reversal in form, whatever its reason and sendings
+reversal-form : (q : Request) (r : Reason) (n : ℕ) → requestInForm q ≡ true → isNeverReversed (q .kind) ≡ false
+    → reversalInForm (record { request = q; reason = r; sendings = n }) ≡ true
+unfolding reversalInForm
+reversal-form q r n f e = rw (f, e)
+
+again-form : (v : Reversal) → reversalInForm v ≡ true → reversalInForm (again v) ≡ true
+unfolding reversalInForm
+again-form v f = f
+
+module _ (s : State) (j m : List ℕ) where
+  -- a request without a decision
+  pub pending-or-unanswered-fit : (r : Reason) (q : Request) → Fit (inPhase (Waiting (awaited.Request q)) s) j m → Fit (pendingOrUnanswered r q s) j m
+  unfolding pendingOrUnanswered
+  pending-or-unanswered-fit r q h = go (isNeverReversed (q .kind)) refl
+    where
+      go : (b : Bool) → isNeverReversed (q .kind) ≡ b
+          → Fit (cond b (inPhase Resting (counted Unanswered s))
+          (inPhase (Pending (record { request = q; reason = r; sendings = 0 })) s)) j m
+      go true e =
+          moved Resting (plus Unanswered (s .counts)) (inPhase (Waiting (awaited.Request q)) s) j m h
+          (record {
+            sent-same = refl;
+            approved-same = refl;
+            phase-form = refl;
+            journal = h .order .journal;
+            balance = omega arith;
+            phase-kept = refl;
+          })
+      go false e =
+          moved (Pending (record { request = q; reason = r; sendings = 0 })) (s .counts) (inPhase (Waiting (awaited.Request q)) s) j m h
+          (record {
+            sent-same = refl;
+            approved-same = refl;
+            phase-form = reversal-form q r 0 (h .order .state .phase-form) e;
+            journal = h .order .journal;
+            balance = h .order .state .balance;
+            phase-kept = lt-ltb 0 (s .settings .sendings) (h .order .state .settings .sendings-least);
+          })
+
+  pub declined-fit : (q : Request) → Fit (inPhase (Waiting (awaited.Request q)) s) j m
+      → Fit (inPhase Resting (counted Declined s)) j m
+  declined-fit q h =
+      moved Resting (plus Declined (s .counts)) (inPhase (Waiting (awaited.Request q)) s) j m h
+      (record {
+        sent-same = refl;
+        approved-same = refl;
+        phase-form = refl;
+        journal = h .order .journal;
+        balance = omega arith;
+        phase-kept = refl;
+      })
+
+  -- a reversal's sending failed
+  pub failed-fit : (v : Reversal) → Fit (inPhase (Waiting (awaited.Reversal v)) s) j m → Fit (failed v s) j m
+  unfolding failed
+  failed-fit v h = go (leb (s .settings .sendings) (v .sendings)) refl
+    where
+      go : (b : Bool) → leb (s .settings .sendings) (v .sendings) ≡ b
+          → Fit (cond b (inPhase Resting (counted GivenUp s)) (inPhase (Pending v) s)) j m
+      go true e =
+          moved Resting (plus GivenUp (s .counts)) (inPhase (Waiting (awaited.Reversal v)) s) j m h
+          (record {
+            sent-same = refl;
+            approved-same = refl;
+            phase-form = refl;
+            journal = h .order .journal;
+            balance = omega arith;
+            phase-kept = refl;
+          })
+      go false e =
+          moved (Pending v) (s .counts) (inPhase (Waiting (awaited.Reversal v)) s) j m h
+          (record {
+            sent-same = refl;
+            approved-same = refl;
+            phase-form = h .order .state .phase-form;
+            journal = h .order .journal;
+            balance = h .order .state .balance;
+            phase-kept = lt-ltb (v .sendings) (s .settings .sendings) (leb-false _ _ e);
+          })
+
+  pub reversed-fit : (v : Reversal) → Fit (inPhase (Waiting (awaited.Reversal v)) s) j m
+      → Fit (inPhase Resting (counted Reversed s)) j m
+  reversed-fit v h =
+      moved Resting (plus Reversed (s .counts)) (inPhase (Waiting (awaited.Reversal v)) s) j m h
+      (record {
+        sent-same = refl;
+        approved-same = refl;
+        phase-form = refl;
+        journal = h .order .journal;
+        balance = omega arith;
+        phase-kept = refl;
+      })
+
+  -- a pending reversal leaves again
+  pub again-fit : (v : Reversal) → Fit (inPhase (Pending v) s) j m → Fit (inPhase (Waiting (awaited.Reversal (again v))) s) j m
+  again-fit v h =
+      let l : v .sendings < s .settings .sendings = ltb-true (v .sendings) (s .settings .sendings) (h .order .phase-kept) in
+      moved (Waiting (awaited.Reversal (again v))) (s .counts) (inPhase (Pending v) s) j m h
+      (record {
+        sent-same = refl;
+        approved-same = refl;
+        phase-form = again-form v (h .order .state .phase-form);
+        journal = h .order .journal;
+        balance = h .order .state .balance;
+        phase-kept = within-yes 1 (v .sendings + 1) (s .settings .sendings) (omega arith) (omega arith);
+      })
+
+  -- a settlement unanswered, or answered by an upload; the upload's end, not closed
+  pub settling-fit : (x : Trace) → Fit (inPhase (Waiting (awaited.Settlement x)) s) j m → Fit (inPhase Settling s) j m
+  settling-fit x h =
+      moved Settling (s .counts) (inPhase (Waiting (awaited.Settlement x)) s) j m h
+      (record {
+        sent-same = refl;
+        approved-same = refl;
+        phase-form = refl;
+        journal = h .order .journal;
+        balance = h .order .state .balance;
+        phase-kept = refl;
+      })
+
+  pub uploading-fit : (x : Trace) → Fit (inPhase (Waiting (awaited.Settlement x)) s) j m → Fit (inPhase Uploading s) j m
+  uploading-fit x h =
+      moved Uploading (s .counts) (inPhase (Waiting (awaited.Settlement x)) s) j m h
+      (record {
+        sent-same = refl;
+        approved-same = refl;
+        phase-form = refl;
+        journal =
+            record {
+              form = h .order .journal .form;
+              apart = h .order .journal .apart;
+              voided = h .order .journal .voided;
+              debit-most = h .order .journal .debit-most;
+              credit-most = h .order .journal .credit-most;
+              unmarked =
+                  every-implies (λ i e. keepsUnmarked false e) (λ i e. keepsUnmarked true e) (λ i e. upload-begins e)
+                  0 (entriesOf (s .entries) j) (h .order .journal .unmarked);
+              resends = h .order .journal .resends;
+              silent = h .order .journal .silent;
+            };
+        balance = h .order .state .balance;
+        phase-kept = refl;
+      })
+
+  pub ending-fit : (x : Trace) → Fit (inPhase (Waiting (awaited.End x)) s) j m → Fit (inPhase Uploading s) j m
+  ending-fit x h =
+      moved Uploading (s .counts) (inPhase (Waiting (awaited.End x)) s) j m h
+      (record {
+        sent-same = refl;
+        approved-same = refl;
+        phase-form = refl;
+        journal = h .order .journal;
+        balance = h .order .state .balance;
+        phase-kept = refl;
+      })
+
+  -- a closed batch
+  pub closed-fit : Fit s j m → Fit (closed s) j m
+  unfolding sumsOf
+  closed-fit h =
+      let f = following-range (s .batch .0) in
+      record {
+        message-room = h .message-room;
+        journal-room = h .journal-room;
+        order =
+            record {
+              state =
+                  record {
+                    settings = h .order .state .settings;
+                    batch-least = f .0;
+                    batch-most = f .1;
+                    next-least = h .order .state .next-least;
+                    next-most = h .order .state .next-most;
+                    sent-most = omega arith;
+                    phase-form = refl;
+                    few = omega arith;
+                    balance = refl;
+                    approvals = refl;
+                  };
+              journal =
+                  record {
+                    form = refl;
+                    apart = refl;
+                    voided = refl;
+                    debit-most = omega arith;
+                    credit-most = omega arith;
+                    unmarked = refl;
+                    resends = refl;
+                    silent = refl;
+                  };
+              phase-kept = refl;
+            };
+      }
+
+  -- another trace is next
+  pub next-fit : (x : Trace) → 1 ≤ x .0 → x .0 ≤ lastNumber → Fit s j m → Fit (withNext x s) j m
+  next-fit x a b f =
+      let h = f .order .state in
+      record {
+        message-room = f .message-room;
+        journal-room = f .journal-room;
+        order =
+            record {
+              state =
+                  record {
+                    settings = h .settings;
+                    batch-least = h .batch-least;
+                    batch-most = h .batch-most;
+                    next-least = a;
+                    next-most = b;
+                    sent-most = h .sent-most;
+                    phase-form = h .phase-form;
+                    few = h .few;
+                    balance = h .balance;
+                    approvals = h .approvals;
+                  };
+              journal = f .order .journal;
+              phase-kept = f .order .phase-kept;
+            };
+      }
+
+  -- signing on or off, perhaps in another batch
+  pub signed-fit : (on : Bool) (batch : Batch) → 1 ≤ batch .0 → batch .0 ≤ lastNumber → Fit s j m
+      → Fit (signed on (inBatch batch s)) j m
+  signed-fit on batch a b f =
+      let h = f .order .state in
+      record {
+        message-room = f .message-room;
+        journal-room = f .journal-room;
+        order =
+            record {
+              state =
+                  record {
+                    settings = h .settings;
+                    batch-least = a;
+                    batch-most = b;
+                    next-least = h .next-least;
+                    next-most = h .next-most;
+                    sent-most = h .sent-most;
+                    phase-form = h .phase-form;
+                    few = h .few;
+                    balance = h .balance;
+                    approvals = h .approvals;
+                  };
+              journal = f .order .journal;
+              phase-kept = f .order .phase-kept;
+            };
+      }
+
+  pub off-fit : Fit s j m → Fit (signed false s) j m
+  off-fit h = signed-fit false (s .batch) (h .order .state .batch-least) (h .order .state .batch-most) h

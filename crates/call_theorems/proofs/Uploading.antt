@@ -1,0 +1,222 @@
+-- The call send next upload keeps rules 1 and 2.
+use mathlib.Core.Path.{_≡_, refl, _∙_}
+use mathlib.Core.List.{List}
+use mathlib.Core.Bool.{Bool, true, false, cond, not, _&&_, _||_, and-eq-true-iff, or-true}
+use Prim.Native.Nat.{ℕ, _+_, _≤_}
+use native.Mathlib.Omega.{arith}
+use lib.Dec.{leb, eqb}
+use borrow.Author.Tests.{eq-eqb, eqb-false, le-leb, leb-true}
+use Rattle.numbers.specs.Limits.{lastNumber}
+use Rattle.numbers.specs.Numbers.{following}
+use Rattle.kinds.specs.Kinds.{isDue}
+use Rattle.writing.specs.Writing.{messageBytes}
+use Rattle.numbers.specs.declared.Trace.{Trace}
+use Rattle.entry.specs.Form.{inForm, keepsVoided, keepsUnmarked, keepsResends, keepsSilent}
+use Rattle.entry.specs.declared.Entry.{Entry}
+use Rattle.journal.specs.Journal.{entriesOf, entryAt, isAt, dueWith, nextDue, setByte, withResends, changedAt, taken}
+use Rattle.journal.specs.declared.Found.{Found}
+use Rattle.journal.specs.declared.Found.the-variants.{At, Nowhere}
+use Rattle.journal.proofs.Entries.{set-resends, length-set-byte}
+use Rattle.journal.proofs.Marks.{resends-form}
+use Rattle.journal.proofs.Searches.{next-at, every-at, every-after, every-changed, every-implies, first-changed}
+use Rattle.journal.proofs.Sums.{resends-totals, totals-changed}
+use Rattle.journal.proofs.Traces.{resends-trace, distinct-changed}
+use Rattle.traces.proofs.Free.{taken-range, following-range}
+use Rattle.state.specs.declared.Awaited.the-variants as awaited
+use Rattle.state.specs.declared.Phase.{Phase}
+use Rattle.state.specs.declared.Phase.the-variants.{Resting, Waiting, Pending, Settling, Uploading}
+use Rattle.state.specs.declared.State.{State}
+use Rattle.state.specs.State.{inPhase}
+use Rattle.checks.specs.Checks.{firstBroken}
+use Rattle.rules.proofs.InOrder.{InOrder, Fit}
+use Rattle.call_upload.specs.SendNextUpload.{itemMessage, endMessage, resent, ending, sendsNext, uploadFrom, sendNextUploadRules, sendNextUpload}
+use Rattle.numbers.proofs.Bounds.{within-yes}
+use Rattle.call_theorems.proofs.Refusing.{Fits, judged-fits, sent-fits}
+use Rattle.call_theorems.proofs.Phases.{moved, next-fit}
+
+-- what is kept of an entry that is not awaited is kept of an awaited one
+silent-awaited : (l : ℕ) (b : Bool) (e : Entry) → keepsSilent l false e ≡ true → keepsSilent l b e ≡ true
+unfolding keepsSilent
+silent-awaited l true e h = or-true (not (eqb (e .mark) 1 && eqb (e .resends) l))
+silent-awaited l false e h = h
+
+-- the awaited item may have been resent L times
+silent-here : (l : ℕ) (e : Entry) → keepsSilent l true e ≡ true
+unfolding keepsSilent
+silent-here l e = or-true (not (eqb (e .mark) 1 && eqb (e .resends) l))
+
+-- what rule 2 says of an entry with another number of resends
+module _ (x : ℕ) (e : Entry) where
+  resends-voided : keepsVoided (withResends x e) ≡ keepsVoided e
+  unfolding withResends keepsVoided
+  resends-voided = refl
+
+  resends-unmarked : isDue (e .kind) ≡ true → keepsUnmarked true (withResends x e) ≡ true
+  unfolding withResends keepsUnmarked
+  resends-unmarked d = rw d
+
+  resends-resends : (l : ℕ) → x ≤ l → e .mark ≡ 1 → keepsResends l (withResends x e) ≡ true
+  unfolding withResends keepsResends
+  resends-resends l h k = rw (le-leb x l h, k)
+
+  resends-due : (mark : ℕ) → dueWith mark (withResends x e) ≡ dueWith mark e
+  unfolding withResends dueWith
+  resends-due mark = refl
+
+-- a resend does not change which entry is next
+next-resent : (x i : ℕ) (es : List Entry) → nextDue (changedAt i (withResends x) es) ≡ nextDue es
+unfolding nextDue
+next-resent x i es =
+    rw (
+      first-changed (dueWith 0) (withResends x) (λ e. resends-due x e 0) i 0 es,
+      first-changed (dueWith 1) (withResends x) (λ e. resends-due x e 1) i 0 es,
+    )
+
+-- a mark 1 that is not awaited has a resend left
+resend-left : (l : ℕ) (e : Entry) → e .mark ≡ 1 → keepsResends l e ≡ true → keepsSilent l false e ≡ true → e .resends + 1 ≤ l
+unfolding keepsResends keepsSilent
+resend-left l e k r h =
+    let a = and-eq-true-iff (leb (e .resends) l) (not (eqb (e .mark) 0) || eqb (e .resends) 0) .0 r in
+    go (eqb (e .resends) l) refl (leb-true (e .resends) l (a .0)) (rw k at h)
+  where
+    go : (b : Bool) → eqb (e .resends) l ≡ b → e .resends ≤ l → (not b || false) ≡ true → e .resends + 1 ≤ l
+    go true q m h = let z : _≡_ {A = ℕ} 0 1 = cc in absurd (omega arith)
+    go false q m h = let n = eqb-false (e .resends) l q in omega arith
+
+-- the next item leaves
+module _ (s : State) (j m : List ℕ) (i : ℕ) (h : Fit (inPhase Uploading s) j m) (n : nextDue (entriesOf (s .entries) j) ≡ At i) where
+  -- the first time
+  first-fit : Fit (inPhase (Waiting (awaited.Item i)) s) j m
+  first-fit =
+      let l = s .settings .sendings in
+      moved (Waiting (awaited.Item i)) (s .counts) (inPhase Uploading s) j m h
+      (record {
+        sent-same = refl;
+        approved-same = refl;
+        phase-form = refl;
+        journal =
+            record {
+              form = h .order .journal .form;
+              apart = h .order .journal .apart;
+              voided = h .order .journal .voided;
+              debit-most = h .order .journal .debit-most;
+              credit-most = h .order .journal .credit-most;
+              unmarked = h .order .journal .unmarked;
+              resends = h .order .journal .resends;
+              silent =
+                  every-implies (λ k e. keepsSilent l false e) (λ k e. keepsSilent l (isAt (At i) k) e)
+                  (λ k e. silent-awaited l (isAt (At i) k) e) 0 (entriesOf (s .entries) j) (h .order .journal .silent);
+            };
+        balance = h .order .state .balance;
+        phase-kept = rw n (eq-eqb i i refl);
+      })
+
+  -- once more: byte 3 grows by one, at most to L
+  resent-order : entryAt (entriesOf (s .entries) j) i .mark ≡ 1
+      → InOrder (inPhase (Waiting (awaited.Item i)) s)
+      (changedAt i (withResends (entryAt (entriesOf (s .entries) j) i .resends + 1)) (entriesOf (s .entries) j))
+  resent-order k =
+      let es = entriesOf (s .entries) j in
+      let e = entryAt es i in
+      let x = e .resends + 1 in
+      let o = h .order in
+      let l = s .settings .sendings in
+      let r = next-at es i n in
+      let t = totals-changed (withResends x) (resends-totals x) i es in
+      let left = resend-left l e k (every-at (λ k e. keepsResends l e) 0 es (o .journal .resends) i (r .below))
+      (every-at (λ k e. keepsSilent l false e) 0 es (o .journal .silent) i (r .below)) in
+      record {
+        state =
+            record {
+              settings = o .state .settings;
+              batch-least = o .state .batch-least;
+              batch-most = o .state .batch-most;
+              next-least = o .state .next-least;
+              next-most = o .state .next-most;
+              sent-most = o .state .sent-most;
+              phase-form = refl;
+              few = o .state .few;
+              balance = o .state .balance;
+              approvals = o .state .approvals;
+            };
+        journal =
+            record {
+              form = every-changed (λ k e. inForm e) (withResends x) (λ k e. resends-form x e) i 0 es ∙ o .journal .form;
+              apart = distinct-changed (withResends x) (resends-trace x) i es ∙ o .journal .apart;
+              voided = every-changed (λ k e. keepsVoided e) (withResends x) (λ k e. resends-voided x e) i 0 es ∙ o .journal .voided;
+              debit-most = rw t (o .journal .debit-most);
+              credit-most = rw t (o .journal .credit-most);
+              unmarked =
+                  every-after (λ k e. keepsUnmarked true e) (λ k e. keepsUnmarked true e) (withResends x) 0 i es (o .journal .unmarked) (λ k b d p. p)
+                  (λ b. resends-unmarked x e (r .due));
+              resends =
+                  every-after (λ k e. keepsResends l e) (λ k e. keepsResends l e) (withResends x) 0 i es (o .journal .resends) (λ k b d p. p)
+                  (λ b. resends-resends x e l left k);
+              silent =
+                  every-after (λ k e. keepsSilent l false e) (λ k e. keepsSilent l (isAt (At i) k) e) (withResends x) 0 i es (o .journal .silent)
+                  (λ k b d. silent-awaited l (isAt (At i) (0 + k)) (entryAt es k))
+                  (λ b. rw (eq-eqb i (0 + i) (omega arith)) (silent-here l (withResends x e)));
+            };
+        phase-kept = rw (next-resent x i es, n) (eq-eqb i i refl);
+      }
+
+  again-fit : entryAt (entriesOf (s .entries) j) i .mark ≡ 1
+      → Fit (inPhase (Waiting (awaited.Item i)) s) (setByte i 3 (entryAt (entriesOf (s .entries) j) i .resends + 1) j) m
+  again-fit k =
+      let x = entryAt (entriesOf (s .entries) j) i .resends + 1 in
+      record {
+        message-room = h .message-room;
+        journal-room = rw (length-set-byte i 3 x j) (h .journal-room);
+        order = rw (set-resends (s .entries) i x j) (resent-order k);
+      }
+
+  item-fit : Fit (inPhase (Waiting (awaited.Item i)) s) (resent i (entryAt (entriesOf (s .entries) j) i) j) m
+  unfolding resent
+  item-fit =
+      let es = entriesOf (s .entries) j in
+      go (eqb (entryAt es i .mark) 0) refl (next-at es i n .mark-most)
+    where
+      go : (b : Bool) → eqb (entryAt (entriesOf (s .entries) j) i .mark) 0 ≡ b → entryAt (entriesOf (s .entries) j) i .mark ≤ 1
+          → Fit (inPhase (Waiting (awaited.Item i)) s)
+          (cond b j (setByte i 3 (entryAt (entriesOf (s .entries) j) i .resends + 1) j)) m
+      go true e k = first-fit
+      go false e k = let z = eqb-false (entryAt (entriesOf (s .entries) j) i .mark) 0 e in again-fit (omega arith)
+
+-- the end leaves: no due entry is 0 or 1
+end-fit : (s : State) (j m : List ℕ) (x : Trace) → 1 ≤ x .0 → x .0 ≤ lastNumber → Fit (inPhase Uploading s) j m
+    → nextDue (entriesOf (s .entries) j) ≡ Nowhere → Fit (ending s x) j m
+end-fit s j m x a b h n =
+    let r = following-range (x .0) in
+    next-fit (inPhase (Waiting (awaited.End x)) s) j m (record { 0 = following (x .0) }) (r .0) (r .1)
+    (moved (Waiting (awaited.End x)) (s .counts) (inPhase Uploading s) j m h
+    (record {
+      sent-same = refl;
+      approved-same = refl;
+      phase-form = within-yes 1 (x .0) lastNumber a b;
+      journal = h .order .journal;
+      balance = h .order .state .balance;
+      phase-kept = rw n;
+    }))
+
+next-fits : (s : State) (j m : List ℕ) → Fit (inPhase Uploading s) j m → (f : Found) → nextDue (entriesOf (s .entries) j) ≡ f
+    → Fits (sendsNext f (inPhase Uploading s) j m)
+next-fits s j m h (At i) n =
+    sent-fits (messageBytes (itemMessage (s .settings) (s .batch) (entryAt (entriesOf (s .entries) j) i))) _ _ m
+    (item-fit s j m i h n)
+next-fits s j m h Nowhere n =
+    let es = entriesOf (s .entries) j in
+    let x : Trace = record { 0 = taken es (s .next .0) } in
+    let t = taken-range es (s .next .0) (h .order .state .next-least) (h .order .state .next-most) in
+    sent-fits (messageBytes (endMessage (s .settings) (s .batch) x)) (ending s x) j m (end-fit s j m x (t .0) (t .1) h n)
+
+upload-from : (p : Phase) (s : State) (j m : List ℕ) → Fit (inPhase p s) j m → Fits (uploadFrom p (inPhase p s) j m)
+upload-from Resting s j m h = h
+upload-from (Waiting a) s j m h = h
+upload-from (Pending v) s j m h = h
+upload-from Settling s j m h = h
+upload-from Uploading s j m h = next-fits s j m h (nextDue (entriesOf (s .entries) j)) refl
+
+pub upload-fits : (s : State) (j m : List ℕ) → Fit s j m → Fits (sendNextUpload s j m)
+unfolding sendNextUpload
+upload-fits s j m h =
+    judged-fits (firstBroken (sendNextUploadRules s j m)) s j m (uploadFrom (s .phase) s j m) h (λ z. upload-from (s .phase) s j m h)

@@ -1,0 +1,61 @@
+-- What a reader would ask of the calls, for every input.
+use mathlib.Core.Path.{_≡_}
+use mathlib.Core.List.{List, _++_}
+use mathlib.Core.Bool.{Bool, true}
+use Prim.Native.Nat.{ℕ, zero, suc, _+_, _<_}
+use lib.ListN.{length, drop}
+use Rattle.reading.specs.Reading.{readMessage}
+use Rattle.reading.specs.declared.ReadOutcome.the-variants.{Read}
+use Rattle.state.specs.declared.Reversal.{Reversal}
+use Rattle.state.specs.declared.State.{State}
+use Rattle.state.specs.declared.Outcome.the-variants.{Send, Quiet, Refused}
+use Rattle.state.specs.declared.Phase.the-variants.{Resting, Pending}
+use Rattle.state.specs.Calls.{Result, refused}
+use Rattle.call_theorems.specs.Ready.{Ready}
+use Rattle.call_reversal.specs.SendReversal.{sendReversal}
+use Rattle.call_answer.specs.Answer.{noAnswer}
+use Rattle.terminal.specs.Events.{Event, call}
+use Rattle.terminal.specs.Shapes.{SettingsShaped, EventShaped}
+
+-- a refused call changes nothing
+abbrev pub RefusedChangesNothing : Type 0
+RefusedChangesNothing = (e : Event) (s : State) (j m : List ℕ) (n : ℕ) → call e s j m .outcome ≡ Refused n → call e s j m ≡ refused n s j m
+
+-- a quiet change leaves the message buffer
+abbrev pub QuietLeavesMessage : Type 0
+QuietLeavesMessage = (e : Event) (s : State) (j m : List ℕ) → call e s j m .outcome ≡ Quiet → call e s j m .message ≡ m
+
+-- what leaves is a message that reads, so many bytes long; bytes past it stay
+pub record Leaves (k : ℕ) (o m : List ℕ) : Type 0 where
+  pub bytes : List ℕ
+  pub count : length bytes ≡ k
+  pub reads : readMessage bytes .outcome ≡ Read
+  pub rest : o ≡ bytes ++ drop k m
+
+abbrev pub SentReads : Type 0
+SentReads = (e : Event) (s : State) (j m : List ℕ) (k : ℕ) → SettingsShaped (s .settings) → EventShaped e
+    → call e s j m .outcome ≡ Send k → Leaves k (call e s j m .message) m
+
+-- a pending reversal sent, and silence after it, k times
+abbrev pub silenced : Result → Result
+silenced r = noAnswer (r .state) (r .journal) (r .message)
+
+abbrev pub failures : ℕ → Result → Result
+failures zero r = r
+failures (suc k) r = silenced (sendReversal (failures k r .state) (failures k r .journal) (failures k r .message))
+
+-- the reversal after k sendings
+abbrev pub sentTimes : ℕ → Reversal → Reversal
+sentTimes k v = record { request = v .request; reason = v .reason; sendings = k }
+
+-- L failed sendings give a reversal up and the desk is free; before that it is pending again
+pub record GivenUp (r : Result) (v : Reversal) : Type 0 where
+  pub leaves : (k : ℕ) → k < r .state .settings .sendings
+      → (n : ℕ) × (sendReversal (failures k r .state) (failures k r .journal) (failures k r .message) .outcome ≡ Send n)
+  pub pending : (k : ℕ) → k < r .state .settings .sendings → failures k r .state .phase ≡ Pending (sentTimes k v)
+  pub free : failures (r .state .settings .sendings) r .state .phase ≡ Resting
+  pub counted : failures (r .state .settings .sendings) r .state .counts .«given_up» ≡ r .state .counts .«given_up» + 1
+
+abbrev pub GivenUpAfterL : Type 0
+GivenUpAfterL = (r : Result) (v : Reversal) → Ready (r .state) (r .journal) (r .message) → r .state .«signed_on» ≡ true
+    → r .state .phase ≡ Pending v → v .sendings ≡ 0 → GivenUp r v

@@ -1,4 +1,0 @@
-pub mod Held
-pub mod Zeros
-pub mod Refusals
-pub mod Results
