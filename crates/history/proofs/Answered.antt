@@ -3,12 +3,10 @@ use mathlib.Core.Path.{_≡_, refl, sym, _∙_}
 use mathlib.Core.List.{List, [], _∷_}
 use mathlib.Core.Bool.{Bool, true, false, cond, and-eq-true-iff, and-false}
 use Prim.Native.Nat.{ℕ}
-use native.Mathlib.Omega.{arith}
 use Rattle.field.specs.Bitmap.{names}
-use Rattle.message.specs.declared.Message.{Message}
 use Rattle.reading.specs.Reading.{readMessage}
-use Rattle.reading.specs.declared.Outcome.the-variants.{Read}
-use Rattle.parts.specs.declared.Trace.{Trace}
+use Rattle.reading.specs.declared.ReadOutcome.the-variants.{Read}
+use Rattle.numbers.specs.declared.Trace.{Trace}
 use Rattle.journal.specs.Journal.{entriesOf, totalsOf}
 use Rattle.state.specs.declared.Request.{Request as Asked}
 use Rattle.state.specs.declared.Reason.the-variants.{BadMac}
@@ -17,24 +15,23 @@ use Rattle.state.specs.declared.Awaited.{Awaited}
 use Rattle.state.specs.declared.Awaited.the-variants as awaited
 use Rattle.state.specs.declared.Phase.the-variants.{Resting, Waiting, Uploading}
 use Rattle.state.specs.declared.State.{State}
-use Rattle.state.specs.State.{inPhase}
+use Rattle.state.specs.declared.Count.the-variants.{Declined, Reversed}
+use Rattle.state.specs.State.{inPhase, counted, closed}
 use Rattle.rules.proofs.InOrder.{Fit}
-use Rattle.answers.specs.Answers as terminal
-use Rattle.answers.specs.Answers.{isAnswer, matchesSent, holdsNamed, indicatorSent, approves, approvalHolds, goodMac, endsReversal}
+use Rattle.answer_match.specs.Match as terminal
+use Rattle.answer_match.specs.Match.{isAnswer, matchesSent, holdsNamed, indicatorSent, approves, approvalHolds, goodMac, endsReversal}
 use Rattle.approval.specs.Approval.{approvedEntry}
-use Rattle.answering.specs.Answering as answering
-use Rattle.answering.specs.Answering.{changed, oneDeclined, oneReversed, doubted, failed, closed, onRequest, onReversal, onSettlement, onItem, onEnd, answered, traceSent}
-use Rattle.keeping.proofs.Phases.{during}
-use Rattle.terminal.specs.Shapes.{SettingsShaped}
-use Rattle.history.specs.Words.{messageIn, isMatching, closesBatch}
+use Rattle.call_answer.specs.Answer as answering
+use Rattle.call_answer.specs.Answer.{changed, pendingOrUnanswered, failed, onRequest, onReversal, onSettlement, onItem, onEnd, answered, traceSent}
+use Rattle.history.specs.Words.{messageIn, amountIn, isMatching, closesBatch}
 use Rattle.history.specs.History as history
-use Rattle.history.specs.History.{deciding, out, approved, declined, reversed, Request, Account, withFate, whenHeard, decided, afterAnswer}
+use Rattle.history.specs.History.{declined, reversed, deciding, out, ended, Request, Account, becomes, approvedFor, byFate, whenHeard, decided, afterAnswer}
 use Rattle.history.proofs.Sent.{reversal-typed, settlement-typed, end-typed}
 use Rattle.history.proofs.Matching.{request-accepted, reversal-accepted, settlement-accepted, end-accepted, approves-alike, mac-alike, ends-alike, settlement-closes, end-closes}
-use Rattle.history.proofs.Requests.{request, AllDone, heard-same}
-use Rattle.history.proofs.Books.{Books, no-books, Opened, opens, one-declined, one-reversed, one-approved}
-use Rattle.history.proofs.Tied.{accountOf, NeverCloses, Tied}
-use Rattle.history.proofs.Silence.{TiedAfter, ended-tied, doubted-tied, failed-tied, marked-totals}
+use Rattle.history.proofs.Requests.{AllDone, heard-same}
+use Rattle.history.proofs.Books.{no-books, one-approved}
+use Rattle.history.proofs.Tied.{accountOf, NeverCloses, Latest, heard-latest, Kept, Tied}
+use Rattle.history.proofs.Silence.{TiedAfter, head-waits, head-few, open-books, ended-tied, pending-or-unanswered-tied, failed-tied, marked-totals}
 use Rattle.history.proofs.Approved.{approved-totals, approved-kind, approved-amount}
 
 -- the account after an answer that was accepted
@@ -42,7 +39,7 @@ abbrev pub afterHeard : ℕ → Bool → List ℕ → Account → Account
 afterHeard l good b a = accountOf (afterAnswer l good b a) (a .last)
 
 not-closed : (l : ℕ) (good : Bool) (b : List ℕ) (a : Account) → NeverCloses (a .last)
-    → afterAnswer l good b a ≡ withFate (whenHeard l good b) (a .requests)
+    → afterAnswer l good b a ≡ byFate (whenHeard l good b) (a .requests)
 unfolding afterAnswer
 not-closed l good b a n = rw (n (messageIn b), and-false)
 
@@ -53,48 +50,53 @@ maybe-closed l good b a n d = rw (n, heard-same l good b l (a .requests) d)
 
 -- an answer to a card request
 module _ (l : ℕ) (good : Bool) (b : List ℕ) (read : readMessage b .outcome ≡ Read) (s : State) (j m : List ℕ) (a : Account) (q : Asked)
-    (fits : Fit (during (Waiting (awaited.Request q)) s) j m) (h : Tied l (during (Waiting (awaited.Request q)) s) j a) where
-  abbrev head : Message
-  head = h .shape .message
+    (fits : Fit (inPhase (Waiting (awaited.Request q)) s) j m) (h : Tied l (inPhase (Waiting (awaited.Request q)) s) j a) where
+  abbrev latest : Latest l deciding 0 a
+  latest = h .shape .latest
 
-  abbrev rest : List Request
-  rest = h .shape .rest
-
-  opened : Opened (s .counts) (totalsOf (entriesOf (s .entries) j)) rest
-  opened = opens (s .counts) _ rest (request head deciding 0) refl (rw (h .shape .requests-are) at (h .books))
+  abbrev head : Request
+  head = latest .head
 
   approved-tied : approvalHolds (q .amount) (messageIn b) ≡ true → approves (messageIn b) ≡ true
-      → TiedAfter l (answering.approved q (messageIn b) s j) (accountOf (request head approved 0 ∷ rest) (a .last))
+      → TiedAfter l (answering.approved q (approvedEntry q (messageIn b)) s j) (accountOf (approvedFor (amountIn (head .message)) head ∷ latest .rest) (a .last))
   unfolding answering.approved
   approved-tied n e =
       let r = messageIn b in
       let t = approved-totals b q s j m read fits n e in
       let k = approved-kind q r ∙ sym (h .shape .asks .kind-is) in
       let w = approved-amount q r ∙ sym (h .shape .asks .amount-is) in
+      let c = s .counts in
       record {
-        sendings-set = h .sendings-set;
-        shaped = h .shaped;
-        books = rw t (one-approved (s .counts) _ rest head 0 opened (approvedEntry q r) k w);
-        shape = (record { ended = refl; few = omega arith }, h .shape .done);
+        kept =
+            record {
+              sendings-set = h .kept .sendings-set;
+              shaped = h .kept .shaped;
+              books =
+                  rw t
+                  (one-approved c _ (latest .rest) head (head-waits l s j a deciding 0 refl (h .kept) latest)
+                  (open-books l s j a deciding 0 refl (h .kept) latest) (approvedEntry q r) (amountIn (head .message)) k w);
+            };
+        shape = (record { has-ended = refl; few = head-few l s j a deciding 0 refl (h .kept) latest }, latest .done);
       }
 
   request-decided : approvalHolds (q .amount) (messageIn b) ≡ true
-      → TiedAfter l (onRequest good (messageIn b) q s j) (accountOf (request head (decided good (messageIn b) head) 0 ∷ rest) (a .last))
+      → TiedAfter l (onRequest good (messageIn b) q s j) (accountOf (decided good (messageIn b) head ∷ latest .rest) (a .last))
   unfolding onRequest decided
   request-decided n =
       rw (approves-alike (messageIn b), mac-alike good (messageIn b)) (go (approves (messageIn b)) (goodMac good (messageIn b)) refl)
     where
       go : (x y : Bool) → approves (messageIn b) ≡ x
           → TiedAfter l
-          (cond x (cond y (answering.approved q (messageIn b) s j) (changed (doubted BadMac q s) j))
-          (changed (inPhase Resting (oneDeclined (s .counts)) s) j))
-          (accountOf (request head (cond x (cond y approved (history.doubted head)) declined) 0 ∷ rest) (a .last))
+          (cond x (cond y (answering.approved q (approvedEntry q (messageIn b)) s j) (changed (pendingOrUnanswered BadMac q s) j))
+          (changed (inPhase Resting (counted Declined s)) j))
+          (accountOf
+          (cond x (cond y (approvedFor (amountIn (head .message)) head) (history.pendingOrUnanswered head)) (becomes (ended declined) head)
+          ∷ latest .rest)
+          (a .last))
       go true true e = approved-tied n e
       go true false e =
-          doubted-tied l s j (h .sendings-set) (h .shaped) head (a .last) rest (h .shape .done) BadMac q (h .shape .asks .kind-is) opened
-      go false y e =
-          ended-tied l s j (h .sendings-set) (h .shaped) head (a .last) rest (h .shape .done) (oneDeclined (s .counts)) declined 0 refl
-          (omega arith) (one-declined (s .counts) _ rest head 0 opened)
+          pending-or-unanswered-tied l s j a deciding 0 refl (h .kept) latest BadMac q refl (h .shape .asks .kind-is)
+      go false y e = ended-tied l s j a deciding 0 refl (h .kept) latest declined refl
 
   request-answered : isAnswer (s .settings) (s .batch) (q .trace) (awaited.Request q) (messageIn b) ≡ true
       → TiedAfter l (onRequest good (messageIn b) q s j) (afterHeard l good b a)
@@ -105,41 +107,24 @@ module _ (l : ℕ) (good : Bool) (b : List ℕ) (read : readMessage b .outcome �
       let w = awaited.Request q in
       let t = and-eq-true-iff (matchesSent (s .settings) (s .batch) (indicatorSent w) (q .trace) r) (holdsNamed w r) .0 e in
       let n = and-eq-true-iff (names (r .bitmap) 39) (approvalHolds (q .amount) r) .0 (t .1) in
-      rw (
-        not-closed l good b a (d .never-closes),
-        d .requests-are,
-        heard-same l good b l rest (d .done),
-        request-accepted b (d .asks) read e,
-      )
+      rw (not-closed l good b a (d .never-closes), heard-latest latest l good b, request-accepted b (d .asks) read e)
       (request-decided (n .1))
 
 -- an answer to a reversal
 module _ (l : ℕ) (good : Bool) (b : List ℕ) (read : readMessage b .outcome ≡ Read) (s : State) (j : List ℕ) (a : Account) (v : Reversal)
-    (h : Tied l (during (Waiting (awaited.Reversal v)) s) j a) where
-  reversal-decided : Tied l (onReversal good (messageIn b) v s) j
-      (accountOf
-      (request (h .shape .message) (cond (endsReversal good (messageIn b)) reversed (history.failed l (v .sendings))) (v .sendings)
-      ∷ h .shape .rest)
-      (a .last))
+    (h : Tied l (inPhase (Waiting (awaited.Reversal v)) s) j a) where
+  reversal-decided : (let d = h .shape .latest in Tied l (onReversal good (messageIn b) v s) j
+      (accountOf (cond (endsReversal good (messageIn b)) (becomes (ended reversed) (d .head)) (history.failed l (d .head)) ∷ d .rest) (a .last)))
   unfolding onReversal
   reversal-decided = go (endsReversal good (messageIn b))
     where
-      head : Message
-      head = h .shape .message
+      d : Latest l (out (h .shape .reversal)) (v .sendings) a
+      d = h .shape .latest
 
-      opened : Opened (s .counts) (totalsOf (entriesOf (s .entries) j)) (h .shape .rest)
-      opened =
-          opens (s .counts) _ (h .shape .rest) (request (h .shape .message) (out (v .sendings) (h .shape .reversal)) (v .sendings)) refl
-          (rw (h .shape .requests-are) at (h .books))
-
-      go : (x : Bool) → Tied l (cond x (inPhase Resting (oneReversed (s .counts)) s) (failed v s)) j
-          (accountOf (request (h .shape .message) (cond x reversed (history.failed l (v .sendings))) (v .sendings) ∷ h .shape .rest)
-          (a .last))
-      go true =
-          ended-tied l s j (h .sendings-set) (h .shaped) head (a .last) (h .shape .rest) (h .shape .done) (oneReversed (s .counts)) reversed
-          (v .sendings) refl (h .shape .few) (one-reversed (s .counts) _ (h .shape .rest) head (v .sendings) opened)
-      go false =
-          failed-tied l s j (h .sendings-set) (h .shaped) head (a .last) (h .shape .rest) (h .shape .done) v (h .shape .few) opened
+      go : (x : Bool) → Tied l (cond x (inPhase Resting (counted Reversed s)) (failed v s)) j
+          (accountOf (cond x (becomes (ended reversed) (d .head)) (history.failed l (d .head)) ∷ d .rest) (a .last))
+      go true = ended-tied l s j a (out (h .shape .reversal)) (v .sendings) refl (h .kept) d reversed refl
+      go false = failed-tied l s j a (out (h .shape .reversal)) (v .sendings) refl (h .kept) d v refl
 
   reversal-answered : isAnswer (s .settings) (s .batch) (v .request .trace) (awaited.Reversal v) (messageIn b) ≡ true
       → Tied l (onReversal good (messageIn b) v s) j (afterHeard l good b a)
@@ -148,24 +133,23 @@ module _ (l : ℕ) (good : Bool) (b : List ℕ) (read : readMessage b .outcome �
       let d = h .shape in
       rw (
         not-closed l good b a (d .never-closes),
-        d .requests-are,
-        heard-same l good b l (d .rest) (d .done),
+        heard-latest (d .latest) l good b,
         reversal-accepted v b (d .said) (reversal-typed (d .reversal) (d .said .indicator)) read e,
         ends-alike good (messageIn b),
       )
       reversal-decided
 
--- a closing: nothing is left of the batch
-closed-tied : (l : ℕ) (s : State) (j : List ℕ) (last : Message) (rs : List Request) (x : Bool) → s .settings .sendings ≡ l
-    → SettingsShaped (s .settings) → Books (s .counts) (totalsOf (entriesOf (s .entries) j)) rs → AllDone l rs
-    → Tied l (cond x (closed s) (during Uploading s)) j (accountOf (cond x [] rs) last)
-closed-tied l s j last rs true set shaped h d =
-    record { sendings-set = set; shaped = shaped; books = no-books; shape = tt }
-closed-tied l s j last rs false set shaped h d = record { sendings-set = set; shaped = shaped; books = h; shape = d }
+-- a closing: nothing remains of the batch
+closed-tied : (l : ℕ) (s : State) (j : List ℕ) (a : Account) (x : Bool)
+    → Kept l (s .settings) (s .counts) (totalsOf (entriesOf (s .entries) j)) (a .requests) → AllDone l (a .requests)
+    → Tied l (cond x (closed s) (inPhase Uploading s)) j (accountOf (cond x [] (a .requests)) (a .last))
+closed-tied l s j a true k d =
+    record { kept = record { sendings-set = k .sendings-set; shaped = k .shaped; books = no-books }; shape = tt }
+closed-tied l s j a false k d = record { kept = k; shape = d }
 
 module _ (l : ℕ) (good : Bool) (b : List ℕ) (read : readMessage b .outcome ≡ Read) (s : State) (j : List ℕ) (a : Account)
     (trace : Trace) where
-  settlement-answered : Tied l (during (Waiting (awaited.Settlement trace)) s) j a
+  settlement-answered : Tied l (inPhase (Waiting (awaited.Settlement trace)) s) j a
       → isAnswer (s .settings) (s .batch) trace (awaited.Settlement trace) (messageIn b) ≡ true
       → Tied l (onSettlement (messageIn b) s) j (afterHeard l good b a)
   unfolding onSettlement
@@ -176,9 +160,9 @@ module _ (l : ℕ) (good : Bool) (b : List ℕ) (read : readMessage b .outcome �
         maybe-closed l good b a (settlement-accepted trace b (d .said) t read e) (d .done),
         settlement-closes t (messageIn b),
       )
-      (closed-tied l s j (a .last) (a .requests) (terminal.closesBatch (messageIn b)) (h .sendings-set) (h .shaped) (h .books) (d .done))
+      (closed-tied l s j a (terminal.closesBatch (messageIn b)) (h .kept) (d .done))
 
-  end-answered : Tied l (during (Waiting (awaited.End trace)) s) j a
+  end-answered : Tied l (inPhase (Waiting (awaited.End trace)) s) j a
       → isAnswer (s .settings) (s .batch) trace (awaited.End trace) (messageIn b) ≡ true
       → Tied l (onEnd (messageIn b) s) j (afterHeard l good b a)
   unfolding onEnd
@@ -189,23 +173,18 @@ module _ (l : ℕ) (good : Bool) (b : List ℕ) (read : readMessage b .outcome �
         maybe-closed l good b a (end-accepted trace b (d .said) t read e) (d .done),
         end-closes t (messageIn b),
       )
-      (closed-tied l s j (a .last) (a .requests) (approves (messageIn b)) (h .sendings-set) (h .shaped) (h .books) (d .done))
+      (closed-tied l s j a (approves (messageIn b)) (h .kept) (d .done))
 
 item-answered : (l : ℕ) (good : Bool) (b : List ℕ) (s : State) (j : List ℕ) (a : Account) (i : ℕ)
-    → Tied l (during (Waiting (awaited.Item i)) s) j a → Tied l (during Uploading s) (onItem (messageIn b) i j) (afterHeard l good b a)
+    → Tied l (inPhase (Waiting (awaited.Item i)) s) j a → Tied l (inPhase Uploading s) (onItem (messageIn b) i j) (afterHeard l good b a)
 unfolding onItem
 item-answered l good b s j a i h =
     let d = h .shape in
     rw (not-closed l good b a (d .never-closes), heard-same l good b l (a .requests) (d .done))
-    (record {
-      sendings-set = h .sendings-set;
-      shaped = h .shaped;
-      books = rw (marked-totals (s .entries) i (cond (approves (messageIn b)) 2 3) j) (h .books);
-      shape = d .done;
-    })
+    (record { kept = rw (marked-totals (s .entries) i (cond (approves (messageIn b)) 2 3) j) (h .kept); shape = d .done })
 
 pub answered-tied : (w : Awaited) (l : ℕ) (good : Bool) (b : List ℕ) → readMessage b .outcome ≡ Read
-    → (s : State) (j m : List ℕ) (a : Account) → Fit (during (Waiting w) s) j m → Tied l (during (Waiting w) s) j a
+    → (s : State) (j m : List ℕ) (a : Account) → Fit (inPhase (Waiting w) s) j m → Tied l (inPhase (Waiting w) s) j a
     → isAnswer (s .settings) (s .batch) (traceSent (entriesOf (s .entries) j) w) w (messageIn b) ≡ true
     → TiedAfter l (answered good (messageIn b) w s j) (afterHeard l good b a)
 unfolding answered

@@ -12,8 +12,8 @@ use Rattle.digits.specs.Numbers.{digitsOf}
 use Rattle.field.specs.Bitmap.{names}
 use Rattle.message.specs.declared.Message.{Message}
 use Rattle.reading.specs.Reading.{readMessage}
-use Rattle.reading.specs.declared.Outcome.the-variants.{Read}
-use Rattle.readable.proofs.Readable.{date-packed, reference-printable, reference-length, authorisation-printable}
+use Rattle.reading.specs.declared.ReadOutcome.the-variants.{Read}
+use Rattle.message_theorems.proofs.Readable.{date-packed, reference-printable, reference-length, authorisation-printable}
 use Rattle.parts.specs.Parts.{matches}
 use Rattle.kinds.specs.Kinds.{takesOriginal, originalKind}
 use Rattle.entry.specs.Entry.{entrySize}
@@ -29,13 +29,13 @@ use Rattle.state.specs.declared.Request.{Request}
 use Rattle.state.specs.declared.Awaited.the-variants as awaited
 use Rattle.state.specs.declared.Phase.the-variants.{Waiting}
 use Rattle.state.specs.declared.State.{State}
+use Rattle.state.specs.State.{inPhase}
 use Rattle.rules.specs.Rules.{requestInForm, requestKept}
 use Rattle.rules.proofs.InOrder.{Fit, request-holds}
-use Rattle.answers.specs.Answers.{approves, approvalHolds}
+use Rattle.answer_match.specs.Match.{approves, approvalHolds}
 use Rattle.approval.specs.Approval.{approvedEntry}
 use Rattle.approval.proofs.Approval.{shaped, in-form}
-use Rattle.answering.specs.Answering.{voidedAt, originalVoided, approved}
-use Rattle.keeping.proofs.Phases.{during}
+use Rattle.call_answer.specs.Answer.{voidedAt, originalVoided, approved}
 use Rattle.history.specs.Words.{messageIn}
 
 -- the journal in which an original is voided: as long, and of the same totals
@@ -81,8 +81,8 @@ entry-in-form b q r f h e =
     (authorisation-printable b r)
 
 pub approved-totals : (b : List ℕ) (q : Request) (s : State) (j m : List ℕ) → readMessage b .outcome ≡ Read
-    → Fit (during (Waiting (awaited.Request q)) s) j m → approvalHolds (q .amount) (messageIn b) ≡ true → approves (messageIn b) ≡ true
-    → totalsOf (entriesOf (s .entries + 1) (approved q (messageIn b) s j .journal))
+    → Fit (inPhase (Waiting (awaited.Request q)) s) j m → approvalHolds (q .amount) (messageIn b) ≡ true → approves (messageIn b) ≡ true
+    → totalsOf (entriesOf (s .entries + 1) (approved q (approvedEntry q (messageIn b)) s j .journal))
     ≡ withEntry (totalsOf (entriesOf (s .entries) j)) (approvedEntry q (messageIn b))
 unfolding approved
 approved-totals b q s j m r h n e =
@@ -93,7 +93,7 @@ approved-totals b q s j m r h n e =
     let p = place-left (s .settings .limit) c (entriesOf c j) q (h .order .phase-kept) in
     let room : entrySize * c + entrySize ≤ length k = rw (v .room) (omega (arith, h .journal-room, p)) in
     let y : entriesOf (c + 1) (putEntry c w k) ≡ entriesOf c k ++ (w ∷ []) =
-    rw (add-one c) (put-appends c w k (shaped q (messageIn b)) (entry-in-form b q r (h .order .phase-form) n e) room) in
+    rw (add-one c) (put-appends c w k (shaped q (messageIn b)) (entry-in-form b q r (h .order .state .phase-form) n e) room) in
     rw (y, totals-last (entriesOf c k) w, v .totals)
 
 -- it has the request's kind and amount

@@ -1,244 +1,122 @@
--- The terminal's counts and the journal's totals against those of the requests, as one request leaves or ends.
-use mathlib.Core.Path.{_≡_, refl}
+-- The terminal's counts and the journal's totals against those of the requests, as one request is sent, waits on or ends.
+use mathlib.Core.Path.{_≡_, refl, sym, ap, _∙_}
 use mathlib.Core.List.{List, [], _∷_}
 use mathlib.Core.Bool.{true, false}
-use Prim.Native.Nat.{ℕ, _+_}
+use Prim.Native.Nat.{ℕ}
+use native.Mathlib.Nat.{zero-add, add-comm}
+use native.Mathlib.Numerals.{add-one, one-add}
 use native.Mathlib.Omega.{arith}
-use lib.ListN.{length}
 use Rattle.message.specs.declared.Message.{Message}
 use Rattle.kinds.specs.Kinds as kinds
 use Rattle.entry.specs.declared.Entry.{Entry}
-use Rattle.journal.specs.Journal.{debitEntry, creditEntry, totalsOf}
+use Rattle.journal.specs.Journal.{debitEntry, creditEntry, totalsOf, sumsOf}
 use Rattle.journal.specs.Sums.{withEntry}
-use Rattle.journal.specs.declared.Totals.{Totals}
+use Rattle.kinds.specs.declared.Totals.{Totals}
 use Rattle.state.specs.declared.Counts.{Counts}
-use Rattle.state.specs.State.{noCounts}
-use Rattle.start.specs.Leaving.{oneSent}
-use Rattle.answering.specs.Answering.{oneApproved, oneDeclined, oneReversed, oneGivenUp, oneUnanswered}
-use Rattle.history.specs.Words.{kindIn, amountIn, isDebit, isCredit}
-use Rattle.history.specs.History.{Fate, deciding, pending, out, approved, declined, reversed, given-up, unanswered, Request, count, amount, isApproved, isDeclined, isReversed, isGivenUp, isUnanswered, isWaiting, approvedDebit, approvedCredit}
+use Rattle.state.specs.declared.Count.{Count}
+use Rattle.state.specs.declared.Count.the-variants.{Sent, Approved, Declined, Reversed, GivenUp, Unanswered}
+use Rattle.state.specs.State.{noCounts, plus}
+use Rattle.terminal.specs.Events.{Event}
+use Rattle.history.specs.Words.{kindIn, isDebit, isCredit}
+use Rattle.history.specs.History.{Ending, approved, declined, reversed, given-up, unanswered, Fate, deciding, pending, out, ended, Request, asked, becomes, approvedFor, count, amount, endedAs, isWaiting, approvedDebit, approvedCredit}
 use Rattle.history.specs.Demand.{countsOf}
-use Rattle.history.proofs.Requests.{request}
 
--- the terminal's six counts, each equal to that of the requests
-pub record Counted (c : Counts) (rs : List Request) : Type 0 where
-  pub sent-is : c .sent ≡ length rs
-  pub approved-is : c .approved ≡ count (λ r. isApproved (r .fate)) rs
-  pub declined-is : c .declined ≡ count (λ r. isDeclined (r .fate)) rs
-  pub reversed-is : c .reversed ≡ count (λ r. isReversed (r .fate)) rs
-  pub given-up-is : c .«given_up» ≡ count (λ r. isGivenUp (r .fate)) rs
-  pub unanswered-is : c .unanswered ≡ count (λ r. isUnanswered (r .fate)) rs
-
-pub counts-are : (c : Counts) (rs : List Request) → Counted c rs → c ≡ countsOf rs
-counts-are c rs h =
-    rw (← h .sent-is, ← h .approved-is, ← h .declined-is, ← h .reversed-is, ← h .given-up-is, ← h .unanswered-is)
-
--- the journal's totals, each equal to that of the approved requests
-pub record Summed (t : Totals) (rs : List Request) : Type 0 where
-  pub debit-is : t .debit ≡ amount approvedDebit rs
-  pub debits-is : t .debits ≡ count approvedDebit rs
-  pub credit-is : t .credit ≡ amount approvedCredit rs
-  pub credits-is : t .credits ≡ count approvedCredit rs
+-- the totals of the approved requests
+abbrev pub requestSums : List Request → Totals
+requestSums rs =
+    record {
+      debit = amount approvedDebit rs;
+      debits = count approvedDebit rs;
+      credit = amount approvedCredit rs;
+      credits = count approvedCredit rs;
+    }
 
 pub record Books (c : Counts) (t : Totals) (rs : List Request) : Type 0 where
-  pub counted : Counted c rs
-  pub summed : Summed t rs
+  pub counted : c ≡ countsOf rs
+  pub summed : t ≡ requestSums rs
 
--- a batch in which nothing has left
+-- a batch in which nothing was sent
 pub no-books : Books noCounts (totalsOf []) []
-unfolding totalsOf
-no-books =
-    record {
-      counted =
-          record {
-            sent-is = refl;
-            approved-is = refl;
-            declined-is = refl;
-            reversed-is = refl;
-            given-up-is = refl;
-            unanswered-is = refl;
-          };
-      summed = record { debit-is = refl; debits-is = refl; credit-is = refl; credits-is = refl };
-    }
+unfolding sumsOf
+no-books = record { counted = refl; summed = refl }
 
--- the same, where one request more waits
-pub record Opened (c : Counts) (t : Totals) (rs : List Request) : Type 0 where
-  pub sent-more : c .sent ≡ length rs + 1
-  pub approved-is : c .approved ≡ count (λ r. isApproved (r .fate)) rs
-  pub declined-is : c .declined ≡ count (λ r. isDeclined (r .fate)) rs
-  pub reversed-is : c .reversed ≡ count (λ r. isReversed (r .fate)) rs
-  pub given-up-is : c .«given_up» ≡ count (λ r. isGivenUp (r .fate)) rs
-  pub unanswered-is : c .unanswered ≡ count (λ r. isUnanswered (r .fate)) rs
-  pub summed : Summed t rs
+-- what the terminal counts an ending as
+abbrev pub countOf : Ending → Count
+countOf approved = Approved
+countOf declined = Declined
+countOf reversed = Reversed
+countOf given-up = GivenUp
+countOf unanswered = Unanswered
 
--- what waits has not ended
-record Waits (f : Fate) : Type 0 where
-  not-approved : isApproved f ≡ false
-  not-declined : isDeclined f ≡ false
-  not-reversed : isReversed f ≡ false
-  not-given-up : isGivenUp f ≡ false
-  not-unanswered : isUnanswered f ≡ false
+-- a request that waits is sent and not ended; one that has ended is one ending more
+waiting-counts : (f : Fate) (r : Request) (rs : List Request) → isWaiting f ≡ true → countsOf (becomes f r ∷ rs) ≡ plus Sent (countsOf rs)
+waiting-counts deciding r rs w = simp (zero-add, add-one)
+waiting-counts pending r rs w = simp (zero-add, add-one)
+waiting-counts (out v) r rs w = simp (zero-add, add-one)
+waiting-counts (ended e) r rs w = let z : _≡_ {A = ℕ} 0 1 = cc in absurd (omega arith)
 
-waits : (f : Fate) → isWaiting f ≡ true → Waits f
-waits deciding e = record { not-approved = refl; not-declined = refl; not-reversed = refl; not-given-up = refl; not-unanswered = refl }
-waits (pending n) e = record { not-approved = refl; not-declined = refl; not-reversed = refl; not-given-up = refl; not-unanswered = refl }
-waits (out n v) e = record { not-approved = refl; not-declined = refl; not-reversed = refl; not-given-up = refl; not-unanswered = refl }
-waits approved e = let z : _≡_ {A = ℕ} 0 1 = cc in absurd (omega arith)
-waits declined e = let z : _≡_ {A = ℕ} 0 1 = cc in absurd (omega arith)
-waits reversed e = let z : _≡_ {A = ℕ} 0 1 = cc in absurd (omega arith)
-waits given-up e = let z : _≡_ {A = ℕ} 0 1 = cc in absurd (omega arith)
-waits unanswered e = let z : _≡_ {A = ℕ} 0 1 = cc in absurd (omega arith)
+ended-counts : (e : Ending) (r : Request) (rs : List Request) → countsOf (becomes (ended e) r ∷ rs) ≡ plus (countOf e) (plus Sent (countsOf rs))
+ended-counts approved r rs = simp (zero-add, one-add, add-one)
+ended-counts declined r rs = simp (zero-add, one-add, add-one)
+ended-counts reversed r rs = simp (zero-add, one-add, add-one)
+ended-counts given-up r rs = simp (zero-add, one-add, add-one)
+ended-counts unanswered r rs = simp (zero-add, one-add, add-one)
 
 -- a request that is not approved enters no sum
-unsummed : (t : Totals) (r : Request) (rs : List Request) → isApproved (r .fate) ≡ false → Summed t rs → Summed t (r ∷ rs)
-unsummed t r rs e h =
-    record {
-      debit-is = rw e (omega arith);
-      debits-is = rw e (omega arith);
-      credit-is = rw e (omega arith);
-      credits-is = rw e (omega arith);
-    }
+waits-unapproved : (f : Fate) → isWaiting f ≡ true → endedAs approved f ≡ false
+waits-unapproved deciding w = refl
+waits-unapproved pending w = refl
+waits-unapproved (out v) w = refl
+waits-unapproved (ended e) w = let z : _≡_ {A = ℕ} 0 1 = cc in absurd (omega arith)
+
+unsummed : (r : Request) (rs : List Request) → endedAs approved (r .fate) ≡ false → requestSums (r ∷ rs) ≡ requestSums rs
+unsummed r rs e = simp (e, zero-add)
 
 module _ (c : Counts) (t : Totals) (rs : List Request) where
-  pub opens : (r : Request) → isWaiting (r .fate) ≡ true → Books c t (r ∷ rs) → Opened c t rs
-  opens r e b =
-      let w = waits (r .fate) e in
-      let h = b .counted in
-      let s = b .summed in
+  -- a request is sent
+  pub one-sent : (e : Event) (m : Message) → Books c t rs → Books (plus Sent c) t (asked e m ∷ rs)
+  one-sent e m h =
       record {
-        sent-more = omega arith;
-        approved-is = omega (arith, rw (w .not-approved) at (h .approved-is));
-        declined-is = omega (arith, rw (w .not-declined) at (h .declined-is));
-        reversed-is = omega (arith, rw (w .not-reversed) at (h .reversed-is));
-        given-up-is = omega (arith, rw (w .not-given-up) at (h .given-up-is));
-        unanswered-is = omega (arith, rw (w .not-unanswered) at (h .unanswered-is));
-        summed =
-            record {
-              debit-is = omega (arith, rw (w .not-approved) at (s .debit-is));
-              debits-is = omega (arith, rw (w .not-approved) at (s .debits-is));
-              credit-is = omega (arith, rw (w .not-approved) at (s .credit-is));
-              credits-is = omega (arith, rw (w .not-approved) at (s .credits-is));
-            };
+        counted = ap (plus Sent) (h .counted) ∙ sym (waiting-counts deciding (asked e m) rs refl);
+        summed = h .summed ∙ sym (unsummed (asked e m) rs refl);
       }
 
-  pub reopens : (r : Request) → isWaiting (r .fate) ≡ true → Opened c t rs → Books c t (r ∷ rs)
-  reopens r e h =
-      let w = waits (r .fate) e in
-      record {
-        counted =
-            record {
-              sent-is = omega arith;
-              approved-is = rw (w .not-approved) (omega arith);
-              declined-is = rw (w .not-declined) (omega arith);
-              reversed-is = rw (w .not-reversed) (omega arith);
-              given-up-is = rw (w .not-given-up) (omega arith);
-              unanswered-is = rw (w .not-unanswered) (omega arith);
-            };
-        summed = unsummed t r rs (w .not-approved) (h .summed);
-      }
+  module _ (r : Request) (waits : isWaiting (r .fate) ≡ true) (h : Books c t (r ∷ rs)) where
+    counted-sent : c ≡ plus Sent (countsOf rs)
+    counted-sent = h .counted ∙ waiting-counts (r .fate) r rs waits
 
-  -- a request leaves
-  pub one-sent : (m : Message) → Books c t rs → Books (oneSent c) t (request m deciding 0 ∷ rs)
-  one-sent m b =
-      let h = b .counted in
-      record {
-        counted =
-            record {
-              sent-is = omega arith;
-              approved-is = omega arith;
-              declined-is = omega arith;
-              reversed-is = omega arith;
-              given-up-is = omega arith;
-              unanswered-is = omega arith;
-            };
-        summed = unsummed t (request m deciding 0) rs refl (b .summed);
-      }
+    summed-before : t ≡ requestSums rs
+    summed-before = h .summed ∙ unsummed r rs (waits-unapproved (r .fate) waits)
 
-  module _ (m : Message) (n : ℕ) (h : Opened c t rs) where
-    pub one-declined : Books (oneDeclined c) t (request m declined n ∷ rs)
-    one-declined =
+    -- it waits on
+    pub one-waits : (q : Request) → isWaiting (q .fate) ≡ true → Books c t (q ∷ rs)
+    one-waits q w =
         record {
-          counted =
-              record {
-                sent-is = omega arith;
-                approved-is = omega arith;
-                declined-is = omega arith;
-                reversed-is = omega arith;
-                given-up-is = omega arith;
-                unanswered-is = omega arith;
-              };
-          summed = unsummed t (request m declined n) rs refl (h .summed);
+          counted = counted-sent ∙ sym (waiting-counts (q .fate) q rs w);
+          summed = summed-before ∙ sym (unsummed q rs (waits-unapproved (q .fate) w));
         }
 
-    pub one-reversed : Books (oneReversed c) t (request m reversed n ∷ rs)
-    one-reversed =
-        record {
-          counted =
-              record {
-                sent-is = omega arith;
-                approved-is = omega arith;
-                declined-is = omega arith;
-                reversed-is = omega arith;
-                given-up-is = omega arith;
-                unanswered-is = omega arith;
-              };
-          summed = unsummed t (request m reversed n) rs refl (h .summed);
-        }
+    counted-ended : (e : Ending) → plus (countOf e) c ≡ countsOf (becomes (ended e) r ∷ rs)
+    counted-ended e = ap (plus (countOf e)) counted-sent ∙ sym (ended-counts e r rs)
 
-    pub one-given-up : Books (oneGivenUp c) t (request m given-up n ∷ rs)
-    one-given-up =
-        record {
-          counted =
-              record {
-                sent-is = omega arith;
-                approved-is = omega arith;
-                declined-is = omega arith;
-                reversed-is = omega arith;
-                given-up-is = omega arith;
-                unanswered-is = omega arith;
-              };
-          summed = unsummed t (request m given-up n) rs refl (h .summed);
-        }
+    -- it ends, and is not approved
+    pub one-ended : (e : Ending) → endedAs approved (ended e) ≡ false → Books (plus (countOf e) c) t (becomes (ended e) r ∷ rs)
+    one-ended e u =
+        record { counted = counted-ended e; summed = summed-before ∙ sym (unsummed (becomes (ended e) r) rs u) }
 
-    pub one-unanswered : Books (oneUnanswered c) t (request m unanswered n ∷ rs)
-    one-unanswered =
-        record {
-          counted =
-              record {
-                sent-is = omega arith;
-                approved-is = omega arith;
-                declined-is = omega arith;
-                reversed-is = omega arith;
-                given-up-is = omega arith;
-                unanswered-is = omega arith;
-              };
-          summed = unsummed t (request m unanswered n) rs refl (h .summed);
-        }
-
-    -- an approval, whose entry enters the totals
-    summed-more : (e : Entry) → e .kind ≡ kindIn m → e .amount ≡ amountIn m → Summed (withEntry t e) (request m approved n ∷ rs)
+    -- it is approved, and its entry enters the totals
+    summed-more : (n : Entry) → n .kind ≡ kindIn (r .message) → withEntry t n ≡ requestSums (approvedFor (n .amount) r ∷ rs)
     unfolding withEntry debitEntry creditEntry isDebit isCredit kinds.isDebit kinds.isCredit
-    summed-more e k a =
-        let s = h .summed in
-        record {
-          debit-is = rw (k, a) (omega arith);
-          debits-is = rw k (omega arith);
-          credit-is = rw (k, a) (omega arith);
-          credits-is = rw k (omega arith);
-        }
+    summed-more n k =
+        rw (
+          summed-before,
+          k,
+          add-comm (amount approvedDebit rs),
+          add-comm (count approvedDebit rs),
+          add-comm (amount approvedCredit rs),
+          add-comm (count approvedCredit rs),
+        )
 
-    pub one-approved : (e : Entry) → e .kind ≡ kindIn m → e .amount ≡ amountIn m
-        → Books (oneApproved c) (withEntry t e) (request m approved n ∷ rs)
-    one-approved e k a =
-        record {
-          counted =
-              record {
-                sent-is = omega arith;
-                approved-is = omega arith;
-                declined-is = omega arith;
-                reversed-is = omega arith;
-                given-up-is = omega arith;
-                unanswered-is = omega arith;
-              };
-          summed = summed-more e k a;
-        }
+    pub one-approved : (n : Entry) (x : ℕ) → n .kind ≡ kindIn (r .message) → n .amount ≡ x
+        → Books (plus Approved c) (withEntry t n) (approvedFor x r ∷ rs)
+    one-approved n x k e = rw (sym e) (record { counted = counted-ended approved; summed = summed-more n k })

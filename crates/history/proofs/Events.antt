@@ -1,40 +1,41 @@
 -- Signed on, answer, no answer and power returned keep the invariant; so does every call.
-use mathlib.Core.Path.{_≡_, refl}
+use mathlib.Core.Path.{_≡_, refl, sym, _∙_}
 use mathlib.Core.List.{List}
-use mathlib.Core.Bool.{Bool, true, false, cond, true≢false}
+use mathlib.Core.Bool.{Bool, true, false, cond, true≢false, not}
 use Prim.Native.Nat.{ℕ}
 use Rattle.reading.specs.Reading.{readMessage}
-use Rattle.reading.specs.declared.Outcome.{Outcome as Judgement}
-use Rattle.reading.specs.declared.Outcome.the-variants.{Read, Refused as Unread}
-use Rattle.parts.specs.declared.Batch.{Batch}
+use Rattle.reading.specs.declared.ReadOutcome.{ReadOutcome as Judgement}
+use Rattle.reading.specs.declared.ReadOutcome.the-variants.{Read, Refused as Unread}
+use Rattle.numbers.specs.declared.Batch.{Batch}
 use Rattle.journal.specs.Journal.{entriesOf}
 use Rattle.state.specs.declared.Phase.{Phase}
 use Rattle.state.specs.declared.Phase.the-variants.{Resting, Waiting, Pending, Settling, Uploading}
 use Rattle.state.specs.declared.Settings.{Settings}
 use Rattle.state.specs.declared.State.{State}
-use Rattle.state.specs.State.{isWaiting}
-use Rattle.state.specs.Calls.{firstBroken, refused}
-use Rattle.state.proofs.Choices.{passed}
+use borrow.Author.Tests.{not-false}
+use Rattle.state.specs.State.{inPhase, signed, waits}
+use Rattle.checks.specs.Checks.{firstBroken}
+use Rattle.state.specs.Calls.{refused}
+use Rattle.checks.proofs.Choices.{passed}
 use Rattle.rules.specs.Rules.{rules12}
 use Rattle.rules.proofs.InOrder.{Fit, fit}
-use Rattle.signing.specs.Signing.{signedOnRules, adopts, signedOn}
-use Rattle.answers.specs.Answers.{isAnswer}
-use Rattle.answering.specs.Answering.{answered, quietly, silentIn, noAnswer, signedOff, poweredIn, withoutPower, powerReturned, traceSent, answerIn, readIn, answer}
-use Rattle.keeping.proofs.Phases.{during}
-use Rattle.terminal.specs.Events.{Event, signs-on, starts, answers, is-silent, has-power, reverses, settles, uploads, call}
+use Rattle.call_sign_on.specs.SignOn.{signedOnRules, adopts, signedOn}
+use Rattle.answer_match.specs.Match.{isAnswer}
+use Rattle.call_answer.specs.Answer.{quietly, silentIn, noAnswerRules, noAnswer, withoutPower, powerReturned, answersIn, answeredIn, answerRules, answerIn, readIn, answer}
+use Rattle.terminal.specs.Events.{Event, signed-on, starts, answers, no-answer, power-returned, send-reversal, settles, send-next-upload, call}
 use Rattle.terminal.specs.Shapes.{EventShaped}
 use Rattle.history.specs.Words.{messageIn}
-use Rattle.history.specs.History.{Account, withFate, whenSilent}
+use Rattle.history.specs.History.{Account, byFate, whenSilent}
 use Rattle.history.proofs.Requests.{silent-same}
-use Rattle.history.proofs.Tied.{Shape, Tied}
+use Rattle.history.proofs.Tied.{silent-latest, Shape, Tied}
 use Rattle.history.proofs.Silence.{TiedAfter, afterSilence, silent-tied}
 use Rattle.history.proofs.Answered.{answered-tied}
-use Rattle.history.proofs.After.{lawful-quiet, After, refused-after, judged-after}
+use Rattle.history.proofs.After.{After, refused-after, judged-after}
 use Rattle.history.proofs.Starts.{start-after, reverse-after}
 use Rattle.history.proofs.Settles.{settle-after, upload-after}
 
 -- signed on: the batch number matters to what is awaited only
-other-batch : (p : Phase) (l : ℕ) (x : Settings) (b c : Batch) (a : Account) → isWaiting p ≡ false → Shape l x b p a → Shape l x c p a
+other-batch : (p : Phase) (l : ℕ) (x : Settings) (b c : Batch) (a : Account) → waits p ≡ false → Shape l x b p a → Shape l x c p a
 other-batch Resting l x b c a w h = h
 other-batch (Waiting v) l x b c a w h = absurd (true≢false w)
 other-batch (Pending v) l x b c a w h = h
@@ -42,84 +43,79 @@ other-batch Settling l x b c a w h = h
 other-batch Uploading l x b c a w h = h
 
 signed-after : (l : ℕ) (batch : Batch) (s : State) (j m : List ℕ) (a : Account) → Tied l s j a
-    → After l (signs-on batch) a (signedOn batch s j m)
+    → After l (signed-on batch) a (signedOn batch s j m)
 unfolding signedOn
 signed-after l batch s j m a h =
     let rs = signedOnRules batch s j m in
     let c = cond (adopts s) batch (s .batch) in
-    judged-after l (signs-on batch) a (firstBroken rs) s j m _ h
+    judged-after l (signed-on batch) a (firstBroken rs) s j m _ h
     (λ z.
     record {
       tied =
           record {
-            sendings-set = h .sendings-set;
-            shaped = h .shaped;
-            books = h .books;
+            kept = h .kept;
             shape = other-batch (s .phase) l (s .settings) (s .batch) c a (passed 11 rs refl z) (h .shape);
           };
-      lawful = lawful-quiet a;
+      lawful = tt;
     })
+
+-- silence: where nothing is awaited, no request changes
+silent-in : (p : Phase) (l : ℕ) (s : State) (j : List ℕ) (a : Account) → Tied l (inPhase p s) j a
+    → TiedAfter l (silentIn p (inPhase p s) j) (afterSilence l a)
+unfolding whenSilent
+silent-in Resting l s j a h = rw (silent-same l l (a .requests) (h .shape)) h
+silent-in (Waiting w) l s j a h = silent-tied w l (inPhase (Waiting w) s) j a h
+silent-in (Pending v) l s j a h =
+    let d = h .shape in
+    let e : byFate (whenSilent l) (a .requests) ≡ a .requests = silent-latest d l ∙ sym (d .requests-are) in
+    rw e h
+silent-in Settling l s j a h = rw (silent-same l l (a .requests) (h .shape)) h
+silent-in Uploading l s j a h = rw (silent-same l l (a .requests) (h .shape)) h
 
 -- no answer
-silent-in : (p : Phase) (l : ℕ) (s : State) (j m : List ℕ) (a : Account) → Tied l (during p s) j a
-    → After l is-silent a (silentIn p (during p s) j m)
-silent-in Resting l s j m a h = refused-after l is-silent a 14 _ j m h
-silent-in (Waiting w) l s j m a h = record { tied = silent-tied w l (during (Waiting w) s) j a h; lawful = lawful-quiet a }
-silent-in (Pending v) l s j m a h = refused-after l is-silent a 14 _ j m h
-silent-in Settling l s j m a h = refused-after l is-silent a 14 _ j m h
-silent-in Uploading l s j m a h = refused-after l is-silent a 14 _ j m h
-
-silence-after : (l : ℕ) (s : State) (j m : List ℕ) (a : Account) → Tied l s j a → After l is-silent a (noAnswer s j m)
+silence-after : (l : ℕ) (s : State) (j m : List ℕ) (a : Account) → Tied l s j a → After l no-answer a (noAnswer s j m)
 unfolding noAnswer
 silence-after l s j m a h =
-    judged-after l is-silent a (firstBroken (rules12 s j m)) s j m (silentIn (s .phase) s j m) h (λ z. silent-in (s .phase) l s j m a h)
+    judged-after l no-answer a (firstBroken (noAnswerRules s j m)) s j m (quietly (silentIn (s .phase) s j) m) h
+    (λ z. record { tied = silent-in (s .phase) l s j a h; lawful = tt })
 
--- power returned: where nothing is awaited, no request changes
-powered-in : (p : Phase) (l : ℕ) (s : State) (j : List ℕ) (a : Account) → Tied l (during p s) j a
-    → TiedAfter l (poweredIn p (during p s) j) (afterSilence l a)
-unfolding whenSilent
-powered-in Resting l s j a h = rw (silent-same l l (a .requests) (h .shape)) h
-powered-in (Waiting w) l s j a h = silent-tied w l (during (Waiting w) s) j a h
-powered-in (Pending v) l s j a h =
-    let d = h .shape in
-    let e : withFate (whenSilent l) (a .requests) ≡ a .requests = rw (d .requests-are, silent-same l l (d .rest) (d .done)) in
-    rw e h
-powered-in Settling l s j a h = rw (silent-same l l (a .requests) (h .shape)) h
-powered-in Uploading l s j a h = rw (silent-same l l (a .requests) (h .shape)) h
+-- power returned
+off-tied : (l : ℕ) (s : State) (j : List ℕ) (a : Account) → Tied l s j a → Tied l (signed false s) j a
+off-tied l s j a h = record { kept = h .kept; shape = h .shape }
 
-off-tied : (l : ℕ) (s : State) (j : List ℕ) (a : Account) → Tied l s j a → Tied l (signedOff s) j a
-off-tied l s j a h = record { sendings-set = h .sendings-set; shaped = h .shaped; books = h .books; shape = h .shape }
-
-power-after : (l : ℕ) (s : State) (j m : List ℕ) (a : Account) → Tied l s j a → After l has-power a (powerReturned s j m)
+power-after : (l : ℕ) (s : State) (j m : List ℕ) (a : Account) → Tied l s j a → After l power-returned a (powerReturned s j m)
 unfolding powerReturned
 power-after l s j m a h =
-    let c = poweredIn (s .phase) s j in
-    judged-after l has-power a (firstBroken (rules12 s j m)) s j m (withoutPower c m) h
+    let c = silentIn (s .phase) s j in
+    judged-after l power-returned a (firstBroken (rules12 s j m)) s j m (withoutPower c m) h
     (λ z.
     record {
-      tied = off-tied l (c .state) (c .journal) (afterSilence l a) (powered-in (s .phase) l s j a h);
-      lawful = lawful-quiet a;
+      tied = off-tied l (c .state) (c .journal) (afterSilence l a) (silent-in (s .phase) l s j a h);
+      lawful = tt;
     })
 
--- an answer
-answer-in : (p : Phase) (l : ℕ) (b : List ℕ) (good : Bool) (s : State) (j m : List ℕ) (a : Account) → readMessage b .outcome ≡ Read
-    → Fit (during p s) j m → Tied l (during p s) j a → After l (answers b good) a (answerIn p good (messageIn b) (during p s) j m)
-answer-in Resting l b good s j m a r f h = refused-after l (answers b good) a 14 _ j m h
-answer-in (Waiting w) l b good s j m a r f h =
-    go (isAnswer (s .settings) (s .batch) (traceSent (entriesOf (s .entries) j) w) w (messageIn b)) refl
-  where
-    go : (x : Bool) → isAnswer (s .settings) (s .batch) (traceSent (entriesOf (s .entries) j) w) w (messageIn b) ≡ x
-        → After l (answers b good) a
-        (cond x (quietly (answered good (messageIn b) w (during (Waiting w) s) j) m) (refused 22 (during (Waiting w) s) j m))
-    go true e = record { tied = answered-tied w l good b r (during (Waiting w) s) j m a f h e; lawful = lawful-quiet a }
-    go false e = refused-after l (answers b good) a 22 _ j m h
-answer-in (Pending v) l b good s j m a r f h = refused-after l (answers b good) a 14 _ j m h
-answer-in Settling l b good s j m a r f h = refused-after l (answers b good) a 14 _ j m h
-answer-in Uploading l b good s j m a r f h = refused-after l (answers b good) a 14 _ j m h
+-- an answer to what is awaited; rule 14 lets no other phase pass
+answered-in : (p : Phase) (l : ℕ) (b : List ℕ) (good : Bool) (s : State) (j m : List ℕ) (a : Account) → readMessage b .outcome ≡ Read
+    → Fit (inPhase p s) j m → Tied l (inPhase p s) j a → not (waits p) ≡ false
+    → answersIn p (entriesOf (s .entries) j) (inPhase p s) (messageIn b) ≡ true
+    → After l (answers b good) a (quietly (answeredIn p good (messageIn b) (inPhase p s) j) m)
+answered-in Resting l b good s j m a r f h w e = absurd (true≢false w)
+answered-in (Waiting x) l b good s j m a r f h w e =
+    record { tied = answered-tied x l good b r (inPhase (Waiting x) s) j m a f h e; lawful = tt }
+answered-in (Pending v) l b good s j m a r f h w e = absurd (true≢false w)
+answered-in Settling l b good s j m a r f h w e = absurd (true≢false w)
+answered-in Uploading l b good s j m a r f h w e = absurd (true≢false w)
+
+answer-in : (l : ℕ) (b : List ℕ) (good : Bool) (s : State) (j m : List ℕ) (a : Account) → readMessage b .outcome ≡ Read
+    → Fit s j m → Tied l s j a → After l (answers b good) a (answerIn good (messageIn b) s j m)
+answer-in l b good s j m a r f h =
+    let rs = answerRules (messageIn b) s j in
+    judged-after l (answers b good) a (firstBroken rs) s j m (quietly (answeredIn (s .phase) good (messageIn b) s j) m) h
+    (λ z. answered-in (s .phase) l b good s j m a r f h (passed 14 rs refl z) (not-false _ (passed 22 rs refl z)))
 
 read-in : (o : Judgement) (l : ℕ) (b : List ℕ) (good : Bool) (s : State) (j m : List ℕ) (a : Account) → readMessage b .outcome ≡ o
     → Fit s j m → Tied l s j a → After l (answers b good) a (readIn o good (messageIn b) s j m)
-read-in Read l b good s j m a r f h = answer-in (s .phase) l b good s j m a r f h
+read-in Read l b good s j m a r f h = answer-in l b good s j m a r f h
 read-in (Unread n) l b good s j m a r f h = refused-after l (answers b good) a n s j m h
 
 answer-after : (l : ℕ) (b : List ℕ) (good : Bool) (s : State) (j m : List ℕ) (a : Account) → Tied l s j a
@@ -132,11 +128,11 @@ answer-after l b good s j m a h =
 
 -- any call
 pub call-after : (e : Event) (l : ℕ) (s : State) (j m : List ℕ) (a : Account) → EventShaped e → Tied l s j a → After l e a (call e s j m)
-call-after (signs-on batch) l s j m a w h = signed-after l batch s j m a h
+call-after (signed-on batch) l s j m a w h = signed-after l batch s j m a h
 call-after (starts d) l s j m a w h = start-after l d s j m a h (w .0) (w .1)
 call-after (answers b good) l s j m a w h = answer-after l b good s j m a h
-call-after is-silent l s j m a w h = silence-after l s j m a h
-call-after has-power l s j m a w h = power-after l s j m a h
-call-after reverses l s j m a w h = reverse-after l s j m a h
+call-after no-answer l s j m a w h = silence-after l s j m a h
+call-after power-returned l s j m a w h = power-after l s j m a h
+call-after send-reversal l s j m a w h = reverse-after l s j m a h
 call-after settles l s j m a w h = settle-after l s j m a h
-call-after uploads l s j m a w h = upload-after l s j m a h
+call-after send-next-upload l s j m a w h = upload-after l s j m a h

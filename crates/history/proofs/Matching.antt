@@ -6,21 +6,22 @@ use Prim.Native.Nat.{ℕ}
 use lib.Dec.{eqb, leb}
 use Rattle.digits.specs.declared.Number.{Number}
 use Rattle.digits.specs.declared.Number.the-variants.{Is, Not}
+use Rattle.digits.specs.Packed.{numeral}
 use Rattle.message.specs.declared.Message.{Message}
 use Rattle.reading.specs.Reading.{readMessage}
-use Rattle.reading.specs.declared.Outcome.the-variants.{Read}
+use Rattle.reading.specs.declared.ReadOutcome.the-variants.{Read}
 use Rattle.parts.specs.Parts.{matches, partOf}
 use Rattle.parts.specs.declared.Part.the-variants as part
-use Rattle.parts.specs.declared.Trace.{Trace}
-use Rattle.parts.specs.declared.Batch.{Batch}
+use Rattle.numbers.specs.declared.Trace.{Trace}
+use Rattle.numbers.specs.declared.Batch.{Batch}
 use Rattle.state.specs.declared.Request.{Request}
 use Rattle.state.specs.declared.Reversal.{Reversal}
 use Rattle.state.specs.declared.Awaited.{Awaited}
 use Rattle.state.specs.declared.Awaited.the-variants as awaited
 use Rattle.state.specs.declared.Settings.{Settings}
-use Rattle.answers.specs.Answers as terminal
-use Rattle.answers.specs.Answers.{isValue, isValueWithin, matchesSent, indicatorSent, approvalHolds, holdsNamed, isAnswer, approves, goodMac, endsReversal}
-use Rattle.history.specs.Words.{messageIn, value, sameField, sameNumber, codeIs, isApproval, digitIn, matchesWhatLeft, holdsItsFields, isMatching, macGood, endsIt, closesBatch}
+use Rattle.answer_match.specs.Match as terminal
+use Rattle.answer_match.specs.Match.{isValue, isValueWithin, matchesSent, indicatorSent, approvalHolds, holdsNamed, isAnswer, approves, goodMac, endsReversal}
+use Rattle.history.specs.Words.{messageIn, sameField, sameNumber, codeIs, isApproval, digitIn, matchesMessage, holdsItsFields, isMatching, macGood, endsIt, closesBatch}
 use Rattle.history.proofs.Said.{Says}
 use Rattle.history.proofs.Sent.{Typed, Asks}
 
@@ -28,18 +29,18 @@ same-value : (b : ℕ) (n : Number) → isValue b n ≡ sameNumber n (Is b)
 same-value b (Is x) = refl
 same-value b Not = refl
 
-value-is : (n : Number) → isValue 1 n ≡ eqb (value n) 1
+value-is : (n : Number) → isValue 1 n ≡ eqb (numeral n) 1
 value-is (Is x) = refl
 value-is Not = refl
 
-value-within : (n : Number) → isValueWithin 1 3 n ≡ (leb 1 (value n) && leb (value n) 3)
+value-within : (n : Number) → isValueWithin 1 3 n ≡ (leb 1 (numeral n) && leb (numeral n) 3)
 value-within (Is x) = refl
 value-within Not = refl
 
 -- what an answer must repeat stands in the message that left
 matches-alike : {x : Settings} {batch : Batch} {trace : Trace} {i kind code : ℕ} {m : Message} → Says x batch trace i kind code m
-    → (a : Message) → matchesSent x batch i trace a ≡ matchesWhatLeft m a
-unfolding matchesSent matchesWhatLeft sameField matches
+    → (a : Message) → matchesSent x batch i trace a ≡ matchesMessage m a
+unfolding matchesSent matchesMessage sameField matches
 matches-alike {x} {batch} s a =
     rw (s .batch-number, s .trace-bytes, s .terminal-bytes, s .merchant-bytes, s .indicator, same-value (batch .0) (partOf a part.Batch))
 

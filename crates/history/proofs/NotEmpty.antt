@@ -18,17 +18,20 @@ use Rattle.span.specs.Span.{countIn, contentsAt, spanAt, span}
 use Rattle.span.specs.declared.Span.{Span}
 use Rattle.span.specs.declared.Span.the-variants.{Held, Refused as Unheld}
 use Rattle.message.specs.Message.{largest}
+use Rattle.message.specs.Late.{lateFault}
 use Rattle.message.specs.declared.Message.{Message}
-use Rattle.reading.specs.Reading.{Fields, bad, good as whole, prepend, afterSpan, readFields, refused as unread, indicatorOf, bitmapOf, assembled, readMessage}
+use Rattle.message.proofs.Late.{late-above}
+use Rattle.reading.specs.Reading.{Fields, bad, good as whole, prepend, afterSpan, readFields, refused as unread, indicatorIn, bitmapOf, assembled, readMessage}
 use Rattle.reading.specs.declared.Reading.{Reading}
-use Rattle.reading.specs.declared.Outcome.{Outcome as Judgement}
-use Rattle.reading.specs.declared.Outcome.the-variants.{Read, Refused as Unread}
+use Rattle.reading.specs.declared.ReadOutcome.{ReadOutcome as Judgement}
+use Rattle.reading.specs.declared.ReadOutcome.the-variants.{Read, Refused as Unread}
 use Rattle.entry.specs.Entry.{entrySize}
-use Rattle.journal.specs.Journal.{entriesOf, nextDue, totalsOf}
+use Rattle.journal.specs.Journal.{entriesOf, nextDue, totalsOf, sumsOf}
 use Rattle.journal.specs.declared.Found.{Found}
 use Rattle.journal.specs.declared.Found.the-variants.{At, Nowhere}
 use Rattle.state.specs.State.{fresh}
-use Rattle.state.specs.Calls.{Result, Rule, firstBroken, judged, refused}
+use Rattle.checks.specs.Checks.{Rule, firstBroken}
+use Rattle.state.specs.Calls.{Result, judged, refused}
 use Rattle.state.specs.declared.Outcome.{Outcome}
 use Rattle.state.specs.declared.Outcome.the-variants.{Send, Quiet, Refused}
 use Rattle.state.specs.declared.Phase.{Phase}
@@ -37,20 +40,20 @@ use Rattle.state.specs.declared.Settings.{Settings}
 use Rattle.state.specs.declared.State.{State}
 use Rattle.rules.specs.Rules.{settingsInForm, rules12}
 use Rattle.rules.proofs.InOrder.{Fit, settings-hold}
-use Rattle.answers.specs.Answers.{isAnswer}
-use Rattle.signing.specs.Signing.{signedOnRules, signedOn}
-use Rattle.start.specs.Start.{originalOf, entryOf, startRules, start}
-use Rattle.reversing.specs.Reversing.{sendReversalRules, sendFrom, sendReversal}
-use Rattle.settling.specs.Settling.{settleRules, settle}
-use Rattle.uploading.specs.Uploading.{sendNextUploadRules, nextLeaves, uploadFrom, sendNextUpload}
-use Rattle.answering.specs.Answering.{answered, quietly, traceSent, silentIn, noAnswer, powerReturned, answerIn, readIn, answer}
-use Rattle.keeping.specs.Keeping.{Ready, StaysReady}
-use Rattle.keeping.proofs.Back.{ready-fits, fit-ready}
-use Rattle.keeping.proofs.Keeping.{keeping}
-use Rattle.terminal.specs.Events.{Event, signs-on, starts, answers, is-silent, has-power, reverses, settles, uploads, call}
+use Rattle.answer_match.specs.Match.{isAnswer}
+use Rattle.call_sign_on.specs.SignOn.{signedOnRules, signedOn}
+use Rattle.call_start.specs.Start.{originalOf, entryOf, startRules, start}
+use Rattle.call_reversal.specs.SendReversal.{sendReversalRules, sendFrom, sendReversal}
+use Rattle.call_settle.specs.Settle.{settleRules, settle}
+use Rattle.call_upload.specs.SendNextUpload.{sendNextUploadRules, sendsNext, uploadFrom, sendNextUpload}
+use Rattle.call_answer.specs.Answer.{quietly, noAnswerRules, noAnswer, powerReturned, answeredIn, answerRules, answerIn, readIn, answer}
+use Rattle.call_theorems.specs.Ready.{Ready}
+use Rattle.call_theorems.proofs.Back.{ready-fits, fit-ready}
+use Rattle.call_theorems.proofs.Keeping.{keeping}
+use Rattle.terminal.specs.Events.{Event, signed-on, starts, answers, no-answer, power-returned, send-reversal, settles, send-next-upload, call}
 use Rattle.history.specs.History.{refused as declined, Call, History}
-use Rattle.history.specs.Demand.{Turn, Run, givenBy, noted, runs, begun, Each}
-use Rattle.history.specs.NotEmpty.{Roomy, NeverUnfit}
+use Rattle.history.specs.Demand.{Invocation, Run, givenBy, recorded, runs, begun, Each}
+use Rattle.history.specs.NotEmpty.{BuffersSuffice, NeverRefusedByRules12}
 
 -- a refusal number is above 2
 abbrev SpanAbove : Span → Type 0
@@ -141,14 +144,21 @@ fields-above (f ∷ fs) bm s = after-above f s (readFields fs bm) (span f bm s) 
 
 assembled-above : (i : ℕ) (bm : List ℕ) (x : Fields) → FieldsAbove x → JudgementAbove (assembled i bm x .outcome)
 assembled-above i bm (bad e) h = h
-assembled-above i bm (whole cs bs) h = tt
+assembled-above i bm (whole cs bs) h = go (eqb (lateFault m) 0) refl
+  where
+    m : Message
+    m = record { indicator = i; bitmap = bm; counts = cs; contents = bs }
+
+    go : (t : Bool) → eqb (lateFault m) 0 ≡ t → JudgementAbove (cond t (record { outcome = Read; message = m }) (unread (lateFault m)) .outcome)
+    go true e = tt
+    go false e = late-above m (eqb-false (lateFault m) 0 e)
 
 pub reading-above : (s : List ℕ) → JudgementAbove (readMessage s .outcome)
 unfolding readMessage
 reading-above s =
-    go (ltb (length s) 10) (among (indicatorOf s) indicators) (listed (bitmapOf s))
-    (assembled (indicatorOf s) (bitmapOf s) (readFields formats (bitmapOf s) (drop 10 s)))
-    (assembled-above (indicatorOf s) (bitmapOf s) (readFields formats (bitmapOf s) (drop 10 s))
+    go (ltb (length s) 10) (among (indicatorIn s) indicators) (listed (bitmapOf s))
+    (assembled (indicatorIn s) (bitmapOf s) (readFields formats (bitmapOf s) (drop 10 s)))
+    (assembled-above (indicatorIn s) (bitmapOf s) (readFields formats (bitmapOf s) (drop 10 s))
     (fields-above formats (bitmapOf s) (drop 10 s)))
   where
     go : (a b c : Bool) (x : Reading) → JudgementAbove (x .outcome)
@@ -177,14 +187,14 @@ first-above (r ∷ rs) w h =
 
 module _ (s : State) (j m : List ℕ) (ready : Ready s j m) where
   -- rules 1 and 2 pass, and the others are asked
-  passes : (qs : List Rule) → firstBroken (rules12 s j m ++ qs) ≡ firstBroken qs
+  rules12-pass : (qs : List Rule) → firstBroken (rules12 s j m ++ qs) ≡ firstBroken qs
   unfolding firstBroken
-  passes qs = rw (ready .long, ready .order)
+  rules12-pass qs = rw (ready .long, ready .order)
 
   judged-above : (qs : List Rule) (done : Result) → allAbove qs ≡ true → Above (done .outcome)
       → Above (judged (firstBroken (rules12 s j m ++ qs)) s j m done .outcome)
   unfolding judged
-  judged-above qs done w h = rw (passes qs) (go (eqb (firstBroken qs) 0) refl)
+  judged-above qs done w h = rw (rules12-pass qs) (go (eqb (firstBroken qs) 0) refl)
     where
       go : (b : Bool) → eqb (firstBroken qs) 0 ≡ b → Above (cond b done (refused (firstBroken qs) s j m) .outcome)
       go true e = h
@@ -192,74 +202,54 @@ module _ (s : State) (j m : List ℕ) (ready : Ready s j m) where
 
 -- what a call does once its rules have passed
 send-above : (p : Phase) (s : State) (j m : List ℕ) → Above (sendFrom p s j m .outcome)
-send-above Resting s j m = omega arith
-send-above (Waiting a) s j m = omega arith
+send-above Resting s j m = tt
+send-above (Waiting a) s j m = tt
 send-above (Pending v) s j m = tt
-send-above Settling s j m = omega arith
-send-above Uploading s j m = omega arith
+send-above Settling s j m = tt
+send-above Uploading s j m = tt
 
-next-above : (f : Found) (s : State) (j m : List ℕ) → Above (nextLeaves f s j m .outcome)
+next-above : (f : Found) (s : State) (j m : List ℕ) → Above (sendsNext f s j m .outcome)
 next-above (At i) s j m = tt
 next-above Nowhere s j m = tt
 
 upload-above : (p : Phase) (s : State) (j m : List ℕ) → Above (uploadFrom p s j m .outcome)
-upload-above Resting s j m = omega arith
-upload-above (Waiting a) s j m = omega arith
-upload-above (Pending v) s j m = omega arith
-upload-above Settling s j m = omega arith
+upload-above Resting s j m = tt
+upload-above (Waiting a) s j m = tt
+upload-above (Pending v) s j m = tt
+upload-above Settling s j m = tt
 upload-above Uploading s j m = next-above (nextDue (entriesOf (s .entries) j)) s j m
 
-silent-above : (p : Phase) (s : State) (j m : List ℕ) → Above (silentIn p s j m .outcome)
-silent-above Resting s j m = omega arith
-silent-above (Waiting a) s j m = tt
-silent-above (Pending v) s j m = omega arith
-silent-above Settling s j m = omega arith
-silent-above Uploading s j m = omega arith
-
-answer-above : (p : Phase) (good : Bool) (a : Message) (s : State) (j m : List ℕ) → Above (answerIn p good a s j m .outcome)
-answer-above Resting good a s j m = omega arith
-answer-above (Waiting w) good a s j m = go (isAnswer (s .settings) (s .batch) (traceSent (entriesOf (s .entries) j) w) w a)
+answer-above : (good : Bool) (a : Message) (s : State) (j m : List ℕ) → Above (answerIn good a s j m .outcome)
+unfolding judged
+answer-above good a s j m = go (eqb (firstBroken (answerRules a s j)) 0) refl
   where
-    go : (b : Bool) → Above (cond b (quietly (answered good a w s j) m) (refused 22 s j m) .outcome)
-    go true = tt
-    go false = omega arith
-answer-above (Pending v) good a s j m = omega arith
-answer-above Settling good a s j m = omega arith
-answer-above Uploading good a s j m = omega arith
+    go : (b : Bool) → eqb (firstBroken (answerRules a s j)) 0 ≡ b
+        → Above (cond b (quietly (answeredIn (s .phase) good a s j) m) (refused (firstBroken (answerRules a s j)) s j m) .outcome)
+    go true e = tt
+    go false e = first-above (answerRules a s j) refl (eqb-false (firstBroken (answerRules a s j)) 0 e)
 
 read-above : (o : Judgement) → JudgementAbove o → (good : Bool) (a : Message) (s : State) (j m : List ℕ)
     → Above (readIn o good a s j m .outcome)
-read-above Read h good a s j m = answer-above (s .phase) good a s j m
+read-above Read h good a s j m = answer-above good a s j m
 read-above (Unread n) h good a s j m = h
 
 -- a call of a terminal in order is not refused by 1 or 2
 call-above : (e : Event) (s : State) (j m : List ℕ) → Ready s j m → Above (call e s j m .outcome)
 unfolding signedOn start answer noAnswer powerReturned sendReversal settle sendNextUpload
-call-above (signs-on batch) s j m h = judged-above s j m h (drop 2 (signedOnRules batch s j m)) _ refl tt
+call-above (signed-on batch) s j m h = judged-above s j m h (drop 2 (signedOnRules batch s j m)) _ refl tt
 call-above (starts d) s j m h =
     let es = entriesOf (s .entries) j in
     judged-above s j m h (drop 2 (startRules d s es (entryOf (originalOf d es) es) j m)) _ refl tt
 call-above (answers b good) s j m h =
     judged-above s j m h [] (readIn (readMessage b .outcome) good (readMessage b .message) s j m) refl
     (read-above (readMessage b .outcome) (reading-above b) good (readMessage b .message) s j m)
-call-above is-silent s j m h = judged-above s j m h [] (silentIn (s .phase) s j m) refl (silent-above (s .phase) s j m)
-call-above has-power s j m h = judged-above s j m h [] _ refl tt
-call-above reverses s j m h =
+call-above no-answer s j m h = judged-above s j m h (drop 2 (noAnswerRules s j m)) _ refl tt
+call-above power-returned s j m h = judged-above s j m h [] _ refl tt
+call-above send-reversal s j m h =
     judged-above s j m h (drop 2 (sendReversalRules s j m)) (sendFrom (s .phase) s j m) refl (send-above (s .phase) s j m)
 call-above settles s j m h = judged-above s j m h (drop 2 (settleRules s j m)) _ refl tt
-call-above uploads s j m h =
+call-above send-next-upload s j m h =
     judged-above s j m h (drop 2 (sendNextUploadRules s j m)) (uploadFrom (s .phase) s j m) refl (upload-above (s .phase) s j m)
-
--- and leaves it in order
-call-ready : (e : Event) (s : State) (j m : List ℕ) → Ready s j m → StaysReady (call e s j m)
-call-ready (signs-on batch) s j m h = keeping .signed-on batch s j m h
-call-ready (starts d) s j m h = keeping .starts d s j m h
-call-ready (answers b good) s j m h = keeping .answers b good s j m h
-call-ready is-silent s j m h = keeping .no-answers s j m h
-call-ready has-power s j m h = keeping .power-returns s j m h
-call-ready reverses s j m h = keeping .sends-reversal s j m h
-call-ready settles s j m h = keeping .settles s j m h
-call-ready uploads s j m h = keeping .uploads s j m h
 
 -- with any message buffer that has room
 abbrev AlwaysReady : Run → Type 0
@@ -272,31 +262,37 @@ ready-again s j m n h l =
 
 fresh-fits : (x : Settings) (j m : List ℕ) → settingsInForm x ≡ true → entrySize * x .limit ≤ length j → largest ≤ length m
     → Fit (fresh x) j m
-unfolding totalsOf
+unfolding sumsOf
 fresh-fits x j m f r l =
     record {
       message-room = l;
       journal-room = r;
       order =
           record {
-            few = omega arith;
-            settings = settings-hold x f;
-            batch-least = omega arith;
-            batch-most = omega arith;
-            next-least = omega arith;
-            next-most = omega arith;
-            sent-most = omega arith;
-            phase-form = refl;
-            form = refl;
-            voided = refl;
-            unmarked = refl;
-            resends = refl;
-            silent = refl;
-            apart = refl;
-            debit-most = omega arith;
-            credit-most = omega arith;
-            balance = refl;
-            approvals = refl;
+            state =
+                record {
+                  settings = settings-hold x f;
+                  batch-least = omega arith;
+                  batch-most = omega arith;
+                  next-least = omega arith;
+                  next-most = omega arith;
+                  sent-most = omega arith;
+                  phase-form = refl;
+                  few = omega arith;
+                  balance = refl;
+                  approvals = refl;
+                };
+            journal =
+                record {
+                  form = refl;
+                  apart = refl;
+                  voided = refl;
+                  debit-most = omega arith;
+                  credit-most = omega arith;
+                  unmarked = refl;
+                  resends = refl;
+                  silent = refl;
+                };
             phase-kept = refl;
           };
     }
@@ -312,14 +308,14 @@ given-above Quiet m h =
     (λ e. let z : _≡_ {A = ℕ} 0 1 = cc in omega arith, λ e. let z : _≡_ {A = ℕ} 0 1 = cc in omega arith)
 given-above (Refused n) m h = (λ e. let z : n ≡ 1 = cc in omega arith, λ e. let z : n ≡ 2 = cc in omega arith)
 
-runs-fit : (ts : List Turn) (r : Run) → Roomy ts → AlwaysReady r → Each NotUnfit (r .history) → Each NotUnfit (runs ts r .history)
+runs-fit : (ts : List Invocation) (r : Run) → BuffersSuffice ts → AlwaysReady r → Each NotUnfit (r .history) → Each NotUnfit (runs ts r .history)
 runs-fit [] r w h g = g
 runs-fit (t ∷ ts) r w h g =
     let q = call (t .event) (r .state) (r .journal) (t .message) in
     let p = h (t .message) (w .0) in
-    let k = call-ready (t .event) (r .state) (r .journal) (t .message) p in
-    runs-fit ts (noted t r q) (w .1) (λ m l. ready-again (q .state) (q .journal) (q .message) m k l)
+    let k = keeping (t .event) (r .state) (r .journal) (t .message) p in
+    runs-fit ts (recorded t r q) (w .1) (λ m l. ready-again (q .state) (q .journal) (q .message) m k l)
     (given-above (q .outcome) (q .message) (call-above (t .event) (r .state) (r .journal) (t .message) p), g)
 
-pub never-unfit : NeverUnfit
-never-unfit x j ts f r w = runs-fit ts (begun x j) w (λ m l. fit-ready (fresh x) j m (fresh-fits x j m f r l)) tt
+pub never-first-refusal : NeverRefusedByRules12
+never-first-refusal x j ts f r w = runs-fit ts (begun x j) w (λ m l. fit-ready (fresh x) j m (fresh-fits x j m f r l)) tt

@@ -20,24 +20,25 @@ use Rattle.reading.specs.Reading.{readMessage}
 use Rattle.writing.specs.Writing.{messageBytes}
 use Rattle.parts.specs.Parts.{numberIn, partOf}
 use Rattle.parts.specs.declared.Part.the-variants as part
-use Rattle.parts.specs.declared.Trace.{Trace}
-use Rattle.parts.specs.declared.Batch.{Batch}
+use Rattle.numbers.specs.declared.Trace.{Trace}
+use Rattle.numbers.specs.declared.Batch.{Batch}
 use Rattle.state.specs.declared.Settings.{Settings}
 use Rattle.compose.specs.Compose.{allHeld}
 use Rattle.outgoing.specs.Outgoing.{field60}
 use Rattle.outgoing.proofs.Leaving.{written-is}
-use Rattle.leaving.specs.Theorems.{Reads}
-use Rattle.leaving.proofs.Theorems.{sent-reads-back}
+use Rattle.outgoing_theorems.specs.Theorems.{Reads}
+use Rattle.outgoing_theorems.proofs.Theorems.{sent-reads-back}
 use Rattle.history.specs.Words.{messageIn}
 use Rattle.outgoing.proofs.Fields.{field60-digits}
+use Rattle.numbers.specs.Limits.{lastNumber}
 
 -- the bytes that a call hands out
 abbrev pub handedOut : List ℕ → List ℕ → List ℕ
 handedOut bs m = take (length bs) (bs ++ drop (length bs) m)
 
-pub left-reads : (i : ℕ) (xs : List Item) (m : List ℕ) → among i indicators ≡ true → allHeld xs ≡ true → largest ≤ length m
+pub sent-reads : (i : ℕ) (xs : List Item) (m : List ℕ) → among i indicators ≡ true → allHeld xs ≡ true → largest ≤ length m
     → Reads i xs (readMessage (handedOut (messageBytes (messageOf i xs)) m))
-left-reads i xs m l h r = rw (written-is i xs m l h r) at (sent-reads-back i xs m l h r)
+sent-reads i xs m l h r = rw (written-is i xs m l h r) at (sent-reads-back i xs m l h r)
 
 -- a number in a field of digits
 module _ (m : Message) (n : ℕ) (ds : List ℕ) (named : names (m .bitmap) n ≡ true) (held : fieldOf m n ≡ digits n ds .field)
@@ -56,16 +57,9 @@ module _ (m : Message) (n : ℕ) (ds : List ℕ) (named : names (m .bitmap) n �
         value-digitsOf k x b,
       )
 
--- the fields of a list of items that a message of the terminal has
-pub record Holds (x : Settings) (batch : Batch) (trace : Trace) (kind code : ℕ) (xs : List Item) : Type 0 where
-  pub has-trace : has xs 11 ≡ true
-  pub has-terminal : has xs 41 ≡ true
-  pub has-merchant : has xs 42 ≡ true
-  pub has-kind : has xs 60 ≡ true
-  pub trace-held : find xs 11 ≡ digits 11 (digitsOf 6 (trace .0)) .field
-  pub terminal-held : find xs 41 ≡ bytes 41 (x .terminal) .field
-  pub merchant-held : find xs 42 ≡ bytes 42 (x .merchant) .field
-  pub kind-held : find xs 60 ≡ digits 60 (field60 kind batch code) .field
+-- a list of items has this one, the first of its number
+abbrev pub Contains : List Item → Item → Type 0
+Contains xs x = (has xs (x .number) ≡ true) × (find xs (x .number) ≡ x .field)
 
 -- what a message says that an answer has to repeat, and what kind of message it is
 pub record Says (x : Settings) (batch : Batch) (trace : Trace) (i kind code : ℕ) (m : Message) : Type 0 where
@@ -84,16 +78,17 @@ module _ (b : List ℕ) (i : ℕ) (xs : List Item) (r : Reads i xs (readMessage 
       → numberIn (messageIn b) n at k ≡ Is x
   number-read n ds p q h f a = number-at (messageIn b) n ds (r .named n p q ∙ h) (r .fields n h ∙ f) a
 
-  pub says : (x : Settings) (batch : Batch) (trace : Trace) (kind code : ℕ) → Holds x batch trace kind code xs
-      → batch .0 ≤ 999999 → kind ≤ 99 → code ≤ 999 → Says x batch trace i kind code (messageIn b)
-  says x batch trace kind code h u v w =
-      let part = number-read 60 (field60 kind batch code) (omega arith) (omega arith) (h .has-kind) (h .kind-held)
+  pub says : (x : Settings) (batch : Batch) (trace : Trace) (kind code : ℕ) → Contains xs (digits 11 (digitsOf 6 (trace .0)))
+      → Contains xs (bytes 41 (x .terminal)) → Contains xs (bytes 42 (x .merchant)) → Contains xs (digits 60 (field60 kind batch code))
+      → batch .0 ≤ lastNumber → kind ≤ 99 → code ≤ 999 → Says x batch trace i kind code (messageIn b)
+  says x batch trace kind code trace-in terminal-in merchant-in kind-in u v w =
+      let part = number-read 60 (field60 kind batch code) (omega arith) (omega arith) (kind-in .0) (kind-in .1)
       (field60-digits kind batch code) in
       record {
         indicator = r .indicator;
-        trace-bytes = ap (λ f. f .bytes) (r .fields 11 (h .has-trace) ∙ h .trace-held);
-        terminal-bytes = ap (λ f. f .bytes) (r .fields 41 (h .has-terminal) ∙ h .terminal-held);
-        merchant-bytes = ap (λ f. f .bytes) (r .fields 42 (h .has-merchant) ∙ h .merchant-held);
+        trace-bytes = ap (λ f. f .bytes) (r .fields 11 (trace-in .0) ∙ trace-in .1);
+        terminal-bytes = ap (λ f. f .bytes) (r .fields 41 (terminal-in .0) ∙ terminal-in .1);
+        merchant-bytes = ap (λ f. f .bytes) (r .fields 42 (merchant-in .0) ∙ merchant-in .1);
         batch-number = part 2 6 (batch .0) (omega arith) refl (omega arith) (omega arith);
         kind-number = part 0 2 kind (omega arith) refl (omega arith) (omega arith);
         code-number = part 8 3 code (omega arith) refl (omega arith) (omega arith);

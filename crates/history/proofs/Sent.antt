@@ -7,6 +7,7 @@ use native.Mathlib.Omega.{arith}
 use lib.Dec.{eqb}
 use lib.ListN.{length}
 use borrow.Author.Tests.{eqb-true}
+use Rattle.numbers.specs.Limits.{largestTotal, lastNumber}
 use Rattle.digits.specs.Digits.{pack}
 use Rattle.digits.specs.Numbers.{digitsOf}
 use Rattle.digits.specs.declared.Number.the-variants.{Is}
@@ -18,26 +19,26 @@ use Rattle.message.specs.declared.Message.{Message}
 use Rattle.writing.specs.Writing.{messageBytes}
 use Rattle.parts.specs.Parts.{numberIn, partOf}
 use Rattle.parts.specs.declared.Part.the-variants as part
-use Rattle.parts.specs.declared.Trace.{Trace}
-use Rattle.parts.specs.declared.Batch.{Batch}
+use Rattle.numbers.specs.declared.Trace.{Trace}
+use Rattle.numbers.specs.declared.Batch.{Batch}
 use Rattle.kinds.specs.Kinds.{isKind, indicatorOf}
 use Rattle.entry.specs.declared.Entry.{Entry}
-use Rattle.journal.specs.declared.Totals.{Totals}
+use Rattle.kinds.specs.declared.Totals.{Totals}
 use Rattle.state.specs.declared.Request.{Request}
 use Rattle.state.specs.declared.Reversal.{Reversal}
 use Rattle.state.specs.declared.Settings.{Settings}
 use Rattle.rules.proofs.InOrder.{RequestHolds}
 use Rattle.outgoing.specs.declared.Original.{Original}
 use Rattle.outgoing.specs.Outgoing.{requestFields, reversalFields, requestMessage, reversalMessage}
-use Rattle.outgoing.specs.Leaving.{CardHeld, OriginalHeld}
+use Rattle.outgoing.specs.Held.{CardHeld, OriginalHeld}
 use Rattle.outgoing.proofs.Leaving.{request-held, reversal-held, request-listed, reversal-listed}
-use Rattle.settling.specs.Settling.{field48, settlementFields, settlementMessage}
-use Rattle.uploading.specs.Uploading.{itemFields, itemMessage, endFields, endMessage}
+use Rattle.call_settle.specs.Settle.{field48, settlementFields, settlementMessage}
+use Rattle.call_upload.specs.SendNextUpload.{itemFields, itemMessage, endFields, endMessage}
 use Rattle.history.specs.Words.{messageIn, kindIn, amountIn, isRequest, isReversal, isSettlement, isEnd}
-use Rattle.outgoing.specs.Leaving.{SettingsHeld}
-use Rattle.settling.proofs.Held.{field48-digits, settlement-held, settlement-listed}
-use Rattle.uploading.proofs.Held.{EntryHeld, item-held, end-held, upload-listed}
-use Rattle.history.proofs.Said.{handedOut, left-reads, Holds, Says, number-read, says}
+use Rattle.outgoing.specs.Held.{SettingsHeld}
+use Rattle.call_settle.proofs.Held.{field48-digits, settlement-held, settlement-listed}
+use Rattle.call_upload.proofs.Held.{EntryHeld, item-held, end-held, upload-listed}
+use Rattle.history.proofs.Said.{handedOut, sent-reads, Says, number-read, says}
 
 -- which of its words the history uses for a message
 pub record Typed (request reversal settlement end : Bool) (m : Message) : Type 0 where
@@ -94,8 +95,8 @@ pub record Settles (x : Settings) (batch : Batch) (trace : Trace) (t : Totals) (
 
 -- totals that field 48 can say
 pub record Sayable (t : Totals) : Type 0 where
-  pub debit-most : t .debit ≤ 999999999999
-  pub credit-most : t .credit ≤ 999999999999
+  pub debit-most : t .debit ≤ largestTotal
+  pub credit-most : t .credit ≤ largestTotal
   pub debits-most : t .debits ≤ 999
   pub credits-most : t .credits ≤ 999
 
@@ -116,27 +117,16 @@ amount-said : (m : Message) (n : ℕ) → numberIn m 4 0 12 ≡ Is n → amountI
 unfolding amountIn
 amount-said m n e = rw e
 
-module _ (x : Settings) (batch : Batch) (m : List ℕ) (room : largest ≤ length m) (small : batch .0 ≤ 999999) where
+module _ (x : Settings) (batch : Batch) (m : List ℕ) (room : largest ≤ length m) (small : batch .0 ≤ lastNumber) where
   pub request-asks : (q : Request) (o : Original) → CardHeld x q → OriginalHeld (q .kind) o → RequestHolds q
       → Asks x batch q (messageIn (handedOut (messageBytes (requestMessage x batch q o)) m))
   unfolding requestMessage
   request-asks q o c g h =
       let i = indicatorOf (q .kind) in
       let xs = requestFields x batch q o in
-      let r = left-reads i xs m (request-listed (q .kind)) (request-held x batch q o c g) room in
+      let r = sent-reads i xs m (request-listed (q .kind)) (request-held x batch q o c g) room in
       let k = kind-small (q .kind) (h .kind-listed) in
-      let w : Holds x batch (q .trace) (q .kind) 0 xs =
-      record {
-        has-trace = refl;
-        has-terminal = refl;
-        has-merchant = refl;
-        has-kind = refl;
-        trace-held = refl;
-        terminal-held = refl;
-        merchant-held = refl;
-        kind-held = refl;
-      } in
-      let s = says _ i xs r x batch (q .trace) (q .kind) 0 w small k (omega arith) in
+      let s = says _ i xs r x batch (q .trace) (q .kind) 0 (refl, refl) (refl, refl) (refl, refl) (refl, refl) small k (omega arith) in
       let a = number-read _ i xs r 4 (digitsOf 12 (q .amount)) (omega arith) (omega arith) refl refl (digitsOf-digits 12 (q .amount))
       0 12 (q .amount) (omega arith) refl (omega arith) (omega (arith, h .amount-most)) in
       record {
@@ -152,41 +142,18 @@ module _ (x : Settings) (batch : Batch) (m : List ℕ) (room : largest ≤ lengt
   unfolding reversalMessage
   reversal-says v c h =
       let xs = reversalFields x batch v in
-      says _ 0x0400 xs (left-reads 0x0400 xs m reversal-listed (reversal-held x batch v c) room) x batch (v .request .trace)
-      (v .request .kind) 0
-      (record {
-        has-trace = refl;
-        has-terminal = refl;
-        has-merchant = refl;
-        has-kind = refl;
-        trace-held = refl;
-        terminal-held = refl;
-        merchant-held = refl;
-        kind-held = refl;
-      })
-      small (kind-small (v .request .kind) (h .kind-listed)) (omega arith)
+      says _ 0x0400 xs (sent-reads 0x0400 xs m reversal-listed (reversal-held x batch v c) room) x batch (v .request .trace)
+      (v .request .kind) 0 (refl, refl) (refl, refl) (refl, refl) (refl, refl) small (kind-small (v .request .kind) (h .kind-listed)) (omega arith)
 
   pub settlement-settles : (trace : Trace) (t : Totals) → SettingsHeld x → Sayable t
       → Settles x batch trace t (messageIn (handedOut (messageBytes (settlementMessage x batch trace t)) m))
   unfolding settlementMessage
   settlement-settles trace t h f =
       let xs = settlementFields x batch trace t in
-      let r = left-reads 0x0500 xs m settlement-listed (settlement-held x batch h trace t) room in
+      let r = sent-reads 0x0500 xs m settlement-listed (settlement-held x batch h trace t) room in
       let sum = number-read _ 0x0500 xs r 48 (field48 t) (omega arith) (omega arith) refl refl (field48-digits t) in
       record {
-        said =
-            says _ 0x0500 xs r x batch trace 0 201
-            (record {
-              has-trace = refl;
-              has-terminal = refl;
-              has-merchant = refl;
-              has-kind = refl;
-              trace-held = refl;
-              terminal-held = refl;
-              merchant-held = refl;
-              kind-held = refl;
-            })
-            small (omega arith) (omega arith);
+        said = says _ 0x0500 xs r x batch trace 0 201 (refl, refl) (refl, refl) (refl, refl) (refl, refl) small (omega arith) (omega arith);
         debit-amount = sum 0 12 (t .debit) (omega arith) refl (omega arith) (omega (arith, f .debit-most));
         debit-count = sum 12 3 (t .debits) (omega arith) refl (omega arith) (omega (arith, f .debits-most));
         credit-amount = sum 15 12 (t .credit) (omega arith) refl (omega arith) (omega (arith, f .credit-most));
@@ -198,33 +165,13 @@ module _ (x : Settings) (batch : Batch) (m : List ℕ) (room : largest ≤ lengt
   unfolding itemMessage
   item-says e h g k =
       let xs = itemFields x batch e in
-      says _ 0x0320 xs (left-reads 0x0320 xs m upload-listed (item-held x batch h e g) room) x batch (e .trace) (e .kind) 201
-      (record {
-        has-trace = refl;
-        has-terminal = refl;
-        has-merchant = refl;
-        has-kind = refl;
-        trace-held = refl;
-        terminal-held = refl;
-        merchant-held = refl;
-        kind-held = refl;
-      })
-      small (kind-small (e .kind) k) (omega arith)
+      says _ 0x0320 xs (sent-reads 0x0320 xs m upload-listed (item-held x batch h e g) room) x batch (e .trace) (e .kind) 201
+      (refl, refl) (refl, refl) (refl, refl) (refl, refl) small (kind-small (e .kind) k) (omega arith)
 
   pub end-says : (trace : Trace) → SettingsHeld x
       → Says x batch trace 0x0320 0 202 (messageIn (handedOut (messageBytes (endMessage x batch trace)) m))
   unfolding endMessage
   end-says trace h =
       let xs = endFields x batch trace in
-      says _ 0x0320 xs (left-reads 0x0320 xs m upload-listed (end-held x batch h trace) room) x batch trace 0 202
-      (record {
-        has-trace = refl;
-        has-terminal = refl;
-        has-merchant = refl;
-        has-kind = refl;
-        trace-held = refl;
-        terminal-held = refl;
-        merchant-held = refl;
-        kind-held = refl;
-      })
-      small (omega arith) (omega arith)
+      says _ 0x0320 xs (sent-reads 0x0320 xs m upload-listed (end-held x batch h trace) room) x batch trace 0 202
+      (refl, refl) (refl, refl) (refl, refl) (refl, refl) small (omega arith) (omega arith)

@@ -8,15 +8,15 @@ use lib.Dec.{eqb}
 use Rattle.digits.specs.declared.Number.the-variants.{Is}
 use Rattle.message.specs.declared.Message.{Message}
 use Rattle.writing.specs.Writing.{messageBytes}
-use Rattle.parts.specs.declared.Trace.{Trace}
-use Rattle.parts.specs.declared.Batch.{Batch}
+use Rattle.numbers.specs.declared.Trace.{Trace}
+use Rattle.numbers.specs.declared.Batch.{Batch}
 use Rattle.entry.specs.Form.{inForm}
 use Rattle.entry.specs.declared.Entry.{Entry}
 use Rattle.entry.proofs.Form.{InForm, in-form}
-use Rattle.journal.specs.Journal.{entriesOf, entryAt, debitEntry, creditEntry, totalsOf, nextDue, setByte, taken, withResends}
+use Rattle.journal.specs.Journal.{entriesOf, entryAt, debitEntry, creditEntry, totalsOf, sumsOf, nextDue, setByte, taken, withResends}
 use Rattle.journal.specs.declared.Found.{Found}
 use Rattle.journal.specs.declared.Found.the-variants.{At, Nowhere}
-use Rattle.journal.specs.declared.Totals.{Totals}
+use Rattle.kinds.specs.declared.Totals.{Totals}
 use Rattle.journal.proofs.Entries.{length-entries-le, entry-shaped, set-resends}
 use Rattle.journal.proofs.Searches.{every-at, next-at}
 use Rattle.journal.proofs.Sums.{count-bounded, resends-totals, totals-changed}
@@ -24,91 +24,89 @@ use Rattle.state.specs.declared.Phase.{Phase}
 use Rattle.state.specs.declared.Phase.the-variants.{Resting, Waiting, Pending, Settling, Uploading}
 use Rattle.state.specs.declared.Settings.{Settings}
 use Rattle.state.specs.declared.State.{State}
-use Rattle.state.specs.Calls.{firstBroken}
-use Rattle.state.proofs.Choices.{passed}
+use Rattle.state.specs.State.{inPhase}
+use Rattle.checks.specs.Checks.{firstBroken}
+use Rattle.checks.proofs.Choices.{passed}
 use Rattle.rules.proofs.InOrder.{Fit}
-use Rattle.settling.specs.Settling.{settlementMessage, settleRules, settle}
-use Rattle.settling.specs.Settling as settling
-use Rattle.uploading.specs.Uploading.{itemMessage, endMessage, resent, nextLeaves, uploadFrom, sendNextUploadRules, sendNextUpload}
-use Rattle.keeping.proofs.Phases.{during}
-use Rattle.terminal.specs.Events.{settles, uploads}
+use Rattle.call_settle.specs.Settle.{settlementMessage, settleRules, settle}
+use Rattle.call_settle.specs.Settle as settling
+use Rattle.call_upload.specs.SendNextUpload.{itemMessage, endMessage, resent, sendsNext, uploadFrom, sendNextUploadRules, sendNextUpload}
+use Rattle.terminal.specs.Events.{settles, send-next-upload}
 use Rattle.history.specs.Words.{messageIn}
-use Rattle.history.specs.History.{left, Request, Account, whenGiven}
+use Rattle.history.specs.History.{sent, Request, Account, whenGiven}
 use Rattle.history.specs.Demand.{Carries}
-use Rattle.outgoing.specs.Leaving.{SettingsHeld}
-use Rattle.uploading.proofs.Held.{EntryHeld}
+use Rattle.outgoing.specs.Held.{SettingsHeld}
+use Rattle.call_upload.proofs.Held.{EntryHeld}
 use Rattle.history.proofs.Said.{handedOut, Says}
 use Rattle.history.proofs.Sent.{Typed, settlement-typed, item-typed, end-typed, Settles, Sayable, settlement-settles, item-says, end-says}
 use Rattle.history.proofs.Matching.{other-closes}
 use Rattle.history.proofs.Requests.{AllDone, none-reversing}
-use Rattle.history.proofs.Books.{Summed}
+use Rattle.history.proofs.Books.{requestSums}
 use Rattle.history.proofs.Tied.{Tied}
-use Rattle.history.proofs.After.{Lawful, lawful-left, After, refused-after, judged-after, no, left-other, idle}
+use Rattle.history.proofs.After.{LawfulMessage, After, refused-after, judged-after, no, sent-other, idle}
 use Rattle.history.proofs.Starts.{fit-first}
 
 settings-held : (l : ℕ) (s : State) (j m : List ℕ) (a : Account) → Tied l s j a → Fit s j m → SettingsHeld (s .settings)
 settings-held l s j m a h f =
     record {
-      terminal-length = h .shaped .terminal-length;
-      merchant-length = h .shaped .merchant-length;
-      terminal-printable = f .order .settings .terminal-printable;
-      merchant-printable = f .order .settings .merchant-printable;
+      terminal-length = h .kept .shaped .terminal-length;
+      merchant-length = h .kept .shaped .merchant-length;
+      terminal-printable = f .order .state .settings .terminal-printable;
+      merchant-printable = f .order .state .settings .merchant-printable;
     }
 
 -- field 48 has room for the totals of a journal in order
 sayable : (s : State) (j m : List ℕ) → Fit s j m → Sayable (totalsOf (entriesOf (s .entries) j))
-unfolding totalsOf
+unfolding sumsOf
 sayable s j m f =
     let es = entriesOf (s .entries) j in
     let n = length-entries-le (s .entries) j in
-    let k = f .order .few in
-    let x = f .order .settings .limit-most in
+    let k = f .order .state .few in
+    let x = f .order .state .settings .limit-most in
     record {
-      debit-most = f .order .debit-most;
-      credit-most = f .order .credit-most;
+      debit-most = f .order .journal .debit-most;
+      credit-most = f .order .journal .credit-most;
       debits-most = omega (arith, count-bounded debitEntry es);
       credits-most = omega (arith, count-bounded creditEntry es);
     }
 
 -- the totals of the journal are those of the batch's approved requests
 carries : {x : Settings} {batch : Batch} {trace : Trace} {t : Totals} {m : Message} {rs : List Request} → Settles x batch trace t m
-    → Summed t rs → Carries m rs
+    → t ≡ requestSums rs → Carries m rs
 carries w h =
     record {
-      debit-amount = w .debit-amount ∙ ap (λ (n : ℕ). Is n) (h .debit-is);
-      debit-count = w .debit-count ∙ ap (λ (n : ℕ). Is n) (h .debits-is);
-      credit-amount = w .credit-amount ∙ ap (λ (n : ℕ). Is n) (h .credit-is);
-      credit-count = w .credit-count ∙ ap (λ (n : ℕ). Is n) (h .credits-is);
+      debit-amount = w .debit-amount ∙ ap (λ (t : Totals). Is (t .debit)) h;
+      debit-count = w .debit-count ∙ ap (λ (t : Totals). Is (t .debits)) h;
+      credit-amount = w .credit-amount ∙ ap (λ (t : Totals). Is (t .credit)) h;
+      credit-count = w .credit-count ∙ ap (λ (t : Totals). Is (t .credits)) h;
     }
 
 module _ (l : ℕ) (s : State) (j : List ℕ) (a : Account) (h : Tied l s j a) (done : AllDone l (a .requests)) (b : List ℕ) where
   -- a settlement leaves
   settlement-tied : (trace : Trace) → Says (s .settings) (s .batch) trace 0x0500 0 201 (messageIn b)
-      → Tied l (settling.settles s trace) j (whenGiven l (left b) settles a)
+      → Tied l (settling.settles s trace) j (whenGiven l (sent b) settles a)
   settlement-tied trace said =
-      rw (left-other (messageIn b) (a .requests) true false (settlement-typed (messageIn b) (said .indicator)))
-      (record { sendings-set = h .sendings-set; shaped = h .shaped; books = h .books; shape = record { done = done; said = said } })
+      rw (sent-other settles (messageIn b) (a .requests) true false (settlement-typed (messageIn b) (said .indicator)))
+      (record { kept = h .kept; shape = record { done = done; said = said } })
 
-  settlement-lawful : Typed false false true false (messageIn b) → Carries (messageIn b) (a .requests) → Lawful (left b) a
+  settlement-lawful : Typed false false true false (messageIn b) → Carries (messageIn b) (a .requests) → LawfulMessage (messageIn b) a
   settlement-lawful t c =
-      lawful-left b a
-      (record {
-        settlement = λ x. c;
-        after-request = no (t .is-request);
-        after-settlement = λ x. none-reversing l (a .requests) done;
-        after-reversal = no (t .is-reversal);
-      })
+      record {
+        settlements = λ x. c;
+        no-request = no (t .is-request);
+        no-settlement = λ x. none-reversing l (a .requests) done;
+        reversals = no (t .is-reversal);
+      }
 
   -- an upload's message leaves
-  upload-lawful : (d : Bool) → Typed false false false d (messageIn b) → Lawful (left b) a
+  upload-lawful : (d : Bool) → Typed false false false d (messageIn b) → LawfulMessage (messageIn b) a
   upload-lawful d t =
-      lawful-left b a
-      (record {
-        settlement = no (t .is-settlement);
-        after-request = no (t .is-request);
-        after-settlement = no (t .is-settlement);
-        after-reversal = no (t .is-reversal);
-      })
+      record {
+        settlements = no (t .is-settlement);
+        no-request = no (t .is-request);
+        no-settlement = no (t .is-settlement);
+        reversals = no (t .is-reversal);
+      }
 
 pub settle-after : (l : ℕ) (s : State) (j m : List ℕ) (a : Account) → Tied l s j a → After l settles a (settle s j m)
 unfolding settle
@@ -120,7 +118,7 @@ settle-after l s j m a h =
     judged-after l settles a (firstBroken rs) s j m _ h
     (λ z.
     let f = fit-first s j m _ refl z in
-    let w = settlement-settles (s .settings) (s .batch) m (f .message-room) (f .order .batch-most) trace t
+    let w = settlement-settles (s .settings) (s .batch) m (f .message-room) (f .order .state .batch-most) trace t
     (settings-held l s j m a h f) (sayable s j m f) in
     let done = idle l (s .settings) (s .batch) a (s .phase) (passed 11 rs refl z) (passed 12 rs refl z) (h .shape) in
     let b = handedOut (messageBytes (settlementMessage (s .settings) (s .batch) trace t)) m in
@@ -128,7 +126,7 @@ settle-after l s j m a h =
       tied = settlement-tied l s j a h done b trace (w .said);
       lawful =
           settlement-lawful l s j a h done b (settlement-typed (messageIn b) (w .said .indicator))
-          (carries w (h .books .summed));
+          (carries w (h .kept .books .summed));
     })
 
 -- a resend changes no total
@@ -155,64 +153,60 @@ entry-held n i j f =
       authorisation-printable = f .authorisation-printable;
     }
 
-module _ (l : ℕ) (s : State) (j m : List ℕ) (a : Account) (h : Tied l (during Uploading s) j a) (f : Fit (during Uploading s) j m) where
+module _ (l : ℕ) (s : State) (j m : List ℕ) (a : Account) (h : Tied l (inPhase Uploading s) j a) (f : Fit (inPhase Uploading s) j m) where
   held : SettingsHeld (s .settings)
-  held = settings-held l (during Uploading s) j m a h f
+  held = settings-held l (inPhase Uploading s) j m a h f
 
-  item-after : (i : ℕ) → nextDue (entriesOf (s .entries) j) ≡ At i → After l uploads a (nextLeaves (At i) (during Uploading s) j m)
+  item-after : (i : ℕ) → nextDue (entriesOf (s .entries) j) ≡ At i → After l send-next-upload a (sendsNext (At i) (inPhase Uploading s) j m)
   item-after i e =
       let es = entriesOf (s .entries) j in
       let x = entryAt es i in
       let k = next-at es i e in
-      let g = in-form x (every-at (λ i e. inForm e) 0 es (f .order .form) i (k .below)) in
-      let said = item-says (s .settings) (s .batch) m (f .message-room) (f .order .batch-most) x held (entry-held (s .entries) i j g)
+      let g = in-form x (every-at (λ i e. inForm e) 0 es (f .order .journal .form) i (k .below)) in
+      let said = item-says (s .settings) (s .batch) m (f .message-room) (f .order .state .batch-most) x held (entry-held (s .entries) i j g)
       (g .kind-listed) in
       let b = handedOut (messageBytes (itemMessage (s .settings) (s .batch) x)) m in
       let t = item-typed (messageIn b) (said .indicator) (said .code-number) in
       record {
         tied =
-            rw (left-other (messageIn b) (a .requests) false false t)
+            rw (sent-other send-next-upload (messageIn b) (a .requests) false false t)
             (record {
-              sendings-set = h .sendings-set;
-              shaped = h .shaped;
-              books = rw (resent-totals (s .entries) i x j) (h .books);
+              kept = rw (resent-totals (s .entries) i x j) (h .kept);
               shape = record { done = h .shape; never-closes = other-closes t };
             });
-        lawful = upload-lawful l (during Uploading s) j a h (h .shape) b false t;
+        lawful = upload-lawful l (inPhase Uploading s) j a h (h .shape) b false t;
       }
 
-  end-after : After l uploads a (nextLeaves Nowhere (during Uploading s) j m)
+  end-after : After l send-next-upload a (sendsNext Nowhere (inPhase Uploading s) j m)
   end-after =
       let trace : Trace = record { 0 = taken (entriesOf (s .entries) j) (s .next .0) } in
-      let said = end-says (s .settings) (s .batch) m (f .message-room) (f .order .batch-most) trace held in
+      let said = end-says (s .settings) (s .batch) m (f .message-room) (f .order .state .batch-most) trace held in
       let b = handedOut (messageBytes (endMessage (s .settings) (s .batch) trace)) m in
       let t = end-typed (messageIn b) (said .indicator) (said .code-number) in
       record {
         tied =
-            rw (left-other (messageIn b) (a .requests) false true t)
+            rw (sent-other send-next-upload (messageIn b) (a .requests) false true t)
             (record {
-              sendings-set = h .sendings-set;
-              shaped = h .shaped;
-              books = h .books;
+              kept = h .kept;
               shape = record { done = h .shape; said = said };
             });
-        lawful = upload-lawful l (during Uploading s) j a h (h .shape) b true t;
+        lawful = upload-lawful l (inPhase Uploading s) j a h (h .shape) b true t;
       }
 
-  next-after : (n : Found) → nextDue (entriesOf (s .entries) j) ≡ n → After l uploads a (nextLeaves n (during Uploading s) j m)
+  next-after : (n : Found) → nextDue (entriesOf (s .entries) j) ≡ n → After l send-next-upload a (sendsNext n (inPhase Uploading s) j m)
   next-after (At i) e = item-after i e
   next-after Nowhere e = end-after
 
-upload-from : (p : Phase) (l : ℕ) (s : State) (j m : List ℕ) (a : Account) → Tied l (during p s) j a → Fit (during p s) j m
-    → After l uploads a (uploadFrom p (during p s) j m)
-upload-from Resting l s j m a h f = refused-after l uploads a 14 _ j m h
-upload-from (Waiting w) l s j m a h f = refused-after l uploads a 14 _ j m h
-upload-from (Pending v) l s j m a h f = refused-after l uploads a 14 _ j m h
-upload-from Settling l s j m a h f = refused-after l uploads a 14 _ j m h
+upload-from : (p : Phase) (l : ℕ) (s : State) (j m : List ℕ) (a : Account) → Tied l (inPhase p s) j a → Fit (inPhase p s) j m
+    → After l send-next-upload a (uploadFrom p (inPhase p s) j m)
+upload-from Resting l s j m a h f = record { tied = h; lawful = tt }
+upload-from (Waiting w) l s j m a h f = record { tied = h; lawful = tt }
+upload-from (Pending v) l s j m a h f = record { tied = h; lawful = tt }
+upload-from Settling l s j m a h f = record { tied = h; lawful = tt }
 upload-from Uploading l s j m a h f = next-after l s j m a h f (nextDue (entriesOf (s .entries) j)) refl
 
-pub upload-after : (l : ℕ) (s : State) (j m : List ℕ) (a : Account) → Tied l s j a → After l uploads a (sendNextUpload s j m)
+pub upload-after : (l : ℕ) (s : State) (j m : List ℕ) (a : Account) → Tied l s j a → After l send-next-upload a (sendNextUpload s j m)
 unfolding sendNextUpload
 upload-after l s j m a h =
-    judged-after l uploads a (firstBroken (sendNextUploadRules s j m)) s j m (uploadFrom (s .phase) s j m) h
+    judged-after l send-next-upload a (firstBroken (sendNextUploadRules s j m)) s j m (uploadFrom (s .phase) s j m) h
     (λ z. upload-from (s .phase) l s j m a h (fit-first s j m _ refl z))

@@ -1,71 +1,59 @@
 -- Demand 3, for every settings value, every journal and message buffer lent, and every list of the eight calls.
-use mathlib.Core.Path.{_≡_, refl}
+use mathlib.Core.Path.{_≡_, refl, subst}
 use mathlib.Core.List.{List, [], _∷_}
-use mathlib.Core.Bool.{true}
+use mathlib.Core.Bool.{Bool, true}
 use Prim.Native.Nat.{ℕ, _≤_}
+use Rattle.message.specs.declared.Message.{Message}
 use Rattle.state.specs.declared.Settings.{Settings}
 use Rattle.terminal.specs.Events.{call}
 use Rattle.terminal.specs.Shapes.{SettingsShaped, EventShaped}
 use Rattle.history.specs.Words.{messageIn, isRequest, isReversal, isSettlement}
-use Rattle.history.specs.History.{left, account}
-use Rattle.history.specs.Demand.{Turn, Run, noted, runs, begun, Each, EachRequest, TurnsShaped, Carries, Demand3For, Demand3}
-use Rattle.history.proofs.Requests.{balanced, inReversals}
-use Rattle.history.proofs.Books.{counts-are, no-books}
+use Rattle.history.specs.History.{Given, History, Request, Account, account, batchOf}
+use Rattle.history.specs.Demand.{Invocation, Run, recorded, runs, begun, InvocationsShaped, Each, EachSent, EachRequest, inReversals, Carries, Demand3For, Demand3}
+use Rattle.history.proofs.Requests.{balanced}
+use Rattle.history.proofs.Books.{no-books}
 use Rattle.history.proofs.Tied.{Tied, bounded}
+use Rattle.history.proofs.After.{LawfulMessage, Lawful}
 use Rattle.history.proofs.Events.{call-after}
 
 -- what holds after each call
 record Holds (l : ℕ) (r : Run) : Type 0 where
   tied : Tied l (r .state) (r .journal) (account l (r .history))
-  settlements : Each (λ c h. (b : List ℕ) → c .given ≡ left b → isSettlement (messageIn b) ≡ true
-      → Carries (messageIn b) (account l h .requests)) (r .history)
-  no-request : Each (λ c h. (b : List ℕ) → c .given ≡ left b → isRequest (messageIn b) ≡ true
-      → inReversals (account l h .requests) ≡ 0) (r .history)
-  no-settlement : Each (λ c h. (b : List ℕ) → c .given ≡ left b → isSettlement (messageIn b) ≡ true
-      → inReversals (account l h .requests) ≡ 0) (r .history)
-  reversals : Each (λ c h. (b : List ℕ) → c .given ≡ left b → isReversal (messageIn b) ≡ true
-      → inReversals (account l h .requests) ≡ 1) (r .history)
-  limited : Each (λ c h. EachRequest (λ q. q .leavings ≤ l) (account l (c ∷ h) .requests)) (r .history)
+  lawful : Each (λ c h. Lawful (c .given) (account l h)) (r .history)
+  limited : Each (λ c h. EachRequest (λ q. q .sendings ≤ l) (batchOf l (c ∷ h))) (r .history)
 
 begun-holds : (x : Settings) (j : List ℕ) → SettingsShaped x → Holds (x .sendings) (begun x j)
 begun-holds x j w =
-    record {
-      tied =
-          record { sendings-set = refl; shaped = w; books = no-books; shape = tt };
-      settlements = tt;
-      no-request = tt;
-      no-settlement = tt;
-      reversals = tt;
-      limited = tt;
-    }
+    record { tied = record { kept = record { sendings-set = refl; shaped = w; books = no-books }; shape = tt }; lawful = tt; limited = tt }
 
-one-holds : (l : ℕ) (t : Turn) (r : Run) → EventShaped (t .event) → Holds l r
-    → Holds l (noted t r (call (t .event) (r .state) (r .journal) (t .message)))
+one-holds : (l : ℕ) (t : Invocation) (r : Run) → EventShaped (t .event) → Holds l r
+    → Holds l (recorded t r (call (t .event) (r .state) (r .journal) (t .message)))
 one-holds l t r w h =
     let k = call-after (t .event) l (r .state) (r .journal) (t .message) (account l (r .history)) w (h .tied) in
-    record {
-      tied = k .tied;
-      settlements = (k .lawful .settlements, h .settlements);
-      no-request = (k .lawful .no-request, h .no-request);
-      no-settlement = (k .lawful .no-settlement, h .no-settlement);
-      reversals = (k .lawful .reversals, h .reversals);
-      limited = (bounded (k .tied) .few, h .limited);
-    }
+    record { tied = k .tied; lawful = (k .lawful, h .lawful); limited = (bounded (k .tied) .few, h .limited) }
 
-all-hold : (ts : List Turn) (l : ℕ) (r : Run) → TurnsShaped ts → Holds l r → Holds l (runs ts r)
+all-hold : (ts : List Invocation) (l : ℕ) (r : Run) → InvocationsShaped ts → Holds l r → Holds l (runs ts r)
 all-hold [] l r w h = h
 all-hold (t ∷ ts) l r w h = all-hold ts l _ (w .1) (one-holds l t r (w .0) h)
+
+-- what holds of what a call gave holds of the message that it sent
+of-sent : (l : ℕ) (p : Message → Bool) (P : Message → List Request → Type 0)
+    → ((m : Message) (a : Account) → LawfulMessage m a → p m ≡ true → P m (a .requests))
+    → (h : History) → Each (λ c h. Lawful (c .given) (account l h)) h → EachSent l p P h
+of-sent l p P f [] w = tt
+of-sent l p P f (c ∷ h) w =
+    (λ b e. f (messageIn b) (account l h) (subst (λ (g : Given). Lawful g (account l h)) e (w .0)), of-sent l p P f h (w .1))
 
 stands : (l : ℕ) (r : Run) → Holds l r → Demand3For l r
 stands l r h =
     record {
-      settlements = h .settlements;
-      counts = counts-are (r .state .counts) (account l (r .history) .requests) (h .tied .books .counted);
-      balance = balanced (account l (r .history) .requests);
+      settlements = of-sent l isSettlement Carries (λ m a w. w .settlements) (r .history) (h .lawful);
+      counts = h .tied .kept .books .counted;
+      balance = balanced (batchOf l (r .history));
       one-waits = bounded (h .tied) .one-waits;
-      no-request = h .no-request;
-      no-settlement = h .no-settlement;
-      reversals = h .reversals;
+      no-request = of-sent l isRequest (λ m rs. inReversals rs ≡ 0) (λ m a w. w .no-request) (r .history) (h .lawful);
+      no-settlement = of-sent l isSettlement (λ m rs. inReversals rs ≡ 0) (λ m a w. w .no-settlement) (r .history) (h .lawful);
+      reversals = of-sent l isReversal (λ m rs. inReversals rs ≡ 1) (λ m a w. w .reversals) (r .history) (h .lawful);
       limited = h .limited;
     }
 

@@ -1,28 +1,30 @@
 -- The invariant: what the terminal and its journal say of the account of the history.
-use mathlib.Core.Path.{_≡_, refl}
+use mathlib.Core.Path.{_≡_, refl, ap}
 use mathlib.Core.List.{List, _∷_}
-use mathlib.Core.Bool.{true, false}
+use mathlib.Core.Bool.{Bool, true, false}
 use Prim.Native.Nat.{ℕ, _≤_}
 use native.Mathlib.Omega.{arith}
 use Rattle.message.specs.declared.Message.{Message}
-use Rattle.parts.specs.declared.Trace.{Trace}
-use Rattle.parts.specs.declared.Batch.{Batch}
+use Rattle.numbers.specs.declared.Trace.{Trace}
+use Rattle.numbers.specs.declared.Batch.{Batch}
 use Rattle.journal.specs.Journal.{entriesOf, totalsOf}
+use Rattle.kinds.specs.declared.Totals.{Totals}
 use Rattle.state.specs.declared.Request.{Request as Asked}
 use Rattle.state.specs.declared.Reversal.{Reversal}
 use Rattle.state.specs.declared.Awaited.{Awaited}
 use Rattle.state.specs.declared.Awaited.the-variants as awaited
 use Rattle.state.specs.declared.Phase.{Phase}
 use Rattle.state.specs.declared.Phase.the-variants.{Resting, Waiting, Pending, Settling, Uploading}
+use Rattle.state.specs.declared.Counts.{Counts}
 use Rattle.state.specs.declared.Settings.{Settings}
 use Rattle.state.specs.declared.State.{State}
 use Rattle.terminal.specs.Shapes.{SettingsShaped}
 use Rattle.history.specs.Words.{closesBatch}
-use Rattle.history.specs.History.{deciding, pending, out, Request, Account, isWaiting, inReversal}
-use Rattle.history.specs.Demand.{EachRequest, waiting}
+use Rattle.history.specs.History.{Fate, deciding, pending, out, Request, Account, withSending, whenSilent, whenHeard, byFate, reversing, withReversal, isWaiting, inReversal}
+use Rattle.history.specs.Demand.{EachRequest, waiting, inReversals}
 use Rattle.history.proofs.Said.{Says}
 use Rattle.history.proofs.Sent.{Asks}
-use Rattle.history.proofs.Requests.{request, AllDone, none-waits, all-few, inReversals, none-reversing}
+use Rattle.history.proofs.Requests.{AllDone, silent-same, heard-same, none-waits, all-few, none-reversing}
 use Rattle.history.proofs.Books.{Books}
 
 abbrev pub accountOf : List Request → Message → Account
@@ -32,35 +34,48 @@ accountOf rs m = record { requests = rs; last = m }
 abbrev pub NeverCloses : Message → Type 0
 NeverCloses m = (a : Message) → closesBatch m a ≡ false
 
+-- the latest request, alone not ended: its fate, and how often its reversal was sent
+pub record Latest (l : ℕ) (f : Fate) (n : ℕ) (a : Account) : Type 0 where
+  pub head : Request
+  pub rest : List Request
+  pub requests-are : a .requests ≡ head ∷ rest
+  pub fate-is : head .fate ≡ f
+  pub sendings-are : head .sendings ≡ n
+  pub few : n ≤ l
+  pub done : AllDone l rest
+
+-- silence and answers change the latest request only
+module _ {l : ℕ} {f : Fate} {n : ℕ} {a : Account} (d : Latest l f n a) where
+  pub silent-latest : (k : ℕ) → byFate (whenSilent k) (a .requests) ≡ whenSilent k f (d .head) ∷ d .rest
+  silent-latest k =
+      rw (d .requests-are, silent-same k l (d .rest) (d .done)) (ap (λ (x : Fate). whenSilent k x (d .head) ∷ d .rest) (d .fate-is))
+
+  pub heard-latest : (k : ℕ) (good : Bool) (b : List ℕ)
+      → byFate (whenHeard k good b) (a .requests) ≡ whenHeard k good b f (d .head) ∷ d .rest
+  heard-latest k good b =
+      rw (d .requests-are, heard-same k good b l (d .rest) (d .done))
+      (ap (λ (x : Fate). whenHeard k good b x (d .head) ∷ d .rest) (d .fate-is))
+
+-- a reversal that is sent is that of the latest request
+pub reversal-latest : {l n : ℕ} {a : Account} (d : Latest l pending n a) (v : Message)
+    → withReversal v (a .requests) ≡ withSending (out v) (d .head) ∷ d .rest
+unfolding withReversal reversing
+reversal-latest d v = rw (d .requests-are) (ap (λ (f : Fate). withSending (reversing v f) (d .head) ∷ d .rest) (d .fate-is))
+
 -- a card request is awaited: it is the latest, and awaits its decision
 pub record Deciding (l : ℕ) (x : Settings) (batch : Batch) (q : Asked) (a : Account) : Type 0 where
-  pub message : Message
-  pub rest : List Request
-  pub requests-are : a .requests ≡ request message deciding 0 ∷ rest
-  pub done : AllDone l rest
-  pub asks : Asks x batch q message
+  pub latest : Latest l deciding 0 a
+  pub asks : Asks x batch q (latest .head .message)
   pub never-closes : NeverCloses (a .last)
 
--- a reversal is pending: it is that of the latest request
-pub record InDoubt (l : ℕ) (v : Reversal) (a : Account) : Type 0 where
-  pub message : Message
-  pub rest : List Request
-  pub requests-are : a .requests ≡ request message (pending (v .sendings)) (v .sendings) ∷ rest
-  pub done : AllDone l rest
-  pub few : v .sendings ≤ l
-
--- a reversal is awaited: it is that of the latest request, and has left
+-- a reversal is awaited: it is that of the latest request, and was sent
 pub record Reversing (l : ℕ) (x : Settings) (batch : Batch) (v : Reversal) (a : Account) : Type 0 where
-  pub message : Message
   pub reversal : Message
-  pub rest : List Request
-  pub requests-are : a .requests ≡ request message (out (v .sendings) reversal) (v .sendings) ∷ rest
-  pub done : AllDone l rest
-  pub few : v .sendings ≤ l
+  pub latest : Latest l (out reversal) (v .sendings) a
   pub said : Says x batch (v .request .trace) 0x0400 (v .request .kind) 0 reversal
   pub never-closes : NeverCloses (a .last)
 
--- a settlement or the upload's end is awaited: it left last, and no request waits
+-- a settlement or the upload's end is awaited: it was sent last, and no request waits
 pub record Closing (l : ℕ) (x : Settings) (batch : Batch) (trace : Trace) (i code : ℕ) (a : Account) : Type 0 where
   pub done : AllDone l (a .requests)
   pub said : Says x batch trace i 0 code (a .last)
@@ -77,51 +92,61 @@ AwaitedShape l x batch (awaited.Settlement trace) a = Closing l x batch trace 0x
 AwaitedShape l x batch (awaited.Item i) a = UploadingItem l a
 AwaitedShape l x batch (awaited.End trace) a = Closing l x batch trace 0x0320 202 a
 
+-- by the phase; a pending reversal is that of the latest request
 abbrev pub Shape : ℕ → Settings → Batch → Phase → Account → Type 0
 Shape l x batch Resting a = AllDone l (a .requests)
 Shape l x batch (Waiting w) a = AwaitedShape l x batch w a
-Shape l x batch (Pending v) a = InDoubt l v a
+Shape l x batch (Pending v) a = Latest l pending (v .sendings) a
 Shape l x batch Settling a = AllDone l (a .requests)
 Shape l x batch Uploading a = AllDone l (a .requests)
 
+-- in every phase: the settings, and the books
+pub record Kept (l : ℕ) (x : Settings) (c : Counts) (t : Totals) (rs : List Request) : Type 0 where
+  pub sendings-set : x .sendings ≡ l
+  pub shaped : SettingsShaped x
+  pub books : Books c t rs
+
 pub record Tied (l : ℕ) (s : State) (j : List ℕ) (a : Account) : Type 0 where
-  pub sendings-set : s .settings .sendings ≡ l
-  pub shaped : SettingsShaped (s .settings)
-  pub books : Books (s .counts) (totalsOf (entriesOf (s .entries) j)) (a .requests)
+  pub kept : Kept l (s .settings) (s .counts) (totalsOf (entriesOf (s .entries) j)) (a .requests)
   pub shape : Shape l (s .settings) (s .batch) (s .phase) a
 
--- at most the latest request waits, and its reversal has left at most l times
+-- at most the latest request waits, and no reversal was sent more than l times
 pub record Bounded (l : ℕ) (rs : List Request) : Type 0 where
   pub one-waits : waiting rs ≤ 1
-  pub few : EachRequest (λ q. q .leavings ≤ l) rs
+  pub few : EachRequest (λ q. q .sendings ≤ l) rs
 
-bounded-done : (l : ℕ) (rs : List Request) → AllDone l rs → Bounded l rs
-bounded-done l rs d = let z = none-waits l rs d in record { one-waits = omega arith; few = all-few l rs d }
+module _ (l : ℕ) (a : Account) where
+  bounded-done : AllDone l (a .requests) → Bounded l (a .requests)
+  bounded-done d = let z = none-waits l (a .requests) d in record { one-waits = omega arith; few = all-few l (a .requests) d }
 
-bounded-open : (l : ℕ) (r : Request) (rest rs : List Request) → isWaiting (r .fate) ≡ true → rs ≡ r ∷ rest → AllDone l rest
-    → r .leavings ≤ l → Bounded l rs
-bounded-open l r rest rs w e d n =
-    rw e (record { one-waits = rw (w, none-waits l rest d) (omega arith); few = (n, all-few l rest d) })
+  bounded-latest : (f : Fate) (n : ℕ) → isWaiting f ≡ true → Latest l f n a → Bounded l (a .requests)
+  bounded-latest f n w d =
+      let e = d .few in
+      let k = d .sendings-are in
+      rw (d .requests-are)
+      (record {
+        one-waits = rw (d .fate-is, w, none-waits l (d .rest) (d .done)) (omega arith);
+        few = (omega arith, all-few l (d .rest) (d .done));
+      })
 
-module _ (l : ℕ) (x : Settings) (batch : Batch) (a : Account) where
-  awaited-bounded : (w : Awaited) → AwaitedShape l x batch w a → Bounded l (a .requests)
-  awaited-bounded (awaited.Request q) d = bounded-open l _ (d .rest) (a .requests) refl (d .requests-are) (d .done) (omega arith)
-  awaited-bounded (awaited.Reversal v) d = bounded-open l _ (d .rest) (a .requests) refl (d .requests-are) (d .done) (d .few)
-  awaited-bounded (awaited.Settlement trace) d = bounded-done l (a .requests) (d .done)
-  awaited-bounded (awaited.Item i) d = bounded-done l (a .requests) (d .done)
-  awaited-bounded (awaited.End trace) d = bounded-done l (a .requests) (d .done)
+  -- between the cause of a reversal and its end there is one
+  pub one-reversing : (f : Fate) (n : ℕ) → inReversal f ≡ true → Latest l f n a → inReversals (a .requests) ≡ 1
+  one-reversing f n w d = rw (d .requests-are, d .fate-is, w, none-reversing l (d .rest) (d .done))
 
-  shape-bounded : (p : Phase) → Shape l x batch p a → Bounded l (a .requests)
-  shape-bounded Resting d = bounded-done l (a .requests) d
-  shape-bounded (Waiting w) d = awaited-bounded w d
-  shape-bounded (Pending v) d = bounded-open l _ (d .rest) (a .requests) refl (d .requests-are) (d .done) (d .few)
-  shape-bounded Settling d = bounded-done l (a .requests) d
-  shape-bounded Uploading d = bounded-done l (a .requests) d
+  module _ (x : Settings) (batch : Batch) where
+    awaited-bounded : (w : Awaited) → AwaitedShape l x batch w a → Bounded l (a .requests)
+    awaited-bounded (awaited.Request q) d = bounded-latest deciding 0 refl (d .latest)
+    awaited-bounded (awaited.Reversal v) d = bounded-latest (out (d .reversal)) (v .sendings) refl (d .latest)
+    awaited-bounded (awaited.Settlement trace) d = bounded-done (d .done)
+    awaited-bounded (awaited.Item i) d = bounded-done (d .done)
+    awaited-bounded (awaited.End trace) d = bounded-done (d .done)
+
+    shape-bounded : (p : Phase) → Shape l x batch p a → Bounded l (a .requests)
+    shape-bounded Resting d = bounded-done d
+    shape-bounded (Waiting w) d = awaited-bounded w d
+    shape-bounded (Pending v) d = bounded-latest pending (v .sendings) refl d
+    shape-bounded Settling d = bounded-done d
+    shape-bounded Uploading d = bounded-done d
 
 pub bounded : {l : ℕ} {s : State} {j : List ℕ} {a : Account} → Tied l s j a → Bounded l (a .requests)
-bounded {l} {s} {j} {a} h = shape-bounded l (s .settings) (s .batch) a (s .phase) (h .shape)
-
--- between the cause of a reversal and its end there is one
-pub one-reversing : (l : ℕ) (r : Request) (rest rs : List Request) → inReversal (r .fate) ≡ true → rs ≡ r ∷ rest → AllDone l rest
-    → inReversals rs ≡ 1
-one-reversing l r rest rs w e d = rw (e, w, none-reversing l rest d)
+bounded {l} {s} {j} {a} h = shape-bounded l a (s .settings) (s .batch) (s .phase) (h .shape)

@@ -9,14 +9,14 @@ use Rattle.entry.specs.Entry.{entrySize}
 use Rattle.state.specs.declared.Settings.{Settings}
 use Rattle.rules.specs.Rules.{settingsInForm}
 use Rattle.history.specs.History.{refused}
-use Rattle.history.specs.Demand.{Turn, runs, begun, Each}
+use Rattle.history.specs.Demand.{Invocation, runs, begun, Each}
 
 -- each message buffer lent has room
-abbrev pub Roomy : List Turn → Type 0
-Roomy [] = Unit {0}
-Roomy (t ∷ ts) = (largest ≤ length (t .message)) × Roomy ts
+abbrev pub BuffersSuffice : List Invocation → Type 0
+BuffersSuffice [] = Unit {0}
+BuffersSuffice (t ∷ ts) = (largest ≤ length (t .message)) × BuffersSuffice ts
 
 -- from a fresh terminal with settings in range and buffers large enough, no call of any list is refused by 1 or 2
-abbrev pub NeverUnfit : Type 0
-NeverUnfit = (x : Settings) (j : List ℕ) (ts : List Turn) → settingsInForm x ≡ true → entrySize * x .limit ≤ length j → Roomy ts
+abbrev pub NeverRefusedByRules12 : Type 0
+NeverRefusedByRules12 = (x : Settings) (j : List ℕ) (ts : List Invocation) → settingsInForm x ≡ true → entrySize * x .limit ≤ length j → BuffersSuffice ts
     → Each (λ c h. (c .given ≡ refused 1 → ⊥) × (c .given ≡ refused 2 → ⊥)) (runs ts (begun x j) .history)

@@ -1,4 +1,4 @@
--- What a message says, in the words of document 01: its type, its fields, and whether an answer matches what left.
+-- What a message says, in the words of document 01: its type, its fields, and whether an answer matches what was sent.
 -- Nothing here is the terminal's own.
 use mathlib.Core.List.{List, [], _∷_}
 use mathlib.Core.Bool.{Bool, true, false, cond, not, _&&_, _||_}
@@ -6,13 +6,14 @@ use Prim.Native.Nat.{ℕ, _+_}
 use lib.Dec.{leb, eqb}
 use Rattle.digits.specs.declared.Number.{Number}
 use Rattle.digits.specs.declared.Number.the-variants.{Is, Not}
+use Rattle.digits.specs.Packed.{numeral}
 use Rattle.field.specs.Table.{among}
 use Rattle.field.specs.Bitmap.{names}
 use Rattle.message.specs.Message.{fieldOf}
 use Rattle.message.specs.declared.Message.{Message}
 use Rattle.reading.specs.Reading.{readMessage}
-use Rattle.reading.specs.declared.Outcome.{Outcome}
-use Rattle.reading.specs.declared.Outcome.the-variants.{Read, Refused}
+use Rattle.reading.specs.declared.ReadOutcome.{ReadOutcome}
+use Rattle.reading.specs.declared.ReadOutcome.the-variants.{Read, Refused}
 use Rattle.parts.specs.Parts.{sameBytes, numberIn, partOf}
 use Rattle.parts.specs.declared.Part.the-variants as part
 
@@ -20,23 +21,18 @@ use Rattle.parts.specs.declared.Part.the-variants as part
 abbrev pub messageIn : List ℕ → Message
 messageIn b = readMessage b .message
 
-abbrev pub reads : Outcome → Bool
+abbrev pub reads : ReadOutcome → Bool
 reads Read = true
 reads (Refused n) = false
 
--- a number, 0 where there is none
-abbrev pub value : Number → ℕ
-value (Is x) = x
-value Not = 0
-
--- kind and amount of a request are read from the message that left: 60.1 and field 4
+-- kind and amount of a request are read from the message sent: 60.1 and field 4
 unfoldable pub kindIn : Message → ℕ
-kindIn m = value (partOf m part.Kind)
+kindIn m = numeral (partOf m part.Kind)
 
 unfoldable pub amountIn : Message → ℕ
-amountIn m = value (numberIn m 4 0 12)
+amountIn m = numeral (numberIn m 4 0 12)
 
--- the messages that leave: card requests go as 0100, 0200 or 0220, reversals as 0400, settlements as 0500, the upload's end as
+-- the messages sent: card requests go as 0100, 0200 or 0220, reversals as 0400, settlements as 0500, the upload's end as
 -- 0320 with management code 202
 unfoldable pub isRequest : Message → Bool
 isRequest m = among (m .indicator) (0x0100 ∷ 0x0200 ∷ 0x0220 ∷ [])
@@ -48,7 +44,7 @@ unfoldable pub isSettlement : Message → Bool
 isSettlement m = eqb (m .indicator) 0x0500
 
 unfoldable pub isEnd : Message → Bool
-isEnd m = eqb (m .indicator) 0x0320 && eqb (value (partOf m part.Management)) 202
+isEnd m = eqb (m .indicator) 0x0320 && eqb (numeral (partOf m part.Management)) 202
 
 -- a field of the answer equals the one sent
 unfoldable pub sameField : ℕ → Message → Message → Bool
@@ -69,11 +65,11 @@ isApproval a = codeIs 0x30 0x30 a
 
 -- the reconciliation digit of field 48
 unfoldable pub digitIn : Message → ℕ
-digitIn a = value (partOf a part.Reconciliation)
+digitIn a = numeral (partOf a part.Reconciliation)
 
 -- matches if its type is the awaited one plus 10, and 11, 41, 42 and 60.2 equal those sent
-unfoldable pub matchesWhatLeft : Message → Message → Bool
-matchesWhatLeft m a =
+unfoldable pub matchesMessage : Message → Message → Bool
+matchesMessage m a =
     eqb (a .indicator) (m .indicator + 0x10)
     && sameField 11 m a && sameField 41 m a && sameField 42 m a
     && sameNumber (partOf a part.Batch) (partOf m part.Batch)
@@ -86,9 +82,9 @@ holdsItsFields m a =
       (names (a .bitmap) 39
       && (not (isRequest m && isApproval a) || sameField 4 m a && names (a .bitmap) 13 && names (a .bitmap) 37))
 
--- these bytes are a matching answer to what left
+-- these bytes are a matching answer to the message sent
 unfoldable pub isMatching : Message → List ℕ → Bool
-isMatching m b = reads (readMessage b .outcome) && matchesWhatLeft m (messageIn b) && holdsItsFields m (messageIn b)
+isMatching m b = reads (readMessage b .outcome) && matchesMessage m (messageIn b) && holdsItsFields m (messageIn b)
 
 -- the MAC is good: the key pad says so, and there is a field 64
 unfoldable pub macGood : Bool → Message → Bool
