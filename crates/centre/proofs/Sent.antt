@@ -17,7 +17,7 @@ use Rattle.message.specs.Build.{digits, bytes}
 use Rattle.message.specs.declared.Message.{Message}
 use Rattle.parts.specs.Parts.{copies}
 use Rattle.compose.specs.Compose.{withItem}
-use Rattle.lines.specs.Hexadecimal.{toHex}
+use Rattle.hexadecimal.specs.Hexadecimal.{toHex}
 use Rattle.centre.specs.Centre.{sentNumber, bytesSent, traceFigures}
 
 take-replicate : (k n x : ℕ) → k ≤ n → take k (replicate n x) ≡ replicate k x
@@ -55,43 +55,3 @@ module _ (m : Message) (n : ℕ) (sent : Message) (k : ℕ) (h : k ≤ 6) {v : �
       let back = front-back k e (zeros 6) l h in
       let yes : b ≡ true = q ∙ rw back (eq-eqb (length (take (2 * k) (zeros 12))) (2 * length e) (omega arith)) in
       g ∙ rw (front-back (2 * k) f (zeros 12) w (omega arith), s, yes, back, p, lk, t)
-
--- field 48 in an array of zeros: one part put at its front, two, three
-abbrev pub one : List ℕ → List ℕ
-one x = x ++ zeros 47
-
-abbrev pub two : List ℕ → List ℕ → List ℕ
-two x y = putMid 15 15 (one x) y
-
-abbrev pub three : List ℕ → List ℕ → List ℕ → List ℕ
-three x y z = putMid 30 1 (two x y) z
-
--- field 48: the debits, the credits, the digit, zeros
-abbrev pub whole : ℕ → ℕ → ℕ → List ℕ
-whole a b d = digitsOf 15 a ++ (digitsOf 15 b ++ (digitsOf 1 d ++ zeros 31))
-
-digit : (x : ℕ) → leb (x % 10) 9 ≡ true
-digit x = le-leb (x % 10) 9 (omega arith)
-
-whole-digits : (a b d : ℕ) → allDigits (whole a b d) ≡ true
-unfolding allDigits
-whole-digits a b d = simp digit
-
-module _ (a : ℕ) {x : List ℕ} (p : x ≡ digitsOf 15 a) where
-  pub one-length : length (one x) ≡ 62
-  one-length = rw p
-
-  module _ (b : ℕ) {y : List ℕ} (q : y ≡ digitsOf (length (take 15 (drop 15 (one x)))) b) where
-    pub two-length : length (two x y) ≡ 62
-    two-length = rw (q, p)
-
-    module _ (d : ℕ) {z : List ℕ} (s : z ≡ digitsOf (length (take 1 (drop 30 (two x y)))) d) where
-      three-is : three x y z ≡ whole a b d
-      three-is = rw (s, q, p)
-
-      pub three-length : length (three x y z) ≡ 62
-      three-length = rw three-is
-
-      pub three-put : (m : Message) {r : Message}
-          → r ≡ cond (allDigits (three x y z)) (withItem (digits 48 (three x y z)) m) m → r ≡ withItem (digits 48 (whole a b d)) m
-      three-put m g = g ∙ rw (three-is, whole-digits a b d)

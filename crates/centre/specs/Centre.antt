@@ -10,10 +10,13 @@ use Rattle.field.specs.Table.{among}
 use Rattle.message.specs.Message.{fieldOf}
 use Rattle.message.specs.Build.{Item, digits, bytes, messageOf}
 use Rattle.message.specs.declared.Message.{Message}
-use Rattle.packed.specs.Packed.{numeral}
-use Rattle.parts.specs.Parts.{copies, numberIn}
+use Rattle.digits.specs.Packed.{numeral}
+use Rattle.parts.specs.Layout.{laid}
+use Rattle.parts.specs.Parts.{copies, numberIn, partOf}
+use Rattle.parts.specs.declared.Part.{Part}
+use Rattle.parts.specs.declared.Part.the-variants.{DebitAmount, DebitCount, CreditAmount, CreditCount}
 use Rattle.compose.specs.Compose.{withAll}
-use Rattle.lines.specs.Hexadecimal.{toHex}
+use Rattle.hexadecimal.specs.Hexadecimal.{toHex}
 use Rattle.centre.specs.declared.Left.{Left}
 use Rattle.centre.specs.declared.Left.the-variants.{Nothing, Request, Reversal, Settlement, Upload}
 
@@ -82,10 +85,14 @@ replyFields m date code = bytes 39 code ∷ (sentFields m ++ alsoTo (leftAs (m .
 unfoldable pub reply : Message → ℕ → List ℕ → Message
 reply m date code = withAll (replyFields m date code) (messageOf (answerType (m .indicator)) [])
 
--- field 48 as sent with this digit: the totals are its first thirty digits, and 31 zeros follow the digit
+-- a part as sent
+abbrev pub sentPart : Part → Message → ℕ
+sentPart p m = numeral (partOf m p)
+
+-- field 48 as sent with this digit, and zeros after it
 abbrev pub field48With : Message → ℕ → List ℕ
 field48With m digit =
-    digitsOf 15 (sentNumber 48 0 15 m) ++ (digitsOf 15 (sentNumber 48 15 15 m) ++ (digitsOf 1 digit ++ replicate 31 0))
+    laid 48 (sentPart DebitAmount m ∷ sentPart DebitCount m ∷ sentPart CreditAmount m ∷ sentPart CreditCount m ∷ digit ∷ [])
 
 -- 11, 41, 42, 48 as sent with this digit, 60
 abbrev pub reconciliationFields : Message → ℕ → List Item

@@ -1,10 +1,12 @@
 // The simulated centre: what it answers to a message that left.
 use message::Message;
+use parts::Part;
 ghost use mathlib.Core.Path.{_≡_};
 ghost use Prim.Native.Nat.{_*_, _≤_};
 ghost use Rattle.message.specs.Build.{digits, bytes};
+ghost use Rattle.parts.specs.Layout.{withPart};
 ghost use Rattle.compose.specs.Compose.{withItem, withAll};
-ghost use Rattle.centre.specs.Centre.{leftAs, answerType, sentNumber, digitsSent, bytesSent, sentFields, traceFigures, macField, authorisationField, approvalFields, alsoTo, reply, field48With, reconciliation};
+ghost use Rattle.centre.specs.Centre.{leftAs, answerType, sentNumber, digitsSent, bytesSent, sentFields, traceFigures, macField, authorisationField, approvalFields, alsoTo, reply, sentPart, field48With, reconciliation};
 
 // What left.
 pub enum Left {
@@ -30,6 +32,24 @@ pub fn left_as(indicator: u16) -> Left
     }
 }
 
+// The answer to a message that left, with this code and on this date.
+pub fn reply(sent: Message, date: u16, code: [u8; 2]) -> Message
+    ensures { λ r. ⌜ r ≡ reply sent date code ⌝ }
+{
+    let left = left_as(sent.indicator);
+    let m = compose::typed(answer_type(sent.indicator));
+    let also = with_also(m, left, sent, date, code);
+    compose::with_bytes(with_sent_fields(also, sent), 39, &code)
+}
+
+// The answer to a settlement, with this reconciliation digit.
+pub fn reconciliation(sent: Message, digit: u8) -> Message
+    ensures { λ r. ⌜ r ≡ reconciliation sent digit ⌝ }
+{
+    let m = compose::typed(answer_type(sent.indicator));
+    with_field48(with_sent_fields(m, sent), sent, digit)
+}
+
 fn answer_type(indicator: u16) -> u16
     ensures { λ r. ⌜ r ≡ answerType indicator ⌝ }
 {
@@ -48,7 +68,7 @@ fn answer_type(indicator: u16) -> u16
 fn with_digits_sent(m: Message, n: u8, count: u8, sent: Message) -> Message
     ensures { λ r. ⌜ r ≡ withItem (digitsSent n count sent) m ⌝ }
 {
-    let x = packed::numeral(parts::number_in(sent, n, 0, count as usize));
+    let x = digits::numeral(parts::number_in(sent, n, 0, count as usize));
     compose::with_number(m, n, count, x)
 }
 
@@ -75,7 +95,7 @@ fn with_sent_fields(m: Message, sent: Message) -> Message
 fn trace_sent(sent: Message) -> u64
     ensures { λ r. ⌜ r ≡ sentNumber 11 0 6 sent ⌝ }
 {
-    packed::numeral(parts::number_in(sent, 11, 0, 6))
+    digits::numeral(parts::number_in(sent, 11, 0, 6))
 }
 
 // The message with field n holding the trace as digits, two for each of so many bytes.
@@ -86,8 +106,8 @@ fn with_trace_figures(m: Message, n: u8, pairs: usize, sent: Message) -> Message
     let end = 2 * pairs;
     let mut figures = [0u8; 6];
     let mut text = [0u8; 12];
-    packed::put_number(trace_sent(sent), &mut figures[..pairs]);
-    lines::put_hex(&figures[..pairs], &mut text[..end]);
+    digits::put_number(trace_sent(sent), &mut figures[..pairs]);
+    hexadecimal::put_hex(&figures[..pairs], &mut text[..end]);
     compose::with_bytes(m, n, &text[..end])
 }
 
@@ -129,36 +149,21 @@ fn with_also(m: Message, left: Left, sent: Message, date: u16, code: [u8; 2]) ->
     }
 }
 
-// The answer to a message that left, with this code and on this date.
-pub fn reply(sent: Message, date: u16, code: [u8; 2]) -> Message
-    ensures { λ r. ⌜ r ≡ reply sent date code ⌝ }
+// Puts a part as it was sent.
+fn put_sent(sent: Message, p: Part, ds: &mut [u8])
+    ensures { λ _. ⌜ now (ds .exit) ≡ withPart p (sentPart p sent) (now (ds .entry)) ⌝ }
 {
-    let left = left_as(sent.indicator);
-    let m = compose::typed(answer_type(sent.indicator));
-    let also = with_also(m, left, sent, date, code);
-    compose::with_bytes(with_sent_fields(also, sent), 39, &code)
+    parts::put_part(p, digits::numeral(parts::part_of(sent, p)), ds);
 }
 
 fn with_field48(m: Message, sent: Message, digit: u8) -> Message
     ensures { λ r. ⌜ r ≡ withItem (digits 48 (field48With sent digit)) m ⌝ }
 {
     let mut ds = [0u8; 62];
-    digits::digits_into(
-        packed::numeral(parts::number_in(sent, 48, 0, 15)),
-        &mut ds[..15],
-    );
-    digits::digits_into(
-        packed::numeral(parts::number_in(sent, 48, 15, 15)),
-        &mut ds[15..30],
-    );
-    digits::digits_into(digit as u64, &mut ds[30..31]);
+    put_sent(sent, Part::DebitAmount, &mut ds);
+    put_sent(sent, Part::DebitCount, &mut ds);
+    put_sent(sent, Part::CreditAmount, &mut ds);
+    put_sent(sent, Part::CreditCount, &mut ds);
+    parts::put_part(Part::Reconciliation, digit as u64, &mut ds);
     compose::with_digits(m, 48, &ds)
-}
-
-// The answer to a settlement, with this reconciliation digit.
-pub fn reconciliation(sent: Message, digit: u8) -> Message
-    ensures { λ r. ⌜ r ≡ reconciliation sent digit ⌝ }
-{
-    let m = compose::typed(answer_type(sent.indicator));
-    with_field48(with_sent_fields(m, sent), sent, digit)
 }

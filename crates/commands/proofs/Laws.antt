@@ -1,34 +1,37 @@
 -- Laws of what a line of a script does.
 use mathlib.Core.Path.{_≡_, refl, sym, ap, subst, _∙_}
-use mathlib.Core.List.{List, []}
-use mathlib.Core.Bool.{Bool, true, false, cond, not, _&&_, _||_, Bool·not-not}
+use mathlib.Core.List.{List, [], _∷_}
+use mathlib.Core.Bool.{Bool, true, false, cond, _&&_}
 use Prim.Native.Nat.{ℕ, _/_, _≤_}
 use native.Mathlib.Omega.{arith}
 use lib.Dec.{leb}
-use lib.ListN.{length, take, drop, length-append}
-use lib.Seq.{take-at, take-append-le}
-use borrow.Author.Tests.{ne-eqb}
+use lib.ListN.{length, take, length-append}
+use lib.Seq.{take-at}
+use borrow.Author.Tests.{eq-eqb, ne-eqb}
 use Rattle.message.specs.declared.Message.{Message}
-use Rattle.lines.specs.Buffer.{Put}
-use Rattle.lines.specs.Hexadecimal.{isHex, fromHex}
-use Rattle.lines.specs.Outcome.{hexOutcome, hexStored}
-use Rattle.lines.specs.declared.Hex.{Hex}
-use Rattle.lines.specs.declared.Hex.the-variants.{Bytes, Not, TooLong}
-use Rattle.lines.proofs.Hexadecimal.{length-from-hex}
-use Rattle.dump.specs.Shown.{messageTextIn}
+use Rattle.hexadecimal.specs.Hexadecimal.{isHex, fromHex}
+use Rattle.hexadecimal.specs.Outcome.{hexOutcome, hexStored}
+use Rattle.hexadecimal.specs.declared.Hex.{Hex}
+use Rattle.hexadecimal.specs.declared.Hex.the-variants.{Bytes, Not, TooLong}
+use Rattle.hexadecimal.proofs.Hexadecimal.{length-from-hex}
+use Rattle.dump.specs.Shown.{messageText}
 use Rattle.texts.specs.Text.{Text, text}
 use Rattle.texts.proofs.Texts.{start}
+use Rattle.words.specs.Rows.{row}
 use Rattle.terminal.specs.Events.{answers}
 use Rattle.script.specs.Shapes.{isBytes}
 use Rattle.script.specs.Script.{parsed}
+use Rattle.script.specs.declared.Command.{Command}
+use Rattle.script.specs.declared.Command.the-variants as command
 use Rattle.script.specs.declared.Line.{Line}
+use Rattle.script.specs.declared.Show.{Show}
 use Rattle.screen.specs.Outcomes.{errorLine}
-use Rattle.centre.specs.Centre.{leftAs}
+use Rattle.centre.specs.Centre.{leftAs, reply, reconciliation}
 use Rattle.centre.specs.declared.Left.{Left}
-use Rattle.rehearsal.specs.declared.Rehearsal.{Rehearsal}
+use Rattle.stage.specs.declared.Rehearsal.{Rehearsal}
 use Rattle.rehearsal.specs.declared.Acted.{Acted}
 use Rattle.rehearsal.specs.Rehearsal.{Done, Did, writes, called, last, messageIn, bytesOf}
-use Rattle.commands.specs.Commands.{lastLeft, fieldsText, bytesIn, hexLength, standsAlone, commandDone, done}
+use Rattle.commands.specs.Commands.{fieldsText, shown, bytesIn, hexLength, errors, lineError, commandDone, obeyed, done}
 
 -- what is done where x is y
 pub met : {A : Type 0} (f : A → Done) {x y : A} {a : Acted} {j m o : List ℕ} → x ≡ y → Did (f y) a j m o → Did (f x) a j m o
@@ -44,24 +47,19 @@ pub wrote : {a : Acted} {r : Rehearsal} {w o : List ℕ} (j m : List ℕ) → (a
     → Did (writes w r j m) a j m o
 wrote j m h = record { rehearsal-is = h .0; journal-is = refl; message-is = refl; text-is = h .1 }
 
--- a text that was put at the front of a buffer
-pub put : {w o l : List ℕ} {n : ℕ} → Put w o n l → Text w n l
-put {w} {o} {l} {n} p =
-    record {
-      count = rw (p .stored, length-append) (omega (arith, p .count));
-      holds = rw (p .stored) (take-append-le n w (drop n o) (omega (arith, p .count)));
-    }
+-- what is shown where x is k
+pub shows : {n : ℕ} {o : List ℕ} {x k : Show} (r : Rehearsal) (j m : List ℕ) → x ≡ k → Text (shown k r j m) n o → Text (shown x r j m) n o
+shows {n} {o} r j m e t = subst (λ (y : Show). Text (shown y r j m) n o) (sym e) t
 
 -- the last message that left is q
-module _ (room : ℕ) (b : List ℕ) {q l : List ℕ} {n : ℕ} (e : q ≡ b) where
-  pub no-fields : length q ≡ 0 → Text (text "message none\n") n l → Text (fieldsText room b) n l
+module _ (b : List ℕ) {q l : List ℕ} {n : ℕ} (e : q ≡ b) where
+  pub no-fields : length q ≡ 0 → Text (text "message none\n") n l → Text (fieldsText b) n l
   unfolding fieldsText
   no-fields z t = rw (← e, z) t
 
-  pub some-fields : {o : List ℕ} {s : Message} → (length q ≡ 0 → ⊥) → s ≡ messageIn b → Put (messageTextIn room s (length q)) o n l
-      → Text (fieldsText room b) n l
+  pub some-fields : {s : Message} → (length q ≡ 0 → ⊥) → s ≡ messageIn b → Text (messageText s (length q)) n l → Text (fieldsText b) n l
   unfolding fieldsText
-  some-fields z h p = rw (← h, ← e, ne-eqb (length q) 0 z) (put p)
+  some-fields z h p = rw (← h, ← e, ne-eqb (length q) 0 z) p
 
 -- text w in hexadecimal gave h, and n bytes in a buffer that was o
 module _ (w o : List ℕ) {h : Hex} {b : List ℕ} {n : ℕ} (e : h ≡ hexOutcome w (length o)) (s : b ≡ hexStored h w o) (l : n ≡ hexLength h) where
@@ -90,35 +88,44 @@ pub silent : {a : Acted} {q r : Rehearsal} (j m o : List ℕ) → a ≡ record {
     → Did (writes [] r j m) a j m o
 silent j m o e h = let g = given e (start o) in wrote j m (g .0 ∙ h, g .1)
 
--- the last message that left is s
-module _ (r : Rehearsal) (j m : List ℕ) {s : Message} (e : s ≡ messageIn (last r m)) {a : Acted} {j₂ m₂ o : List ℕ} where
-  -- it left as k
-  pub left-is : {l k : Left} (f : Left → Done) → l ≡ leftAs (s .indicator) → l ≡ k → Did (f k) a j₂ m₂ o
-      → Did (f (lastLeft r m)) a j₂ m₂ o
-  left-is f h t = met f (ap (λ (x : Message). leftAs (x .indicator)) (sym e) ∙ sym h ∙ t)
+-- line number, of words s, where the last message that left is x and left as l
+module _ (number : ℕ) (s : List ℕ) (r : Rehearsal) (j m : List ℕ) {line : Line} {x : Message} {l : Left} {n : ℕ} (e : line ≡ parsed s)
+    (h : x ≡ messageIn (last r m)) (q : l ≡ leftAs (x .indicator)) (t : n ≡ lineError (line .command) (r .begun) l) where
+  error-is : lineError (parsed s .command) (r .begun) (leftAs (messageIn (last r m) .indicator)) ≡ n
+  error-is =
+      ap (λ (z : Line). lineError (z .command) (r .begun) (leftAs (messageIn (last r m) .indicator))) (sym e)
+      ∙ ap (λ (z : Message). lineError (line .command) (r .begun) (leftAs (z .indicator))) (sym h)
+      ∙ ap (λ (z : Left). lineError (line .command) (r .begun) z) (sym q)
+      ∙ sym t
 
-  -- q answers it
-  pub answered-by : {q : Message} (f : Message → Message) (good : Bool) → q ≡ f s
-      → Did (called (answers (bytesOf q) good) r j m) a j₂ m₂ o
-      → Did (called (answers (bytesOf (f (messageIn (last r m)))) good) r j m) a j₂ m₂ o
-  answered-by f good h = met (λ (x : Message). called (answers (bytesOf x) good) r j m) (ap f (sym e) ∙ sym h)
-
--- line number, of words s
-module _ (number room : ℕ) (s : List ℕ) (r : Rehearsal) (j m : List ℕ) {line : Line} {alone : Bool} (e : line ≡ parsed s)
-    (h : alone ≡ standsAlone (line .command)) where
-  test : {b : Bool} → not (r .begun || alone) ≡ b → (r .begun || standsAlone (parsed s .command)) ≡ not b
-  test t =
-      ap (λ (x : Line). r .begun || standsAlone (x .command)) (sym e) ∙ ap (λ (x : Bool). r .begun || x) (sym h)
-      ∙ sym (Bool·not-not (r .begun || alone))
-      ∙ ap not t
-
-  pub obeyed : {a : Acted} {j₂ m₂ o : List ℕ} → not (r .begun || alone) ≡ false
-      → Did (commandDone (line .command) line number room s r j m) a j₂ m₂ o → Did (done number room s r j m) a j₂ m₂ o
+  pub not-done : {a : Acted} {j₂ m₂ o : List ℕ} → (n ≡ 0 → ⊥) → Did (writes (errorLine number (row n errors)) r j m) a j₂ m₂ o
+      → Did (done number s r j m) a j₂ m₂ o
   unfolding done
-  obeyed {a} {j₂} {m₂} {o} t d =
-      rw (test t) (subst (λ (x : Line). Did (commandDone (x .command) x number room s r j m) a j₂ m₂ o) e d)
+  not-done z d = met (λ (k : ℕ). obeyed k (parsed s) number s r j m) error-is (rw (ne-eqb n 0 z) d)
 
-  pub no-terminal : {a : Acted} {j₂ m₂ o : List ℕ} → not (r .begun || alone) ≡ true
-      → Did (writes (errorLine number (text "no terminal")) r j m) a j₂ m₂ o → Did (done number room s r j m) a j₂ m₂ o
+  pub is-done : {a : Acted} {j₂ m₂ o : List ℕ} → n ≡ 0 → {k : Command} → line .command ≡ k
+      → Did (commandDone k line number s r j m) a j₂ m₂ o → Did (done number s r j m) a j₂ m₂ o
   unfolding done
-  no-terminal t d = rw (test t) d
+  is-done {a} {j₂} {m₂} {o} z {k} g d =
+      met (λ (k : ℕ). obeyed k (parsed s) number s r j m) error-is
+      (rw (eq-eqb n 0 z)
+      (subst (λ (y : Line). Did (commandDone (y .command) y number s r j m) a j₂ m₂ o) e
+      (met (λ (y : Command). commandDone y line number s r j m) g d)))
+
+  pub reply-done : {a : Acted} {j₂ m₂ o : List ℕ} → n ≡ 0 → {first second : ℕ} {good : Bool} {y : Message}
+      → line .command ≡ command.Reply first second good → y ≡ reply x (r .date) (first ∷ second ∷ [])
+      → Did (called (answers (bytesOf y) good) r j m) a j₂ m₂ o → Did (done number s r j m) a j₂ m₂ o
+  reply-done z {first} {second} {good} g p d =
+      is-done z g
+      (met (λ (v : Message). called (answers (bytesOf v) good) r j m)
+      (ap (λ (v : Message). reply v (r .date) (first ∷ second ∷ [])) (sym h) ∙ sym p)
+      d)
+
+  pub reconcile-done : {a : Acted} {j₂ m₂ o : List ℕ} → n ≡ 0 → {digit : ℕ} {y : Message}
+      → line .command ≡ command.Reconcile digit → y ≡ reconciliation x digit
+      → Did (called (answers (bytesOf y) true) r j m) a j₂ m₂ o → Did (done number s r j m) a j₂ m₂ o
+  reconcile-done z {digit} g p d =
+      is-done z g
+      (met (λ (v : Message). called (answers (bytesOf v) true) r j m)
+      (ap (λ (v : Message). reconciliation v digit) (sym h) ∙ sym p)
+      d)

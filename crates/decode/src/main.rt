@@ -1,47 +1,47 @@
 // Shows messages: reads a message in hexadecimal from each line of standard input, and writes what it holds.
+use hexadecimal::Hex;
 use input::Input;
 use libc::STDIN_FILENO;
 use libc::STDOUT_FILENO;
-use lines::Hex;
-use reading::Outcome;
+use reading::ReadOutcome;
 
-// Writes words, a number and words in one piece.
-fn say(before: &[u8], number: u64, after: &[u8]) {
-    let mut text = [0u8; 64];
-    let mut n = texts::add(before, 0, &mut text);
-    n = texts::add_decimal(number, n, &mut text);
-    n = texts::add(after, n, &mut text);
-    io::write_all(STDOUT_FILENO, &text[..n]);
+fn main() {
+    let mut chunk = io::buffer();
+    let mut line = input::buffer();
+    answer_all(&mut chunk, &mut line);
 }
 
-fn complain(number: u64, reason: &[u8]) {
-    say(b"error line ", number, reason);
-}
-
-fn complain_of_length(number: u64) {
-    complain(number, b" longer than 4096 bytes\n");
-}
-
-// What a message of these bytes holds, or why it is refused.
-fn show(s: &[u8]) {
-    let r = reading::read(s);
-    let outcome = r.outcome;
-    match outcome {
-        Outcome::Refused(e) => {
-            say(b"refused ", e as u64, b"\n");
+// Answers each line before the next is read, until the input ends. A proved loop has to end, and nothing says that the
+// input does, so the loop counts its turns down.
+fn answer_all(chunk: &mut [u8], line: &mut [u8]) {
+    let mut at = Input::new(STDIN_FILENO);
+    let mut turns = u64::MAX;
+    while turns > 0 {
+        at = input::next(at, chunk, line);
+        answer_line(at, line);
+        if at.ended {
+            break;
         }
-        Outcome::Read => {
-            let mut text = [0u8; 12500];
-            let n = dump::message_text(r.message, s.len() as u64, &mut text);
-            io::write_all(STDOUT_FILENO, &text[..n]);
-        }
+        turns -= 1;
+    }
+}
+
+// Answers the line in hand, unless it is skipped.
+fn answer_line(at: Input, line: &[u8]) {
+    if input::is_too_long(at, line) {
+        complain_of_length(at.number);
+        return;
+    }
+    let words = input::words_of(at, line);
+    if words.len() != 0 {
+        answer(at.number, words);
     }
 }
 
 // The answer to a line's words.
 fn answer(number: u64, words: &[u8]) {
     let mut bytes = [0u8; 2048];
-    let h = lines::hex_into(words, &mut bytes);
+    let h = hexadecimal::hex_into(words, &mut bytes);
     match h {
         Hex::Bytes(n) => {
             show(&bytes[..n]);
@@ -55,39 +55,35 @@ fn answer(number: u64, words: &[u8]) {
     }
 }
 
-// Answers a line without its line end, unless it is skipped.
-fn answer_line(number: u64, line: &[u8]) {
-    if Input::LONGEST < line.len() {
-        complain_of_length(number);
-        return;
-    }
-    let words = lines::trim(line);
-    if !lines::is_skipped(words) {
-        answer(number, words);
+// What a message of these bytes holds, or why it is refused.
+fn show(s: &[u8]) {
+    let r = reading::read(s);
+    let outcome = r.outcome;
+    match outcome {
+        ReadOutcome::Refused(e) => {
+            say(b"refused ", e as u64, b"\n");
+        }
+        ReadOutcome::Read => {
+            let mut text = io::large_buffer();
+            let n = dump::add_message(r.message, s.len() as u64, 0, &mut text);
+            io::write_all(STDOUT_FILENO, &text[..n]);
+        }
     }
 }
 
-// Answers each line before the next is read, until the input ends. A proved loop has to end, and nothing says that the
-// input does, so the loop counts its turns down.
-fn answer_all(chunk: &mut [u8], line: &mut [u8]) {
-    let mut at = Input::new(STDIN_FILENO);
-    let mut turns = u64::MAX;
-    while turns > 0 {
-        at = input::next(at, chunk, line);
-        let len = at.len;
-        if at.ended & (len == 0) {
-            break;
-        }
-        answer_line(at.number, input::line_of(at.whole, &line[..len]));
-        if at.ended {
-            break;
-        }
-        turns -= 1;
-    }
+fn complain_of_length(number: u64) {
+    complain(number, b" longer than 4096 bytes\n");
 }
 
-fn main() {
-    let mut chunk = io::buffer();
-    let mut line = input::buffer();
-    answer_all(&mut chunk, &mut line);
+fn complain(number: u64, reason: &[u8]) {
+    say(b"error line ", number, reason);
+}
+
+// Writes words, a number and words in one piece.
+fn say(before: &[u8], number: u64, after: &[u8]) {
+    let mut text = [0u8; 64];
+    let mut n = texts::add(before, 0, &mut text);
+    n = texts::add_decimal(number, n, &mut text);
+    n = texts::add(after, n, &mut text);
+    io::write_all(STDOUT_FILENO, &text[..n]);
 }

@@ -1,3 +1,2 @@
--- Laws of texts, for the proofs of this crate and of those above it.
-pub mod Text
+-- Laws of messages as text, for the proofs of this crate.
 pub mod Shown

@@ -1,10 +1,11 @@
-// The lines of a file or of standard input.
+// The lines of a file or of standard input, and the words of the line in hand.
 ghost use mathlib.Core.Path.{_≡_};
 ghost use mathlib.Core.Bool.{false};
 ghost use Prim.Native.Nat.{_≤_};
+ghost use lib.Dec.{ltb};
 ghost use lib.ListN.{length};
 ghost use Rattle.texts.specs.Text.{Adds};
-ghost use Rattle.input.specs.Input.{beforeFeed, hasFeed, used, lineOf};
+ghost use Rattle.input.specs.Input.{beforeFeed, hasFeed, used, withoutReturn, lineOf, inHand, wordsIn};
 
 // Where the bytes of a chunk that are still to be taken begin and end.
 pub struct Left {
@@ -17,8 +18,8 @@ pub struct Left {
 pub struct Input {
     file: i32,
     pub number: u64,
-    pub len: usize,
-    pub whole: bool,
+    len: usize,
+    whole: bool,
     pub ended: bool,
     left: Left,
 }
@@ -32,7 +33,7 @@ struct Taken {
 
 impl Input {
     // The most bytes of a line, without its line end.
-    pub const LONGEST: usize = 4096;
+    const LONGEST: usize = 4096;
 
     // Before the first line of an open file.
     pub fn new(file: i32) -> Self
@@ -68,6 +69,56 @@ pub fn buffer() -> [u8; 4098]
     ensures { λ r. ⌜ 4098 ≡ length r ⌝ }
 {
     [0; 4098]
+}
+
+// Reads the next line: its first bytes stand in line, as many as fit, and the rest of it is dropped. The input has ended
+// where nothing more comes; bytes after the last line feed are a line too. A proved loop has to end, and nothing says that
+// the line does, so the loop counts its turns down.
+pub fn next(input: Input, chunk: &mut [u8], line: &mut [u8]) -> Input
+    ensures { λ r. ⌜ r .len ≤ length (now (line .entry)) ⌝ }
+{
+    let left = input.left;
+    let mut at = Input {
+        file: input.file,
+        number: std::num::wrapping_add_u64(input.number, 1),
+        len: 0,
+        whole: false,
+        ended: false,
+        left: left,
+    };
+    let mut turns = u64::MAX;
+    while turns > 0 {
+        at = more(at, chunk, line);
+        if at.whole | at.ended {
+            return at;
+        }
+        turns -= 1;
+    }
+    at.at_end()
+}
+
+// Whether the line in hand, which stands at the front of line, has more bytes than a line may have.
+pub fn is_too_long(at: Input, line: &[u8]) -> bool
+    ensures { λ r. ⌜ r ≡ ltb 4096 (length (inHand (at .whole) (at .len) (now (line .entry)))) ⌝ }
+{
+    Input::LONGEST < in_hand(at, line).len()
+}
+
+// Its words, without the spaces before the first and after the last; none where the line is skipped or nothing came.
+pub fn words_of(at: Input, line: &[u8]) -> &[u8]
+    ensures { λ r. ⌜ now r ≡ wordsIn (inHand (at .whole) (at .len) (now (line .entry))) ⌝ }
+{
+    let words = words::trim(in_hand(at, line));
+    if words::is_skipped(words) {
+        return &words[..0];
+    }
+    words
+}
+
+fn in_hand(at: Input, line: &[u8]) -> &[u8]
+    ensures { λ r. ⌜ now r ≡ inHand (at .whole) (at .len) (now (line .entry)) ⌝ }
+{
+    line_of(at.whole, texts::front(line, at.len))
 }
 
 // Takes the bytes of s up to its first line feed into a line of len bytes, as far as there is room for them.
@@ -129,38 +180,26 @@ fn more(at: Input, chunk: &mut [u8], line: &mut [u8]) -> Input
     }
 }
 
-// Reads the next line: its first bytes stand in line, as many as fit, and the rest of it is dropped. The input has ended
-// where nothing more comes; bytes after the last line feed are a line too. A proved loop has to end, and nothing says that
-// the line does, so the loop counts its turns down.
-pub fn next(input: Input, chunk: &mut [u8], line: &mut [u8]) -> Input
-    ensures { λ r. ⌜ r .len ≤ length (now (line .entry)) ⌝ }
-{
-    let left = input.left;
-    let mut at = Input {
-        file: input.file,
-        number: std::num::wrapping_add_u64(input.number, 1),
-        len: 0,
-        whole: false,
-        ended: false,
-        left: left,
-    };
-    let mut turns = u64::MAX;
-    while turns > 0 {
-        at = more(at, chunk, line);
-        if at.whole | at.ended {
-            return at;
-        }
-        turns -= 1;
-    }
-    at.at_end()
-}
-
 // A line without its line end.
-pub fn line_of(whole: bool, s: &[u8]) -> &[u8]
+fn line_of(whole: bool, s: &[u8]) -> &[u8]
     ensures { λ r. ⌜ now r ≡ lineOf whole (now (s .entry)) ⌝ }
 {
     if whole {
-        return lines::without_return(s);
+        return without_return(s);
+    }
+    s
+}
+
+// A line without a carriage return at its end.
+fn without_return(s: &[u8]) -> &[u8]
+    ensures { λ r. ⌜ now r ≡ withoutReturn (now (s .entry)) ⌝ }
+{
+    let n = s.len();
+    if n == 0 {
+        return s;
+    }
+    if s[n - 1] == 0x0D {
+        return &s[..n - 1];
     }
     s
 }

@@ -8,20 +8,21 @@ use lib.Dec.{ltb, eqb}
 use lib.ListN.{length, take, drop, replicate, length-append}
 use Rattle.message.specs.Message.{largest}
 use Rattle.message.specs.declared.Message.{Message}
-use Rattle.writing.specs.Writing.{Result as Writes, messageBytes, messageFault, written, writeMessage}
+use Rattle.writing.specs.Writing.{WriteResult as Writes, messageBytes, messageFault, written, writeMessage}
 use Rattle.writing.specs.declared.Writing.the-variants.{Written, Refused}
 use Rattle.outgoing.specs.Outgoing.{lengthOf}
 use Rattle.state.specs.Calls.{Result}
-use Rattle.terminal.specs.Terminal.{givenBy}
+use Rattle.terminal.specs.Terminal.{stepResult}
 use Rattle.terminal.specs.declared.Step.{Step}
 use Rattle.texts.specs.Text.{Text}
 use Rattle.screen.specs.Outcomes.{outcomeLine}
-use Rattle.rehearsal.specs.Rehearsal.{Did, afterCall, resulted, bytesOf}
-use Rattle.rehearsal.specs.declared.Rehearsal.{Rehearsal}
+use Rattle.stage.specs.Stage.{afterCall}
+use Rattle.stage.specs.declared.Rehearsal.{Rehearsal}
+use Rattle.rehearsal.specs.Rehearsal.{Did, resulted, bytesOf}
 use Rattle.rehearsal.specs.declared.Acted.{Acted}
 
--- what a method gave, and what after_call made of it, is what the call does
-pub did : (r : Rehearsal) (s : Step) {q : Result} {a : Acted} {j m o : List ℕ} → givenBy s j m ≡ q
+-- what a method gave, and what was told of it, is what the call does
+pub did : (r : Rehearsal) (s : Step) {q : Result} {a : Acted} {j m o : List ℕ} → stepResult s j m ≡ q
     → (a .rehearsal ≡ afterCall (s .outcome) (s .terminal .state) r) × Text (outcomeLine (s .outcome) m) (a .written) o
     → Did (resulted q r) a j m o
 did r s {q} {a} {j} {m} {o} e h =

@@ -1,22 +1,19 @@
--- Where a rehearsal stands, and what a call does to it.
+-- What a line of a script does to a rehearsal, and what a call does.
 use mathlib.Core.Path.{_≡_}
 use mathlib.Core.List.{List}
-use mathlib.Core.Bool.{true}
 use Prim.Native.Nat.{ℕ}
 use lib.ListN.{take, replicate}
 use Rattle.message.specs.Message.{largest}
 use Rattle.message.specs.declared.Message.{Message}
 use Rattle.reading.specs.Reading.{readMessage}
 use Rattle.writing.specs.Writing.{writeMessage}
-use Rattle.state.specs.declared.Outcome.{Outcome}
-use Rattle.state.specs.declared.Outcome.the-variants.{Send, Quiet, Refused}
-use Rattle.state.specs.declared.State.{State}
 use Rattle.state.specs.Calls.{Result}
 use Rattle.outgoing.specs.Outgoing.{lengthOf}
 use Rattle.terminal.specs.Events.{Event, call}
 use Rattle.texts.specs.Text.{Text}
 use Rattle.screen.specs.Outcomes.{outcomeLine}
-use Rattle.rehearsal.specs.declared.Rehearsal.{Rehearsal}
+use Rattle.stage.specs.declared.Rehearsal.{Rehearsal}
+use Rattle.stage.specs.Stage.{afterCall}
 use Rattle.rehearsal.specs.declared.Acted.{Acted}
 
 -- a rehearsal, its journal and message buffer after a line of a script, and what the line wrote
@@ -45,14 +42,6 @@ abbrev pub messageIn : List ℕ → Message
 messageIn b = readMessage b .message
 
 -- a call: its outcome is written, and what left is the last message
-abbrev pub lengthAfter : Outcome → ℕ → ℕ
-lengthAfter (Send n) old = n
-lengthAfter Quiet old = old
-lengthAfter (Refused n) old = old
-
-abbrev pub afterCall : Outcome → State → Rehearsal → Rehearsal
-afterCall o s r = record { begun = true; terminal = record { state = s }; date = r .date; length = lengthAfter o (r .length) }
-
 abbrev pub resulted : Result → Rehearsal → Done
 resulted q r =
     record {

@@ -1,42 +1,43 @@
 -- What is shown of a terminal: its counts, totals, state, journal and last message.
-use mathlib.Core.List.{List, [], _++_}
+use mathlib.Core.List.{List, [], _∷_, _++_}
 use mathlib.Core.Bool.{Bool, true, false, cond}
 use Prim.Native.Nat.{ℕ, zero, suc}
-use lib.Dec.{leb, eqb}
-use lib.ListN.{length}
-use Rattle.field.specs.Contents.{size}
-use Rattle.field.specs.declared.Class.{Class}
+use lib.Dec.{eqb}
+use lib.ListN.{length, getD}
 use Rattle.field.specs.declared.Class.the-variants.{Digits, Printable}
-use Rattle.lines.specs.Hexadecimal.{toHex}
-use Rattle.lines.specs.Buffer.{decimal}
-use Rattle.dump.specs.Text.{contentsText}
+use Rattle.hexadecimal.specs.Hexadecimal.{toHex}
+use Rattle.dump.specs.Shown.{contentsText}
+use Rattle.texts.specs.Decimal.{decimal}
 use Rattle.texts.specs.Text.{text, space, feed, sixDigits}
+use Rattle.words.specs.Rows.{row}
 use Rattle.entry.specs.declared.Entry.{Entry}
 use Rattle.journal.specs.Journal.{entryAt}
-use Rattle.journal.specs.declared.Totals.{Totals}
+use Rattle.kinds.specs.declared.Totals.{Totals}
 use Rattle.state.specs.declared.Awaited.{Awaited}
 use Rattle.state.specs.declared.Awaited.the-variants as awaited
 use Rattle.state.specs.declared.Counts.{Counts}
 use Rattle.state.specs.declared.Phase.{Phase}
 use Rattle.state.specs.declared.Phase.the-variants.{Resting, Waiting, Pending, Settling, Uploading}
 use Rattle.state.specs.declared.State.{State}
-use Rattle.rules.specs.Rules.{waiting}
+
+-- a value after its name; the first k values, each after its name, which is a row of a table
+unfoldable pub valueText : List ℕ → ℕ → List ℕ
+valueText name x = space ++ name ++ space ++ decimal x
+
+abbrev pub valuesText : List ℕ → List ℕ → ℕ → List ℕ
+valuesText names vs zero = []
+valuesText names vs (suc k) = valuesText names vs k ++ valueText (row k names) (getD vs k 0)
 
 -- counts sent 3 approved 2 declined 0 reversed 1 given-up 0 unanswered 0 waiting 0
-unfoldable pub firstCounts : Counts → List ℕ
-firstCounts c =
-    text "counts sent " ++ decimal (c .sent)
-    ++ text " approved " ++ decimal (c .approved)
-    ++ text " declined " ++ decimal (c .declined)
-    ++ text " reversed " ++ decimal (c .reversed)
+abbrev pub countNames : List ℕ
+countNames = text "sent\napproved\ndeclined\nreversed\ngiven-up\nunanswered\nwaiting\n"
+
+abbrev pub counted : Counts → ℕ → List ℕ
+counted c undecided =
+    c .sent ∷ c .approved ∷ c .declined ∷ c .reversed ∷ c .«given_up» ∷ c .unanswered ∷ undecided ∷ []
 
 unfoldable pub countsLine : Counts → ℕ → List ℕ
-countsLine c undecided =
-    firstCounts c
-    ++ text " given-up " ++ decimal (c .«given_up»)
-    ++ text " unanswered " ++ decimal (c .unanswered)
-    ++ text " waiting " ++ decimal undecided
-    ++ feed
+countsLine c undecided = text "counts" ++ valuesText countNames (counted c undecided) 7 ++ feed
 
 -- totals debit 12000 1 credit 12000 1
 unfoldable pub totalsLine : Totals → List ℕ
@@ -45,19 +46,35 @@ totalsLine t =
     ++ text " credit " ++ decimal (t .credit) ++ space ++ decimal (t .credits)
     ++ feed
 
-abbrev pub awaitedName : Awaited → List ℕ
-awaitedName (awaited.Request q) = text "waiting-card"
-awaitedName (awaited.Reversal v) = text "waiting-reversal"
-awaitedName (awaited.Settlement x) = text "waiting-settlement"
-awaitedName (awaited.Item i) = text "waiting-item"
-awaitedName (awaited.End x) = text "waiting-end"
+-- the phases by number
+abbrev pub phaseNames : List ℕ
+phaseNames =
+    text "resting\n"
+    ++ text "waiting-card\n"
+    ++ text "waiting-reversal\n"
+    ++ text "waiting-settlement\n"
+    ++ text "waiting-item\n"
+    ++ text "waiting-end\n"
+    ++ text "reversal-pending\n"
+    ++ text "settling\n"
+    ++ text "uploading\n"
 
-abbrev pub phaseName : Phase → List ℕ
-phaseName Resting = text "resting"
-phaseName (Waiting a) = awaitedName a
-phaseName (Pending v) = text "reversal-pending"
-phaseName Settling = text "settling"
-phaseName Uploading = text "uploading"
+abbrev pub awaitedNumber : Awaited → ℕ
+awaitedNumber (awaited.Request q) = 1
+awaitedNumber (awaited.Reversal v) = 2
+awaitedNumber (awaited.Settlement x) = 3
+awaitedNumber (awaited.Item i) = 4
+awaitedNumber (awaited.End x) = 5
+
+abbrev pub phaseNumber : Phase → ℕ
+phaseNumber Resting = 0
+phaseNumber (Waiting a) = awaitedNumber a
+phaseNumber (Pending v) = 6
+phaseNumber Settling = 7
+phaseNumber Uploading = 8
+
+unfoldable pub phaseName : Phase → List ℕ
+phaseName p = row (phaseNumber p) phaseNames
 
 abbrev pub onOrOff : Bool → List ℕ
 onOrOff true = text "on"
@@ -74,31 +91,27 @@ unfoldable pub stateLine : State → List ℕ
 stateLine s =
     firstState (s .«signed_on») (s .batch .0) (s .next .0)
     ++ text " phase " ++ phaseName (s .phase)
-    ++ text " entries " ++ decimal (s .entries)
+    ++ valueText (text "entries") (s .entries)
     ++ feed
-
--- contents b of n digits or bytes as decode shows them, the card number masked; none where b has fewer
-unfoldable pub shown : Class → Bool → ℕ → List ℕ → List ℕ
-shown class card n b = cond (leb (size class n) (length b)) (contentsText class card n b) []
-
-unfoldable pub entryMarks : Entry → List ℕ
-entryMarks e =
-    text " kind " ++ decimal (e .kind)
-    ++ text " voided " ++ decimal (e .voided)
-    ++ text " mark " ++ decimal (e .mark)
-    ++ text " resends " ++ decimal (e .resends)
-    ++ text " trace " ++ sixDigits (e .trace .0)
-    ++ text " amount " ++ decimal (e .amount)
-
-unfoldable pub entryApproval : Entry → List ℕ
-entryApproval e =
-    text " card " ++ shown Digits true (e .digits) (e .card)
-    ++ text " date " ++ shown Digits false 4 (e .date)
-    ++ text " authorisation " ++ shown Printable false 6 (e .authorisation)
-    ++ text " reference " ++ shown Printable false 12 (e .reference)
 
 -- entry 1 kind 22 voided 1 mark 0 resends 0 trace 000001 amount 12000 card 622202******0123 date 1115
 -- authorisation "000001" reference "000000000001", on one line
+abbrev pub markNames : List ℕ
+markNames = text "kind\nvoided\nmark\nresends\n"
+
+unfoldable pub entryMarks : Entry → List ℕ
+entryMarks e =
+    valuesText markNames (e .kind ∷ e .voided ∷ e .mark ∷ e .resends ∷ []) 4
+    ++ text " trace " ++ sixDigits (e .trace .0)
+    ++ valueText (text "amount") (e .amount)
+
+unfoldable pub entryApproval : Entry → List ℕ
+entryApproval e =
+    text " card " ++ contentsText Digits true (e .digits) (e .card)
+    ++ text " date " ++ contentsText Digits false 4 (e .date)
+    ++ text " authorisation " ++ contentsText Printable false 6 (e .authorisation)
+    ++ text " reference " ++ contentsText Printable false 12 (e .reference)
+
 unfoldable pub entryLine : ℕ → Entry → List ℕ
 entryLine i e = text "entry " ++ decimal i ++ entryMarks e ++ entryApproval e ++ feed
 

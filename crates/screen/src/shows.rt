@@ -2,39 +2,62 @@
 use crate::outcomes::add_named;
 use entry::Entry;
 use field::Class;
-use field::Format;
-use field::Prefix;
-use journal::Totals;
+use kinds::Totals;
 use state::Awaited;
 use state::Counts;
 use state::Phase;
 use state::State;
 ghost use mathlib.Core.Path.{_≡_};
 ghost use mathlib.Core.List.{_++_};
-ghost use Prim.Native.Nat.{_≤_};
-ghost use lib.Dec.{eqb};
 ghost use lib.ListN.{length};
+ghost use Rattle.dump.specs.Shown.{contentsText};
 ghost use Rattle.texts.specs.Text.{sixDigits, Adds};
 ghost use Rattle.journal.specs.Journal.{entriesOf};
 ghost use Rattle.rules.specs.Rules.{waiting};
-ghost use Rattle.screen.specs.Shows.{firstCounts, countsLine, totalsLine, awaitedName, phaseName, onOrOff, firstState, stateLine, shown, entryMarks, entryApproval, entryLine, journalText, messageLine};
+ghost use Rattle.screen.specs.Shows.{valueText, valuesText, countsLine, totalsLine, awaitedNumber, phaseNumber, onOrOff, firstState, stateLine, entryMarks, entryApproval, entryLine, journalText, messageLine};
 
-fn add_first_counts(c: Counts, n: usize, out: &mut [u8]) -> usize
-    ensures { λ r. ⌜ Adds (firstCounts c) n (now (out .entry)) r (now (out .exit)) ⌝ }
-{
-    let mut at = add_named(b"counts sent ", c.sent as u64, n, out);
-    at = add_named(b" approved ", c.approved as u64, at, out);
-    at = add_named(b" declined ", c.declined as u64, at, out);
-    add_named(b" reversed ", c.reversed as u64, at, out)
-}
+// The names of the counts, of the phases by number, and of an entry's first values.
+const COUNTS: [u8; 60] = *b"sent
+approved
+declined
+reversed
+given-up
+unanswered
+waiting
+";
+
+const PHASES: [u8; 118] = *b"resting
+waiting-card
+waiting-reversal
+waiting-settlement
+waiting-item
+waiting-end
+reversal-pending
+settling
+uploading
+";
+
+const MARKS: [u8; 25] = *b"kind
+voided
+mark
+resends
+";
 
 pub fn add_counts(c: Counts, phase: Phase, n: usize, out: &mut [u8]) -> usize
     ensures { λ r. ⌜ Adds (countsLine c (waiting phase)) n (now (out .entry)) r (now (out .exit)) ⌝ }
 {
-    let mut at = add_first_counts(c, n, out);
-    at = add_named(b" given-up ", c.given_up as u64, at, out);
-    at = add_named(b" unanswered ", c.unanswered as u64, at, out);
-    at = add_named(b" waiting ", rules::waiting_in(phase), at, out);
+    let names = COUNTS;
+    let values = [
+        c.sent as u64,
+        c.approved as u64,
+        c.declined as u64,
+        c.reversed as u64,
+        c.given_up as u64,
+        c.unanswered as u64,
+        rules::waiting_in(phase),
+    ];
+    let mut at = texts::add(b"counts", n, out);
+    at = add_values(&names, &values, at, out);
     texts::add(b"\n", at, out)
 }
 
@@ -48,144 +71,17 @@ pub fn add_totals(t: Totals, n: usize, out: &mut [u8]) -> usize
     texts::add(b"\n", at, out)
 }
 
-fn add_awaited(a: Awaited, n: usize, out: &mut [u8]) -> usize
-    ensures { λ r. ⌜ Adds (awaitedName a) n (now (out .entry)) r (now (out .exit)) ⌝ }
-{
-    match a {
-        Awaited::Request(_) => texts::add(b"waiting-card", n, out),
-        Awaited::Reversal(_) => texts::add(b"waiting-reversal", n, out),
-        Awaited::Settlement(_) => texts::add(b"waiting-settlement", n, out),
-        Awaited::Item(_) => texts::add(b"waiting-item", n, out),
-        Awaited::End(_) => texts::add(b"waiting-end", n, out),
-    }
-}
-
-fn add_phase(phase: Phase, n: usize, out: &mut [u8]) -> usize
-    ensures { λ r. ⌜ Adds (phaseName phase) n (now (out .entry)) r (now (out .exit)) ⌝ }
-{
-    match phase {
-        Phase::Resting => texts::add(b"resting", n, out),
-        Phase::Waiting(a) => add_awaited(a, n, out),
-        Phase::Pending(_) => texts::add(b"reversal-pending", n, out),
-        Phase::Settling => texts::add(b"settling", n, out),
-        Phase::Uploading => texts::add(b"uploading", n, out),
-    }
-}
-
-fn add_on_or_off(on: bool, n: usize, out: &mut [u8]) -> usize
-    ensures { λ r. ⌜ Adds (onOrOff on) n (now (out .entry)) r (now (out .exit)) ⌝ }
-{
-    if on {
-        return texts::add(b"on", n, out);
-    }
-    texts::add(b"off", n, out)
-}
-
-// Adds a name and a number's last six digits.
-fn add_number(name: &[u8], x: u32, n: usize, out: &mut [u8]) -> usize
-    ensures { λ r. ⌜ Adds (now (name .entry) ++ sixDigits x) n (now (out .entry)) r (now (out .exit)) ⌝ }
-{
-    let at = texts::add(name, n, out);
-    texts::add_six(x, at, out)
-}
-
-fn add_first_state(on: bool, batch: u32, trace: u32, n: usize, out: &mut [u8]) -> usize
-    ensures { λ r. ⌜ Adds (firstState on batch trace) n (now (out .entry)) r (now (out .exit)) ⌝ }
-{
-    let mut at = texts::add(b"state ", n, out);
-    at = add_on_or_off(on, at, out);
-    at = add_number(b" batch ", batch, at, out);
-    add_number(b" trace ", trace, at, out)
-}
-
 pub fn add_state(s: State, n: usize, out: &mut [u8]) -> usize
     ensures { λ r. ⌜ Adds (stateLine s) n (now (out .entry)) r (now (out .exit)) ⌝ }
 {
+    let names = PHASES;
     let batch = s.batch;
     let next = s.next;
     let phase = s.phase;
     let mut at = add_first_state(s.signed_on, batch.0, next.0, n, out);
     at = texts::add(b" phase ", at, out);
-    at = add_phase(phase, at, out);
-    at = add_named(b" entries ", s.entries as u64, at, out);
-    texts::add(b"\n", at, out)
-}
-
-// Adds a name, and count digits or bytes b of a field as decode shows them: field 2, the card number, masked.
-fn add_shown(
-    name: &[u8],
-    number: u8,
-    class: Class,
-    count: u8,
-    b: &[u8],
-    n: usize,
-    out: &mut [u8],
-) -> usize
-    requires { ⌜ length (now b) ≤ 255 ⌝ }
-    ensures { λ r. ⌜ Adds (now (name .entry) ++ shown class (eqb number 2) count (now (b .entry))) n (now (out .entry)) r (now (out .exit)) ⌝ }
-{
-    let f = Format {
-        number: number,
-        class: class,
-        prefix: Prefix::Absent,
-        low: 0,
-        high: 0,
-    };
-    let mut text = [0u8; 510];
-    let k = dump::field_text(f, count, b, &mut text);
-    let at = texts::add(name, n, out);
-    texts::add(&text[..k], at, out)
-}
-
-// Adds the first values of an entry.
-fn add_marks(e: Entry, n: usize, out: &mut [u8]) -> usize
-    ensures { λ r. ⌜ Adds (entryMarks e) n (now (out .entry)) r (now (out .exit)) ⌝ }
-{
-    let trace = e.trace;
-    let mut at = add_named(b" kind ", e.kind as u64, n, out);
-    at = add_named(b" voided ", e.voided as u64, at, out);
-    at = add_named(b" mark ", e.mark as u64, at, out);
-    at = add_named(b" resends ", e.resends as u64, at, out);
-    at = add_number(b" trace ", trace.0, at, out);
-    add_named(b" amount ", e.amount, at, out)
-}
-
-// Adds what an approval gave: its card, date, authorisation and reference.
-fn add_approval(e: Entry, n: usize, out: &mut [u8]) -> usize
-    ensures { λ r. ⌜ Adds (entryApproval e) n (now (out .entry)) r (now (out .exit)) ⌝ }
-{
-    let card = e.card;
-    let date = e.date;
-    let authorisation = e.authorisation;
-    let reference = e.reference;
-    let mut at = add_shown(b" card ", 2, Class::Digits, e.digits, &card, n, out);
-    at = add_shown(b" date ", 13, Class::Digits, 4, &date, at, out);
-    at = add_shown(
-        b" authorisation ",
-        38,
-        Class::Printable,
-        6,
-        &authorisation,
-        at,
-        out,
-    );
-    add_shown(
-        b" reference ",
-        37,
-        Class::Printable,
-        12,
-        &reference,
-        at,
-        out,
-    )
-}
-
-fn add_entry(i: u16, e: Entry, n: usize, out: &mut [u8]) -> usize
-    ensures { λ r. ⌜ Adds (entryLine i e) n (now (out .entry)) r (now (out .exit)) ⌝ }
-{
-    let mut at = add_named(b"entry ", i as u64, n, out);
-    at = add_marks(e, at, out);
-    at = add_approval(e, at, out);
+    at = texts::add(words::row(&names, phase_number(phase)), at, out);
+    at = add_value(b"entries", s.entries as u64, at, out);
     texts::add(b"\n", at, out)
 }
 
@@ -215,4 +111,118 @@ pub fn add_message(message: &[u8], n: usize, out: &mut [u8]) -> usize
     let mut at = texts::add(b"message ", n, out);
     at = texts::add_hex(message, at, out);
     texts::add(b"\n", at, out)
+}
+
+// Adds values, each after its name; the names are the rows of a table.
+fn add_values(names: &[u8], values: &[u64], n: usize, out: &mut [u8]) -> usize
+    ensures { λ r. ⌜ Adds (valuesText (now (names .entry)) (now (values .entry)) (length (now (values .entry)))) n (now (out .entry)) r (now (out .exit)) ⌝ }
+{
+    let mut at = n;
+    let mut k = 0;
+    while k < values.len() {
+        at = add_value(words::row(names, k), values[k], at, out);
+        k += 1;
+    }
+    at
+}
+
+fn add_value(name: &[u8], x: u64, n: usize, out: &mut [u8]) -> usize
+    ensures { λ r. ⌜ Adds (valueText (now (name .entry)) x) n (now (out .entry)) r (now (out .exit)) ⌝ }
+{
+    let mut at = texts::add(b" ", n, out);
+    at = texts::add(name, at, out);
+    add_named(b" ", x, at, out)
+}
+
+fn awaited_number(a: Awaited) -> usize
+    ensures { λ r. ⌜ r ≡ awaitedNumber a ⌝ }
+{
+    match a {
+        Awaited::Request(_) => 1,
+        Awaited::Reversal(_) => 2,
+        Awaited::Settlement(_) => 3,
+        Awaited::Item(_) => 4,
+        Awaited::End(_) => 5,
+    }
+}
+
+fn phase_number(phase: Phase) -> usize
+    ensures { λ r. ⌜ r ≡ phaseNumber phase ⌝ }
+{
+    match phase {
+        Phase::Resting => 0,
+        Phase::Waiting(a) => awaited_number(a),
+        Phase::Pending(_) => 6,
+        Phase::Settling => 7,
+        Phase::Uploading => 8,
+    }
+}
+
+fn add_first_state(on: bool, batch: u32, trace: u32, n: usize, out: &mut [u8]) -> usize
+    ensures { λ r. ⌜ Adds (firstState on batch trace) n (now (out .entry)) r (now (out .exit)) ⌝ }
+{
+    let mut at = texts::add(b"state ", n, out);
+    at = add_on_or_off(on, at, out);
+    at = add_number(b" batch ", batch, at, out);
+    add_number(b" trace ", trace, at, out)
+}
+
+fn add_on_or_off(on: bool, n: usize, out: &mut [u8]) -> usize
+    ensures { λ r. ⌜ Adds (onOrOff on) n (now (out .entry)) r (now (out .exit)) ⌝ }
+{
+    if on {
+        return texts::add(b"on", n, out);
+    }
+    texts::add(b"off", n, out)
+}
+
+// Adds a name and a number's last six digits.
+fn add_number(name: &[u8], x: u32, n: usize, out: &mut [u8]) -> usize
+    ensures { λ r. ⌜ Adds (now (name .entry) ++ sixDigits x) n (now (out .entry)) r (now (out .exit)) ⌝ }
+{
+    let at = texts::add(name, n, out);
+    texts::add_six(x, at, out)
+}
+
+fn add_entry(i: u16, e: Entry, n: usize, out: &mut [u8]) -> usize
+    ensures { λ r. ⌜ Adds (entryLine i e) n (now (out .entry)) r (now (out .exit)) ⌝ }
+{
+    let mut at = add_named(b"entry ", i as u64, n, out);
+    at = add_marks(e, at, out);
+    at = add_approval(e, at, out);
+    texts::add(b"\n", at, out)
+}
+
+// Adds the first values of an entry.
+fn add_marks(e: Entry, n: usize, out: &mut [u8]) -> usize
+    ensures { λ r. ⌜ Adds (entryMarks e) n (now (out .entry)) r (now (out .exit)) ⌝ }
+{
+    let names = MARKS;
+    let values = [e.kind as u64, e.voided as u64, e.mark as u64, e.resends as u64];
+    let trace = e.trace;
+    let mut at = add_values(&names, &values, n, out);
+    at = add_number(b" trace ", trace.0, at, out);
+    add_value(b"amount", e.amount, at, out)
+}
+
+// Adds what an approval gave: its card, date, authorisation and reference.
+fn add_approval(e: Entry, n: usize, out: &mut [u8]) -> usize
+    ensures { λ r. ⌜ Adds (entryApproval e) n (now (out .entry)) r (now (out .exit)) ⌝ }
+{
+    let card = e.card;
+    let date = e.date;
+    let authorisation = e.authorisation;
+    let reference = e.reference;
+    let mut at = add_shown(b" card ", Class::Digits, true, e.digits, &card, n, out);
+    at = add_shown(b" date ", Class::Digits, false, 4, &date, at, out);
+    at = add_shown(b" authorisation ", Class::Printable, false, 6, &authorisation, at, out);
+    add_shown(b" reference ", Class::Printable, false, 12, &reference, at, out)
+}
+
+// Adds a name, and contents b of n digits or bytes as decode shows them.
+fn add_shown(name: &[u8], class: Class, card: bool, n: u8, b: &[u8], at: usize, out: &mut [u8]) -> usize
+    ensures { λ r. ⌜ Adds (now (name .entry) ++ contentsText class card n (now (b .entry))) at (now (out .entry)) r (now (out .exit)) ⌝ }
+{
+    let end = texts::add(name, at, out);
+    dump::add_contents(class, card, n, b, end, out)
 }

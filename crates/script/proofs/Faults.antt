@@ -1,41 +1,59 @@
 -- Laws of the first fault of a line.
 use mathlib.Core.Path.{_≡_, refl, sym, _∙_}
-use mathlib.Core.List.{List}
+use mathlib.Core.List.{List, [], _∷_}
 use mathlib.Core.Bool.{Bool, true, false, cond, _&&_}
-use Prim.Native.Nat.{ℕ, suc, _+_, _/_, _<_}
+use Prim.Native.Nat.{ℕ, zero, suc, _+_, _-_, _/_, _≤_, _<_}
+use native.Mathlib.Omega.{arith}
+use native.Mathlib.Nat.{not-suc-le-zero}
 use native.Mathlib.Numerals.{add-one}
 use lib.Dec.{leb}
-use lib.ListN.{length, getD, drop}
-use lib.Seq.{drop-cons, drop-length}
-use Rattle.lines.specs.Hexadecimal.{isHex}
-use Rattle.lines.specs.Outcome.{hexOutcome}
-use Rattle.lines.specs.declared.Hex.{Hex}
-use Rattle.lines.specs.declared.Hex.the-variants as hex
+use lib.ListN.{length, getD}
+use Rattle.hexadecimal.specs.Hexadecimal.{isHex}
+use Rattle.hexadecimal.specs.Outcome.{hexOutcome}
+use Rattle.hexadecimal.specs.declared.Hex.{Hex}
+use Rattle.hexadecimal.specs.declared.Hex.the-variants as hex
 use Rattle.words.specs.Words.{wordAt}
 use Rattle.script.specs.declared.Shape.{Shape}
 use Rattle.script.specs.declared.Fault.{Fault}
 use Rattle.script.specs.declared.Verdict.{Verdict}
 use Rattle.script.specs.declared.Verdict.the-variants.{Fine, Wrong}
-use Rattle.script.specs.Shapes.{isBytes, judged, orElse, faultFrom}
+use Rattle.script.specs.Shapes.{isBytes, judged, orElse, faultFrom, lineFault}
+use Rattle.script.specs.Table.{shapeAt}
 
--- the words from word k + 1 on decide: those before it are fine
-abbrev pub Left : List Shape → List ℕ → ℕ → Type 0
-Left xs s k = faultFrom 1 xs s ≡ faultFrom (k + 1) (drop k xs) s
+-- the words from word i on decide: those before it are fine
+pub record Left (k : ℕ) (s : List ℕ) (i : ℕ) : Type 0 where
+  pub bound : i ≤ 10
+  pub eq : faultFrom 1 9 k s ≡ faultFrom i (10 - i) k s
 
-module _ (xs : List Shape) (s : List ℕ) (k : ℕ) (l : Left xs s k) where
-  module _ (d : Shape) (h : k < length xs) {v : Verdict} {w : List ℕ}
-      (e : v ≡ judged (getD xs k d) (k + 1) w) (q : w ≡ wordAt (k + 1) s) where
-    step : faultFrom 1 xs s ≡ orElse v (faultFrom (k + 1 + 1) (drop (k + 1) xs) s)
-    step = l ∙ rw (e, q, drop-cons xs k d h, add-one k, add-one (suc k))
+pub left-all : (k : ℕ) (s : List ℕ) → Left k s 1
+left-all k s = record { bound = omega arith; eq = refl }
 
-    pub fine-one : v ≡ Fine → Left xs s (k + 1)
-    fine-one f = step ∙ rw f
+module _ {k i : ℕ} {s : List ℕ} (l : Left k s i) where
+  module _ (h : i < 10) {v : Verdict} {x : Shape} {w : List ℕ} (e : v ≡ judged x i w) (p : x ≡ shapeAt k i) (q : w ≡ wordAt i s) where
+    step : faultFrom 1 9 k s ≡ orElse v (faultFrom (suc i) (10 - suc i) k s)
+    step = let z : 10 - i ≡ suc (10 - suc i) = omega arith in l .eq ∙ rw (e, p, q, z)
 
-    pub wrong-one : {f : Fault} → v ≡ Wrong f → Wrong f ≡ faultFrom 1 xs s
+    pub fine-one : v ≡ Fine → Left k s (i + 1)
+    fine-one f = record { bound = omega arith; eq = rw add-one (step ∙ rw f) }
+
+    pub wrong-one : {f : Fault} → v ≡ Wrong f → Wrong f ≡ lineFault k s
+    unfolding lineFault
     wrong-one f = sym (step ∙ rw f)
 
-  pub none-left : k ≡ length xs → Fine ≡ faultFrom 1 xs s
-  none-left h = sym (l ∙ rw (h, drop-length))
+  pub none-left : 10 ≤ i → Fine ≡ lineFault k s
+  unfolding lineFault
+  none-left h = let z : 10 - i ≡ 0 = omega arith in sym (l .eq ∙ rw z)
+
+-- an entry of a list, whatever is read past its end
+pub entry-at : {A : Type 0} (xs : List A) (k : ℕ) (d e : A) → k < length xs → getD xs k d ≡ getD xs k e
+entry-at [] k d e h = absurd (not-suc-le-zero h)
+entry-at (x ∷ xs) zero d e h = refl
+entry-at (x ∷ xs) (suc k) d e h = entry-at xs k d e (omega arith)
+
+pub past-entries : {A : Type 0} (xs : List A) (k : ℕ) (d : A) → length xs ≤ k → d ≡ getD xs k d
+past-entries [] k d h = refl
+past-entries (x ∷ xs) zero d h = absurd (not-suc-le-zero h)
+past-entries (x ∷ xs) (suc k) d h = past-entries xs k d (omega arith)
 
 -- whether hexadecimal text gave bytes
 abbrev pub gave : Hex → Bool

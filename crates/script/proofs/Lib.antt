@@ -1,4 +1,3 @@
 -- Laws of a script's lines, for the proofs of this crate.
-pub mod Chains
 pub mod Faults
 pub mod Says

@@ -15,7 +15,7 @@ use Rattle.digits.specs.declared.Number.{Number}
 use Rattle.digits.specs.declared.Number.the-variants.{Is, Not}
 use Rattle.digits.proofs.Lists.{length-tabulate}
 use Rattle.digits.proofs.Numbers.{value-below}
-use Rattle.packed.specs.Packed.{numeral}
+use Rattle.digits.specs.Packed.{numeral}
 use Rattle.words.specs.Words.{digitOf, numberIn, upTo, numberUpTo, isText, textIn}
 use Rattle.script.specs.Script.{textOr}
 

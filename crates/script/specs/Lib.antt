@@ -1,2 +1,3 @@
+pub mod Table
 pub mod Shapes
 pub mod Script

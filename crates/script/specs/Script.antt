@@ -5,10 +5,11 @@ use Prim.Native.Nat.{ℕ, _/_, _%_}
 use lib.ListN.{length, getD, replicate}
 use Rattle.digits.specs.declared.Number.{Number}
 use Rattle.digits.specs.declared.Number.the-variants.{Is, Not}
-use Rattle.packed.specs.Packed.{numeral}
+use Rattle.digits.specs.Packed.{numeral}
 use Rattle.state.specs.declared.Card.{Card}
 use Rattle.state.specs.declared.Settings.{Settings}
-use Rattle.start.specs.declared.Desk.{Desk}
+use Rattle.call_start.specs.declared.Desk.{Desk}
+use Rattle.calls.specs.declared.Call.the-variants as call
 use Rattle.texts.specs.Text.{text}
 use Rattle.words.specs.Words.{wordAt, sameWord, numberIn, numberUpTo, isText, textIn}
 use Rattle.script.specs.declared.Name.{Name}
@@ -19,7 +20,9 @@ use Rattle.script.specs.declared.Verdict.the-variants.{Fine, Wrong}
 use Rattle.script.specs.declared.Command.{Command}
 use Rattle.script.specs.declared.Command.the-variants as command
 use Rattle.script.specs.declared.Line.{Line}
-use Rattle.script.specs.Shapes.{nameOf, shapesOf, isEmpty, faultFrom}
+use Rattle.words.specs.Rows.{rowNamed}
+use Rattle.script.specs.Table.{commands, names}
+use Rattle.script.specs.Shapes.{isEmpty, lineFault}
 
 -- numbers of 8, 32 and 64 bits, and a date MMDD; 0 where a word is none
 unfoldable pub number8 : List ℕ → ℕ
@@ -74,7 +77,8 @@ deskOf name.Answer s = given s
 deskOf name.Reply s = given s
 deskOf name.Reconcile s = given s
 deskOf name.Date s = given s
-deskOf (name.Plain p) s = given s
+deskOf (name.Call c) s = given s
+deskOf (name.Show x) s = given s
 deskOf name.Unknown s = given s
 
 -- terminal LIMIT SENDINGS REFUND TERMINAL MERCHANT
@@ -87,25 +91,30 @@ settingsIn s =
 -- the command of a line whose words are fine
 abbrev pub commandOf : Name → List ℕ → Command
 commandOf name.Terminal s = command.Terminal
-commandOf name.SignedOn s = command.SignedOn (record { 0 = number32 (wordAt 1 s) })
-commandOf (name.Request kind) s = command.Start
-commandOf (name.Void kind) s = command.Start
-commandOf (name.Authorised kind) s = command.Start
-commandOf name.Refund s = command.Start
-commandOf name.Start s = command.Start
-commandOf name.Answer s = command.Answer (sameWord (wordAt 2 s) (text "good"))
+commandOf name.SignedOn s = command.Call (call.SignedOn (record { 0 = number32 (wordAt 1 s) }))
+commandOf (name.Request kind) s = command.Call call.Start
+commandOf (name.Void kind) s = command.Call call.Start
+commandOf (name.Authorised kind) s = command.Call call.Start
+commandOf name.Refund s = command.Call call.Start
+commandOf name.Start s = command.Call call.Start
+commandOf name.Answer s = command.Call (call.Answer (sameWord (wordAt 2 s) (text "good")))
 commandOf name.Reply s = command.Reply (getD (wordAt 1 s) 0 0) (getD (wordAt 1 s) 1 0) (isEmpty (wordAt 2 s))
 commandOf name.Reconcile s = command.Reconcile (number8 (wordAt 1 s))
 commandOf name.Date s = command.Date (monthDay (wordAt 1 s))
-commandOf (name.Plain p) s = command.Plain p
+commandOf (name.Call c) s = command.Call c
+commandOf (name.Show x) s = command.Show x
 commandOf name.Unknown s = command.Wrong fault.Unknown
 
 abbrev pub judgedCommand : Verdict → Name → List ℕ → Command
 judgedCommand Fine n s = commandOf n s
 judgedCommand (Wrong f) n s = command.Wrong f
 
-unfoldable pub parsed : List ℕ → Line
-parsed s =
+-- a line that has row k
+abbrev pub lineOf : ℕ → List ℕ → Line
+lineOf k s =
     record {
-      command = judgedCommand (faultFrom 1 (shapesOf (nameOf (wordAt 0 s))) s) (nameOf (wordAt 0 s)) s;
-      settings = settingsIn s; desk = deskOf (nameOf (wordAt 0 s)) s }
+      command = judgedCommand (lineFault k s) (getD names k name.Unknown) s;
+      settings = settingsIn s; desk = deskOf (getD names k name.Unknown) s }
+
+unfoldable pub parsed : List ℕ → Line
+parsed s = lineOf (rowNamed 25 (wordAt 0 s) commands) s

@@ -1,98 +1,21 @@
--- What the first word of a line names, and what the words after it must be.
-use mathlib.Core.List.{List, [], _∷_, _++_}
+-- What is wrong with the words of a line.
+use mathlib.Core.List.{List, [], _∷_}
 use mathlib.Core.Bool.{Bool, true, false, cond, _&&_, _||_}
-use Prim.Native.Nat.{ℕ, suc, _+_, _-_, _/_}
+use Prim.Native.Nat.{ℕ, zero, suc, _+_, _/_}
 use lib.Dec.{leb, eqb}
-use lib.ListN.{length, replicate}
+use lib.ListN.{length}
 use Rattle.digits.specs.declared.Number.{Number}
 use Rattle.digits.specs.declared.Number.the-variants.{Is, Not}
 use Rattle.field.specs.Contents.{allPrintable}
-use Rattle.lines.specs.Hexadecimal.{isHex}
+use Rattle.hexadecimal.specs.Hexadecimal.{isHex}
 use Rattle.texts.specs.Text.{text}
 use Rattle.words.specs.Words.{wordAt, sameWord, numberIn, numberUpTo, isText}
-use Rattle.script.specs.declared.Plain.{Plain}
-use Rattle.script.specs.declared.Plain.the-variants as plain
-use Rattle.script.specs.declared.Name.{Name}
-use Rattle.script.specs.declared.Name.the-variants as name
 use Rattle.script.specs.declared.Shape.{Shape}
 use Rattle.script.specs.declared.Shape.the-variants.{Number as Numeral, Card, CardOrNone, Text, TextOrNone, Date, Code, Bytes, Mac, Bad, Any, End}
 use Rattle.script.specs.declared.Fault.the-variants as fault
 use Rattle.script.specs.declared.Verdict.{Verdict}
 use Rattle.script.specs.declared.Verdict.the-variants.{Fine, Wrong}
-
--- what is shown
-unfoldable pub shownName : List ℕ → Name
-shownName w =
-    cond (sameWord w (text "counts")) (name.Plain plain.Counts)
-    (cond (sameWord w (text "totals")) (name.Plain plain.Totals)
-    (cond (sameWord w (text "state")) (name.Plain plain.State)
-    (cond (sameWord w (text "journal")) (name.Plain plain.Journal)
-    (cond (sameWord w (text "message")) (name.Plain plain.Message)
-    (cond (sameWord w (text "fields")) (name.Plain plain.Fields)
-    name.Unknown)))))
-
--- calls without data
-unfoldable pub plainName : List ℕ → Name
-plainName w =
-    cond (sameWord w (text "no-answer")) (name.Plain plain.NoAnswer)
-    (cond (sameWord w (text "power")) (name.Plain plain.Power)
-    (cond (sameWord w (text "send-reversal")) (name.Plain plain.SendReversal)
-    (cond (sameWord w (text "settle")) (name.Plain plain.Settle)
-    (cond (sameWord w (text "upload")) (name.Plain plain.Upload)
-    (shownName w)))))
-
--- the starts, with their kinds
-unfoldable pub deskName : List ℕ → Name
-deskName w =
-    cond (sameWord w (text "sale")) (name.Request 22)
-    (cond (sameWord w (text "authorise")) (name.Request 10)
-    (cond (sameWord w (text "sale-void")) (name.Void 23)
-    (cond (sameWord w (text "complete-void")) (name.Void 21)
-    (cond (sameWord w (text "authorise-void")) (name.Authorised 11)
-    (cond (sameWord w (text "complete")) (name.Authorised 20)
-    (cond (sameWord w (text "refund")) name.Refund
-    (cond (sameWord w (text "start")) name.Start
-    (plainName w))))))))
-
-unfoldable pub nameOf : List ℕ → Name
-nameOf w =
-    cond (sameWord w (text "terminal")) name.Terminal
-    (cond (sameWord w (text "signed-on")) name.SignedOn
-    (cond (sameWord w (text "answer")) name.Answer
-    (cond (sameWord w (text "reply")) name.Reply
-    (cond (sameWord w (text "reconcile")) name.Reconcile
-    (cond (sameWord w (text "date")) name.Date
-    (deskName w))))))
-
--- numbers of 32 bits, of 8 bits, and amounts
-abbrev pub word32 : Shape
-word32 = Numeral 4294967295
-
-abbrev pub word8 : Shape
-word8 = Numeral 255
-
-abbrev pub amount : Shape
-amount = Numeral 999999999999999999
-
--- the shapes of at most nine words, and that no word follows
-abbrev pub only : List Shape → List Shape
-only xs = xs ++ replicate (9 - length xs) End
-
--- the words after the first
-abbrev pub shapesOf : Name → List Shape
-shapesOf name.Terminal = only (word32 ∷ word8 ∷ amount ∷ Text 8 ∷ Text 15 ∷ [])
-shapesOf name.SignedOn = only (word32 ∷ [])
-shapesOf (name.Request kind) = only (amount ∷ Card ∷ [])
-shapesOf (name.Void kind) = only (word32 ∷ [])
-shapesOf (name.Authorised kind) = only (amount ∷ Card ∷ Text 6 ∷ Date ∷ [])
-shapesOf name.Refund = only (amount ∷ Card ∷ Text 12 ∷ Date ∷ [])
-shapesOf name.Start = only (word8 ∷ amount ∷ CardOrNone ∷ word32 ∷ TextOrNone 12 ∷ TextOrNone 6 ∷ word8 ∷ word8 ∷ [])
-shapesOf name.Answer = only (Bytes ∷ Mac ∷ [])
-shapesOf name.Reply = only (Code ∷ Bad ∷ [])
-shapesOf name.Reconcile = only (Numeral 9 ∷ [])
-shapesOf name.Date = only (Date ∷ [])
-shapesOf (name.Plain p) = only []
-shapesOf name.Unknown = replicate 9 Any
+use Rattle.script.specs.Table.{shapeAt}
 
 abbrev pub isIs : Number → Bool
 isIs (Is x) = true
@@ -148,7 +71,11 @@ abbrev pub orElse : Verdict → Verdict → Verdict
 orElse Fine next = next
 orElse (Wrong f) next = Wrong f
 
--- the first fault of a line s whose words from word k on must have these shapes
-abbrev pub faultFrom : ℕ → List Shape → List ℕ → Verdict
-faultFrom k [] s = Fine
-faultFrom k (x ∷ xs) s = orElse (judged x k (wordAt k s)) (faultFrom (suc k) xs s)
+-- the first fault of n words of a line s from word i on, where the line has row k
+abbrev pub faultFrom : ℕ → ℕ → ℕ → List ℕ → Verdict
+faultFrom i zero k s = Fine
+faultFrom i (suc n) k s = orElse (judged (shapeAt k i) i (wordAt i s)) (faultFrom (suc i) n k s)
+
+-- no line has more than nine words after the first
+unfoldable pub lineFault : ℕ → List ℕ → Verdict
+lineFault k s = faultFrom 1 9 k s

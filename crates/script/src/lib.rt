@@ -1,22 +1,17 @@
 // A line of a script as a command.
-mod names;
 mod shapes;
+mod table;
 mod values;
 
-use parts::Batch;
-use start::Desk;
+use call_start::Desk;
+use calls::Call;
+use numbers::Batch;
 use state::Settings;
 ghost use mathlib.Core.Path.{_≡_};
-ghost use lib.ListN.{getD};
 ghost use Rattle.script.specs.Script.{commandOf, judgedCommand, parsed};
 
-// Lines of one word.
-pub enum Plain {
-    NoAnswer,
-    Power,
-    SendReversal,
-    Settle,
-    Upload,
+// What is shown.
+pub enum Show {
     Counts,
     Totals,
     State,
@@ -38,7 +33,8 @@ pub enum Name {
     Reply,
     Reconcile,
     Date,
-    Plain(Plain),
+    Call(Call),
+    Show(Show),
     Unknown,
 }
 
@@ -70,16 +66,14 @@ pub enum Verdict {
     Wrong(Fault),
 }
 
-// What a line asks for; settings and desk data stand beside it.
+// What a line asks for; settings and desk data stand beside it, and the bytes of an answer are its second word.
 pub enum Command {
     Terminal,
-    SignedOn(Batch),
-    Start,
-    Answer(bool),
+    Call(Call),
     Reply { first: u8, second: u8, good: bool },
     Reconcile(u8),
     Date(u16),
-    Plain(Plain),
+    Show(Show),
     Wrong(Fault),
 }
 
@@ -89,14 +83,18 @@ pub struct Line {
     pub desk: Desk,
 }
 
-// Byte i of a word; 0 past its end.
-fn byte_at(w: &[u8], i: usize) -> u8
-    ensures { λ r. ⌜ r ≡ getD (now (w .entry)) i 0 ⌝ }
+// The line of these words, which have no spaces before or after them.
+pub fn parse(s: &[u8]) -> Line
+    ensures { λ r. ⌜ r ≡ parsed (now (s .entry)) ⌝ }
 {
-    if i < w.len() {
-        return w[i];
+    let k = table::row_of(words::word(s, 0));
+    let name = table::name_at(k);
+    let verdict = shapes::line_fault(k, s);
+    Line {
+        command: judged_command(verdict, name, s),
+        settings: values::settings_in(s),
+        desk: values::desk_of(name, s),
     }
-    0
 }
 
 fn replied(s: &[u8]) -> Command
@@ -105,8 +103,8 @@ fn replied(s: &[u8]) -> Command
     let code = words::word(s, 1);
     let bad = words::word(s, 2);
     Command::Reply {
-        first: byte_at(code, 0),
-        second: byte_at(code, 1),
+        first: texts::byte_at(code, 0),
+        second: texts::byte_at(code, 1),
         good: bad.len() == 0,
     }
 }
@@ -117,17 +115,18 @@ fn command_of(name: Name, s: &[u8]) -> Command
 {
     match name {
         Name::Terminal => Command::Terminal,
-        Name::SignedOn => Command::SignedOn(Batch(values::number32(words::word(s, 1)))),
-        Name::Request(_) => Command::Start,
-        Name::Void(_) => Command::Start,
-        Name::Authorised(_) => Command::Start,
-        Name::Refund => Command::Start,
-        Name::Start => Command::Start,
-        Name::Answer => Command::Answer(words::same(words::word(s, 2), b"good")),
+        Name::SignedOn => Command::Call(Call::SignedOn(Batch(values::number32(words::word(s, 1))))),
+        Name::Request(_) => Command::Call(Call::Start),
+        Name::Void(_) => Command::Call(Call::Start),
+        Name::Authorised(_) => Command::Call(Call::Start),
+        Name::Refund => Command::Call(Call::Start),
+        Name::Start => Command::Call(Call::Start),
+        Name::Answer => Command::Call(Call::Answer(words::same(words::word(s, 2), b"good"))),
         Name::Reply => replied(s),
         Name::Reconcile => Command::Reconcile(values::number8(words::word(s, 1))),
         Name::Date => Command::Date(values::month_day(words::word(s, 1))),
-        Name::Plain(p) => Command::Plain(p),
+        Name::Call(c) => Command::Call(c),
+        Name::Show(x) => Command::Show(x),
         Name::Unknown => Command::Wrong(Fault::Unknown),
     }
 }
@@ -138,18 +137,5 @@ fn judged_command(verdict: Verdict, name: Name, s: &[u8]) -> Command
     match verdict {
         Verdict::Fine => command_of(name, s),
         Verdict::Wrong(f) => Command::Wrong(f),
-    }
-}
-
-// The line of these words, which have no spaces before or after them.
-pub fn parse(s: &[u8]) -> Line
-    ensures { λ r. ⌜ r ≡ parsed (now (s .entry)) ⌝ }
-{
-    let name = names::name_of(words::word(s, 0));
-    let verdict = shapes::fault_in(shapes::shapes_of(name), s);
-    Line {
-        command: judged_command(verdict, name, s),
-        settings: values::settings_in(s),
-        desk: values::desk_of(name, s),
     }
 }

@@ -1,43 +1,31 @@
 // What the words after the first must be, and what is wrong with them.
 use crate::Fault;
-use crate::Name;
 use crate::Shape;
 use crate::Verdict;
+use crate::table;
 use digits::Number;
-use lines::Hex;
+use hexadecimal::Hex;
 ghost use mathlib.Core.Path.{_≡_};
 ghost use Prim.Native.Nat.{_<_};
 ghost use Rattle.words.specs.Words.{isText};
-ghost use Rattle.script.specs.Shapes.{shapesOf, isIs, isDash, isBytes, fits, isEnd, judged, faultFrom};
+ghost use Rattle.script.specs.Shapes.{isIs, isDash, isBytes, fits, isEnd, judged, lineFault};
 
-// Shapes of words: a 32-bit number, an 8-bit number, an amount, and no word.
-const WORD32: Shape = Shape::Number(4294967295);
-
-const WORD8: Shape = Shape::Number(255);
-
-const AMOUNT: Shape = Shape::Number(999999999999999999);
-
-const END: Shape = Shape::End;
-
-// The words that follow the first.
-pub fn shapes_of(name: Name) -> [Shape; 9]
-    ensures { λ r. ⌜ r ≡ shapesOf name ⌝ }
+// The first fault of a line's words after the first, where the line has row k of the table.
+pub fn line_fault(k: usize, s: &[u8]) -> Verdict
+    ensures { λ r. ⌜ r ≡ lineFault k (now (s .entry)) ⌝ }
 {
-    match name {
-        Name::Terminal => [WORD32, WORD8, AMOUNT, Shape::Text(8), Shape::Text(15), END, END, END, END],
-        Name::SignedOn => [WORD32, END, END, END, END, END, END, END, END],
-        Name::Request(_) => [AMOUNT, Shape::Card, END, END, END, END, END, END, END],
-        Name::Void(_) => [WORD32, END, END, END, END, END, END, END, END],
-        Name::Authorised(_) => [AMOUNT, Shape::Card, Shape::Text(6), Shape::Date, END, END, END, END, END],
-        Name::Refund => [AMOUNT, Shape::Card, Shape::Text(12), Shape::Date, END, END, END, END, END],
-        Name::Start => [WORD8, AMOUNT, Shape::CardOrNone, WORD32, Shape::TextOrNone(12), Shape::TextOrNone(6), WORD8, WORD8, END],
-        Name::Answer => [Shape::Bytes, Shape::Mac, END, END, END, END, END, END, END],
-        Name::Reply => [Shape::Code, Shape::Bad, END, END, END, END, END, END, END],
-        Name::Reconcile => [Shape::Number(9), END, END, END, END, END, END, END, END],
-        Name::Date => [Shape::Date, END, END, END, END, END, END, END, END],
-        Name::Plain(_) => [END, END, END, END, END, END, END, END, END],
-        Name::Unknown => [Shape::Any, Shape::Any, Shape::Any, Shape::Any, Shape::Any, Shape::Any, Shape::Any, Shape::Any, Shape::Any],
+    let mut i: u8 = 1;
+    while i < 10 {
+        let verdict = judged(table::shape_at(k, i), i, words::word(s, i));
+        match verdict {
+            Verdict::Fine => {}
+            Verdict::Wrong(f) => {
+                return Verdict::Wrong(f);
+            }
+        }
+        i += 1;
     }
+    Verdict::Fine
 }
 
 fn is_number(x: Number) -> bool
@@ -67,7 +55,7 @@ fn is_hexadecimal(w: &[u8]) -> bool
     ensures { λ r. ⌜ r ≡ isBytes (now (w .entry)) ⌝ }
 {
     let mut bytes = [0u8; 2048];
-    match lines::hex_into(w, &mut bytes) {
+    match hexadecimal::hex_into(w, &mut bytes) {
         Hex::Bytes(_) => true,
         Hex::Not => false,
         Hex::TooLong => false,
@@ -80,11 +68,11 @@ fn fits(shape: Shape, w: &[u8]) -> bool
 {
     match shape {
         Shape::Number(most) => is_number(words::number_up_to(most, w)),
-        Shape::Card => is_number(words::number_in(19, w)),
-        Shape::CardOrNone => is_dash(w) | is_number(words::number_in(19, w)),
+        Shape::Card => is_number(words::decimal_in(19, w)),
+        Shape::CardOrNone => is_dash(w) | is_number(words::decimal_in(19, w)),
         Shape::Text(n) => is_text(n, w),
         Shape::TextOrNone(n) => is_dash(w) | is_text(n, w),
-        Shape::Date => (w.len() == 4) & is_number(words::number_in(4, w)),
+        Shape::Date => (w.len() == 4) & is_number(words::decimal_in(4, w)),
         Shape::Code => (w.len() == 2) & field::all_printable(w),
         Shape::Bytes => is_hexadecimal(w),
         Shape::Mac => words::same(w, b"good") | words::same(w, b"bad"),
@@ -126,24 +114,4 @@ fn judged(shape: Shape, k: u8, w: &[u8]) -> Verdict
         return Verdict::Wrong(Fault::Count);
     }
     Verdict::Wrong(Fault::Word(k + 1))
-}
-
-// The first fault of a line's words after the first.
-pub fn fault_in(shapes: [Shape; 9], s: &[u8]) -> Verdict
-    ensures { λ r. ⌜ r ≡ faultFrom 1 shapes (now (s .entry)) ⌝ }
-{
-    let mut k: u8 = 0;
-    while k < 9 {
-        let i = k as usize;
-        let shape = shapes[i];
-        let verdict = judged(shape, k + 1, words::word(s, k + 1));
-        match verdict {
-            Verdict::Fine => {}
-            Verdict::Wrong(f) => {
-                return Verdict::Wrong(f);
-            }
-        }
-        k += 1;
-    }
-    Verdict::Fine
 }

@@ -1,8 +1,8 @@
 // What words say: numbers, cards, a desk's data and settings.
 use crate::Name;
 use digits::Number;
-use parts::Trace;
-use start::Desk;
+use numbers::Trace;
+use call_start::Desk;
 use state::Card;
 use state::Settings;
 ghost use mathlib.Core.Path.{_≡_};
@@ -13,32 +13,32 @@ ghost use Rattle.script.specs.Script.{number8, number32, number64, month
 pub fn number8(w: &[u8]) -> u8
     ensures { λ r. ⌜ r ≡ number8 (now (w .entry)) ⌝ }
 {
-    packed::numeral(words::number_up_to(255, w)) as u8
+    digits::numeral(words::number_up_to(255, w)) as u8
 }
 
 pub fn number32(w: &[u8]) -> u32
     ensures { λ r. ⌜ r ≡ number32 (now (w .entry)) ⌝ }
 {
-    packed::numeral(words::number_up_to(4294967295, w)) as u32
+    digits::numeral(words::number_up_to(4294967295, w)) as u32
 }
 
 fn number64(w: &[u8]) -> u64
     ensures { λ r. ⌜ r ≡ number64 (now (w .entry)) ⌝ }
 {
-    packed::numeral(words::number_up_to(999999999999999999, w))
+    digits::numeral(words::number_up_to(999999999999999999, w))
 }
 
 // A date MMDD as a number.
 pub fn month_day(w: &[u8]) -> u16
     ensures { λ r. ⌜ (r ≡ monthDay (now (w .entry))) × (r < 10000) ⌝ }
 {
-    packed::numeral(words::number_in(4, w)) as u16
+    digits::numeral(words::decimal_in(4, w)) as u16
 }
 
 fn card_in(w: &[u8]) -> Card
     ensures { λ r. ⌜ r ≡ cardIn (now (w .entry)) ⌝ }
 {
-    match words::number_in(19, w) {
+    match words::decimal_in(19, w) {
         Number::Is(x) => Card {
             number: x,
             length: w.len() as u8,
@@ -176,7 +176,8 @@ pub fn desk_of(name: Name, s: &[u8]) -> Desk
         Name::Reply => given(s),
         Name::Reconcile => given(s),
         Name::Date => given(s),
-        Name::Plain(_) => given(s),
+        Name::Call(_) => given(s),
+        Name::Show(_) => given(s),
         Name::Unknown => given(s),
     }
 }

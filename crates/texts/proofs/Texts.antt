@@ -6,12 +6,10 @@ use native.Mathlib.Omega.{arith}
 use native.Mathlib.Decide.{decLt}
 use native.Mathlib.Numerals.{add-one}
 use lib.ListN.{length, take, drop, getD, length-append, length-drop, List·getD-append}
-use lib.Seq.{take-length, take-suc, take-append-le, take-append-add, length-take-le, take-paste, length-paste, getD-at, take-at}
+use lib.Seq.{take-length, take-suc, take-append-le, take-append-add, length-take-le, take-paste, length-paste, getD-at, drop-length}
 use borrow.Rule.Slice.PartMut.{putMid, post-is}
 use Rattle.digits.specs.Lists.{tabulate}
-use Rattle.lines.specs.Hexadecimal.{toHex, hexAt}
-use Rattle.lines.specs.Buffer.{Put, fitting, decimal}
-use Rattle.lines.proofs.Buffer.{copied, fitting-whole, decimal-size}
+use Rattle.hexadecimal.specs.Hexadecimal.{toHex, hexAt}
 use Rattle.texts.specs.Text.{Text, Adds}
 
 -- no text yet
@@ -28,8 +26,12 @@ pub and-then : {x y o l l2 : List ℕ} {n r r2 : ℕ} → Adds x n o r l → Add
 and-then {x} {y} a b w t = rw append-assoc at (b (w ++ x) (a w t))
 
 -- a text past the buffer's end is none
-pub no-room : (x o : List ℕ) (n : ℕ) → length o < n → Adds x n o n o
-no-room x o n h w t = absurd (omega (arith, within t))
+pub past-the-end : (x o : List ℕ) (n : ℕ) → length o < n → Adds x n o n o
+past-the-end x o n h w t = absurd (omega (arith, within t))
+
+-- b, copied into a buffer of its length
+pub copied : (b d e : List ℕ) → length d ≡ length b → e ≡ take (length b) b ++ drop (length b) d → e ≡ b
+copied b d e h q = q ∙ rw (take-length, ← h, drop-length, append-nil)
 
 -- as much of x as there is room for, after the text w
 pub grows : {w o l : List ℕ} {n k : ℕ} (x : List ℕ) → Text w n o → k ≡ min (length x) (length o - n)
@@ -101,9 +103,3 @@ hex-none = nothing
 pub hex-next : {o l l2 : List ℕ} {n r r2 : ℕ} (s : List ℕ) (i : ℕ) → i < length s → Adds (toHex (take i s)) n o r l
     → Adds (toHex (getD s i 0 ∷ [])) r l r2 l2 → Adds (toHex (take (i + 1) s)) n o r2 l2
 hex-next s i h a b = rw (add-one, take-suc s i 0 h, hex-snoc (take i s) (getD s i 0)) (and-then a b)
-
--- what the front of a buffer of 20 holds after a number was put there
-pub put-text : (x : ℕ) {o l : List ℕ} {r : ℕ} → Put (fitting 20 (decimal x)) o r l → take r l ≡ decimal x
-put-text x {o} {l} {r} p =
-    let q = rw (fitting-whole 20 (decimal x) (decimal-size x)) at p in
-    rw (q .stored) (take-at (decimal x) (drop r o) r (sym (q .count)))

@@ -7,7 +7,7 @@ use Prim.Native.String.{String, [] as no-characters, _∷_ as _before_}
 use lib.ListN.{length, take}
 use Rattle.digits.specs.Digits.{pack}
 use Rattle.digits.specs.Numbers.{digitsOf}
-use Rattle.lines.specs.Hexadecimal.{toHex}
+use Rattle.hexadecimal.specs.Hexadecimal.{toHex}
 
 -- the bytes of a quoted text
 abbrev pub text : String → List ℕ

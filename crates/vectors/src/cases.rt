@@ -1,18 +1,18 @@
 // The bytes of a case: a head of 158, its journal and its answer. The head has the event at 0, a batch number, what the desk
 // keyed, the word on the MAC, how long the message buffer, the journal and the answer are, and the state.
-use crate::numbers::byte_at;
-use crate::numbers::bytes_at;
-use crate::numbers::from;
-use crate::numbers::part;
-use crate::numbers::u16_at;
-use crate::numbers::u32_at;
-use crate::numbers::u64_at;
+use crate::integers::bytes_at;
+use crate::integers::from;
+use crate::integers::part;
+use crate::integers::u16_at;
+use crate::integers::u32_at;
+use crate::integers::u64_at;
 use crate::states::card_of;
 use crate::states::is_state;
 use crate::states::state_of;
-use parts::Batch;
-use parts::Trace;
-use start::Desk;
+use call_start::Desk;
+use calls::Call;
+use numbers::Batch;
+use numbers::Trace;
 use terminal::Step;
 use terminal::Terminal;
 
@@ -53,14 +53,14 @@ fn answer_of(s: &[u8]) -> &[u8] {
 
 // Whether a case has all its bytes, and names an event, a word on the MAC and a state.
 pub fn is_whole(s: &[u8]) -> bool {
-    let event = byte_at(s, 0);
+    let event = texts::byte_at(s, 0);
     let journal = u16_at(s, JOURNAL_LENGTH);
     let answer = u16_at(s, ANSWER_LENGTH);
     (s.len() == HEAD + journal as usize + answer as usize)
         & (answer <= 512)
         & (1 <= event)
         & (event <= 8)
-        & (byte_at(s, MAC) <= 1)
+        & (texts::byte_at(s, MAC) <= 1)
         & is_state(state_bytes(s))
 }
 
@@ -71,12 +71,12 @@ fn desk_of(s: &[u8]) -> Desk {
     bytes_at(s, 24, &mut authorisation);
     bytes_at(s, 30, &mut reference);
     Desk {
-        kind: byte_at(s, 0),
+        kind: texts::byte_at(s, 0),
         amount: u64_at(s, 1),
         card: card_of(from(s, 9)),
         original: Trace(u32_at(s, 18)),
-        month: byte_at(s, 22),
-        day: byte_at(s, 23),
+        month: texts::byte_at(s, 22),
+        day: texts::byte_at(s, 23),
         authorisation: authorisation,
         reference: reference,
     }
@@ -87,14 +87,19 @@ pub fn call(s: &[u8], journal: &mut [u8], message: &mut [u8]) -> Step {
     let terminal = Terminal {
         state: state_of(state_bytes(s)),
     };
-    match byte_at(s, 0) {
-        1 => terminal.signed_on(Batch(u32_at(s, BATCH)), journal, message),
-        2 => terminal.start(desk_of(part(s, DESK, 42)), journal, message),
-        3 => terminal.answer(answer_of(s), byte_at(s, MAC) == 1, journal, message),
-        4 => terminal.no_answer(journal, message),
-        5 => terminal.power_returned(journal, message),
-        6 => terminal.send_reversal(journal, message),
-        7 => terminal.settle(journal, message),
-        _ => terminal.send_next_upload(journal, message),
+    let desk = desk_of(part(s, DESK, 42));
+    calls::make(terminal, call_of(s), desk, answer_of(s), journal, message)
+}
+
+fn call_of(s: &[u8]) -> Call {
+    match texts::byte_at(s, 0) {
+        1 => Call::SignedOn(Batch(u32_at(s, BATCH))),
+        2 => Call::Start,
+        3 => Call::Answer(texts::byte_at(s, MAC) == 1),
+        4 => Call::NoAnswer,
+        5 => Call::PowerReturned,
+        6 => Call::SendReversal,
+        7 => Call::Settle,
+        _ => Call::SendNextUpload,
     }
 }

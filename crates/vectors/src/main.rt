@@ -1,12 +1,12 @@
 // Cases of the calls: reads a case in hexadecimal from each line of standard input, and writes what its call gives.
 mod cases;
-mod numbers;
+mod integers;
 mod states;
 
+use hexadecimal::Hex;
 use input::Input;
 use libc::STDIN_FILENO;
 use libc::STDOUT_FILENO;
-use lines::Hex;
 use state::Outcome;
 ghost use mathlib.Core.Path.{_≡_};
 ghost use Prim.Native.Nat.{_≤_};
@@ -80,7 +80,7 @@ fn show_case(s: &[u8]) -> bool {
     let blank = [0xEEu8; 512];
     let mut message = blank;
     let mut journal = [0u8; 1024];
-    lines::put(before, &mut journal);
+    texts::add(before, 0, &mut journal);
     show(s, &blank[..m], &mut journal[..j], &mut message[..m]);
     true
 }
@@ -99,7 +99,7 @@ fn complain_of_length(number: u64) {
 // The answer to a line's words.
 fn answer(number: u64, words: &[u8]) {
     let mut bytes = [0u8; 2048];
-    let h = lines::hex_into(words, &mut bytes);
+    let h = hexadecimal::hex_into(words, &mut bytes);
     match h {
         Hex::Bytes(n) => {
             if !show_case(&bytes[..n]) {
@@ -115,15 +115,15 @@ fn answer(number: u64, words: &[u8]) {
     }
 }
 
-// Answers a line without its line end, unless it is skipped.
-fn answer_line(number: u64, line: &[u8]) {
-    if Input::LONGEST < line.len() {
-        complain_of_length(number);
+// Answers the line in hand, unless it is skipped.
+fn answer_line(at: Input, line: &[u8]) {
+    if input::is_too_long(at, line) {
+        complain_of_length(at.number);
         return;
     }
-    let words = lines::trim(line);
-    if !lines::is_skipped(words) {
-        answer(number, words);
+    let words = input::words_of(at, line);
+    if words.len() != 0 {
+        answer(at.number, words);
     }
 }
 
@@ -134,11 +134,7 @@ fn answer_all(chunk: &mut [u8], line: &mut [u8]) {
     let mut turns = u64::MAX;
     while turns > 0 {
         at = input::next(at, chunk, line);
-        let len = at.len;
-        if at.ended & (len == 0) {
-            break;
-        }
-        answer_line(at.number, input::line_of(at.whole, &line[..len]));
+        answer_line(at, line);
         if at.ended {
             break;
         }

@@ -1,15 +1,14 @@
 // The 104 bytes of a state: its settings at 0, whether it is signed on and its other numbers at 36, its counts at 47 and its
 // phase at 71. The phase is a number from 0 to 8; after it stand a request at 72, why and how often it is reversed at 98, and
 // a trace or the number of an entry at 100, each of them 0 where the phase has none.
-use crate::numbers::byte_at;
-use crate::numbers::bytes_at;
-use crate::numbers::from;
-use crate::numbers::put_numbers;
-use crate::numbers::u16_at;
-use crate::numbers::u32_at;
-use crate::numbers::u64_at;
-use parts::Batch;
-use parts::Trace;
+use crate::integers::bytes_at;
+use crate::integers::from;
+use crate::integers::put_numbers;
+use crate::integers::u16_at;
+use crate::integers::u32_at;
+use crate::integers::u64_at;
+use numbers::Batch;
+use numbers::Trace;
 use state::Awaited;
 use state::Card;
 use state::Counts;
@@ -24,7 +23,7 @@ use state::State;
 pub fn state_of(s: &[u8]) -> State {
     State {
         settings: settings_of(s),
-        signed_on: byte_at(s, 36) == 1,
+        signed_on: texts::byte_at(s, 36) == 1,
         batch: Batch(u32_at(s, 37)),
         next: Trace(u32_at(s, 41)),
         entries: u16_at(s, 45),
@@ -40,7 +39,7 @@ fn settings_of(s: &[u8]) -> Settings {
     bytes_at(s, 21, &mut merchant);
     Settings {
         limit: u32_at(s, 0),
-        sendings: byte_at(s, 4),
+        sendings: texts::byte_at(s, 4),
         refund: u64_at(s, 5),
         terminal: terminal,
         merchant: merchant,
@@ -60,7 +59,7 @@ fn counts_of(s: &[u8]) -> Counts {
 
 // The phase, from the bytes at 71 on.
 fn phase_of(s: &[u8]) -> Phase {
-    match byte_at(s, 0) {
+    match texts::byte_at(s, 0) {
         1 => Phase::Waiting(Awaited::Request(request_of(s))),
         2 => Phase::Waiting(Awaited::Reversal(reversal_of(s))),
         3 => Phase::Waiting(Awaited::Settlement(Trace(u32_at(s, 29)))),
@@ -75,7 +74,7 @@ fn phase_of(s: &[u8]) -> Phase {
 
 fn request_of(s: &[u8]) -> Request {
     Request {
-        kind: byte_at(s, 1),
+        kind: texts::byte_at(s, 1),
         amount: u64_at(s, 2),
         card: card_of(from(s, 10)),
         trace: Trace(u32_at(s, 19)),
@@ -87,15 +86,15 @@ fn request_of(s: &[u8]) -> Request {
 pub fn card_of(s: &[u8]) -> Card {
     Card {
         number: u64_at(s, 0),
-        length: byte_at(s, 8),
+        length: texts::byte_at(s, 8),
     }
 }
 
 fn reversal_of(s: &[u8]) -> Reversal {
     Reversal {
         request: request_of(s),
-        reason: reason_of(byte_at(s, 27)),
-        sendings: byte_at(s, 28),
+        reason: reason_of(texts::byte_at(s, 27)),
+        sendings: texts::byte_at(s, 28),
     }
 }
 

@@ -14,15 +14,15 @@ use Rattle.digits.specs.Numbers.{numberOf}
 use Rattle.digits.specs.declared.Number.{Number}
 use Rattle.digits.specs.declared.Number.the-variants.{Not}
 use Rattle.digits.proofs.Lists.{tail-part, length-tabulate}
-use Rattle.lines.specs.Hexadecimal.{isHex}
-use Rattle.lines.specs.Outcome.{hexOutcome, hexStored}
-use Rattle.lines.specs.declared.Hex.{Hex}
-use Rattle.lines.specs.declared.Hex.the-variants as hex
-use Rattle.lines.proofs.Hexadecimal.{length-from-hex}
+use Rattle.hexadecimal.specs.Hexadecimal.{isHex}
+use Rattle.hexadecimal.specs.Outcome.{hexOutcome, hexStored}
+use Rattle.hexadecimal.specs.declared.Hex.{Hex}
+use Rattle.hexadecimal.specs.declared.Hex.the-variants as hex
+use Rattle.hexadecimal.proofs.Hexadecimal.{length-from-hex}
 use Rattle.words.specs.Words.{pastWord, firstWord, rest, after, digitOf, numberIn, saysBytes, character, isText, textIn}
 
 -- a search of the whole line
-found : (b r : ℕ) (s : List ℕ) → r ≡ 0 + indexOf b (slice 0 (length s) s) → r ≡ indexOf b s
+pub found : (b r : ℕ) (s : List ℕ) → r ≡ 0 + indexOf b (slice 0 (length s) s) → r ≡ indexOf b s
 unfolding slice
 found b r s e = let q : r ≡ indexOf b (take (length s) s) = omega arith in rw take-length at q
 

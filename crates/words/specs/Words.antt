@@ -9,8 +9,8 @@ use Rattle.digits.specs.Lists.{tabulate, all}
 use Rattle.digits.specs.Numbers.{numberOf}
 use Rattle.digits.specs.declared.Number.{Number}
 use Rattle.digits.specs.declared.Number.the-variants.{Is, Not}
-use Rattle.lines.specs.Hexadecimal.{isHex, fromHex}
-use Rattle.lines.specs.Lines.{trimmed}
+use Rattle.hexadecimal.specs.Hexadecimal.{isHex, fromHex}
+use Rattle.words.specs.Lines.{trimmed}
 
 -- s from its first space on
 unfoldable pub pastWord : List ℕ → List ℕ

@@ -1,30 +1,15 @@
-// The words of a line, and what a word says.
+// The words of a line, what a word says, and tables of text.
+mod rows;
+
+pub use rows::row;
+pub use rows::row_named;
 use digits::Number;
 ghost use mathlib.Core.Path.{_≡_};
 ghost use mathlib.Core.Bool.{cond};
 ghost use lib.ListN.{length, getD};
 ghost use Rattle.digits.specs.Lists.{tabulate};
+ghost use Rattle.words.specs.Lines.{spaces, lastEnd, trimmed, skipped};
 ghost use Rattle.words.specs.Words.{pastWord, firstWord, rest, after, wordAt, sameWord, digitOf, numberIn, upTo, numberUpTo, saysBytes, character, isText, textIn};
-
-fn past_word(s: &[u8]) -> &[u8]
-    ensures { λ r. ⌜ now r ≡ pastWord (now (s .entry)) ⌝ }
-{
-    let end = bytes::scan::find(s, 0, s.len(), b' ');
-    &s[end..]
-}
-
-fn first_word(s: &[u8]) -> &[u8]
-    ensures { λ r. ⌜ now r ≡ firstWord (now (s .entry)) ⌝ }
-{
-    let end = bytes::scan::find(s, 0, s.len(), b' ');
-    &s[..end]
-}
-
-fn rest(s: &[u8]) -> &[u8]
-    ensures { λ r. ⌜ now r ≡ rest (now (s .entry)) ⌝ }
-{
-    lines::trim(past_word(s))
-}
 
 // What follows k words of a line.
 pub fn after(s: &[u8], k: u8) -> &[u8]
@@ -60,6 +45,91 @@ pub fn same(a: &[u8], b: &[u8]) -> bool
     true
 }
 
+// The number that a word of 1 to so many digits says; at most 19 are read.
+pub fn decimal_in(longest: usize, w: &[u8]) -> Number
+    ensures { λ r. ⌜ r ≡ numberIn longest (now (w .entry)) ⌝ }
+{
+    let n = w.len();
+    if n == 0 {
+        return Number::Not;
+    }
+    if longest < n {
+        return Number::Not;
+    }
+    if 19 < n {
+        return Number::Not;
+    }
+    let mut ds = [0u8; 19];
+    digits_into(w, &mut ds[..n]);
+    digits::number_of(&ds[..n])
+}
+
+// The number that a word of up to 18 digits says, where it is at most so much.
+pub fn number_up_to(most: u64, w: &[u8]) -> Number
+    ensures { λ r. ⌜ r ≡ numberUpTo most (now (w .entry)) ⌝ }
+{
+    up_to(most, decimal_in(18, w))
+}
+
+// The bytes of a text, which must fill out; else out stays.
+pub fn text_into(w: &[u8], out: &mut [u8]) -> bool
+    ensures { λ r. ⌜ (r ≡ isText (length (now (out .entry))) (now (w .entry))) × (now (out .exit) ≡ cond r (textIn (now (w .entry))) (now (out .entry))) ⌝ }
+{
+    if says_bytes(w) {
+        if w.len() != 2 * out.len() + 1 {
+            return false;
+        }
+        return match hexadecimal::hex_into(&w[1..], out) {
+            hexadecimal::Hex::Bytes(_) => true,
+            hexadecimal::Hex::Not => false,
+            hexadecimal::Hex::TooLong => false,
+        };
+    }
+    if w.len() != out.len() {
+        return false;
+    }
+    characters_into(w, out);
+    true
+}
+
+// A line without the spaces before its first word and after its last.
+pub fn trim(s: &[u8]) -> &[u8]
+    ensures { λ r. ⌜ now r ≡ trimmed (now (s .entry)) ⌝ }
+{
+    let rest = &s[spaces_before(s)..];
+    &rest[..words_end(rest)]
+}
+
+// Whether a line of these words is skipped: it is blank, or its first character is `#`.
+pub fn is_skipped(s: &[u8]) -> bool
+    ensures { λ r. ⌜ r ≡ skipped (now (s .entry)) ⌝ }
+{
+    if s.len() == 0 {
+        return true;
+    }
+    s[0] == 0x23
+}
+
+fn past_word(s: &[u8]) -> &[u8]
+    ensures { λ r. ⌜ now r ≡ pastWord (now (s .entry)) ⌝ }
+{
+    let end = bytes::scan::find(s, 0, s.len(), b' ');
+    &s[end..]
+}
+
+fn first_word(s: &[u8]) -> &[u8]
+    ensures { λ r. ⌜ now r ≡ firstWord (now (s .entry)) ⌝ }
+{
+    let end = bytes::scan::find(s, 0, s.len(), b' ');
+    &s[..end]
+}
+
+fn rest(s: &[u8]) -> &[u8]
+    ensures { λ r. ⌜ now r ≡ rest (now (s .entry)) ⌝ }
+{
+    trim(past_word(s))
+}
+
 fn digit_of(b: u8) -> u8
     ensures { λ r. ⌜ r ≡ digitOf b ⌝ }
 {
@@ -80,25 +150,6 @@ fn digits_into(w: &[u8], out: &mut [u8])
     }
 }
 
-// The number that a word of 1 to so many digits says; at most 19 are read.
-pub fn number_in(longest: usize, w: &[u8]) -> Number
-    ensures { λ r. ⌜ r ≡ numberIn longest (now (w .entry)) ⌝ }
-{
-    let n = w.len();
-    if n == 0 {
-        return Number::Not;
-    }
-    if longest < n {
-        return Number::Not;
-    }
-    if 19 < n {
-        return Number::Not;
-    }
-    let mut ds = [0u8; 19];
-    digits_into(w, &mut ds[..n]);
-    digits::number_of(&ds[..n])
-}
-
 fn up_to(most: u64, x: Number) -> Number
     ensures { λ r. ⌜ r ≡ upTo most x ⌝ }
 {
@@ -111,13 +162,6 @@ fn up_to(most: u64, x: Number) -> Number
         }
         Number::Not => Number::Not,
     }
-}
-
-// The number that a word of up to 18 digits says, where it is at most so much.
-pub fn number_up_to(most: u64, w: &[u8]) -> Number
-    ensures { λ r. ⌜ r ≡ numberUpTo most (now (w .entry)) ⌝ }
-{
-    up_to(most, number_in(18, w))
 }
 
 fn says_bytes(w: &[u8]) -> bool
@@ -149,23 +193,28 @@ fn characters_into(w: &[u8], out: &mut [u8])
     }
 }
 
-// The bytes of a text, which must fill out; else out stays.
-pub fn text_into(w: &[u8], out: &mut [u8]) -> bool
-    ensures { λ r. ⌜ (r ≡ isText (length (now (out .entry))) (now (w .entry))) × (now (out .exit) ≡ cond r (textIn (now (w .entry))) (now (out .entry))) ⌝ }
+fn spaces_before(s: &[u8]) -> usize
+    ensures { λ r. ⌜ r ≡ spaces (now (s .entry)) ⌝ }
 {
-    if says_bytes(w) {
-        if w.len() != 2 * out.len() + 1 {
-            return false;
+    let mut i = 0;
+    while i < s.len() {
+        if s[i] != 0x20 {
+            return i;
         }
-        return match lines::hex_into(&w[1..], out) {
-            lines::Hex::Bytes(_) => true,
-            lines::Hex::Not => false,
-            lines::Hex::TooLong => false,
-        };
+        i += 1;
     }
-    if w.len() != out.len() {
-        return false;
+    i
+}
+
+fn words_end(s: &[u8]) -> usize
+    ensures { λ r. ⌜ r ≡ lastEnd (now (s .entry)) (length (now (s .entry))) ⌝ }
+{
+    let mut n = s.len();
+    while 0 < n {
+        if s[n - 1] != 0x20 {
+            return n;
+        }
+        n -= 1;
     }
-    characters_into(w, out);
-    true
+    n
 }

@@ -1,87 +1,72 @@
 -- `centre::with_field48` meets its contract.
-use mathlib.Core.Path.{_∙_}
+use mathlib.Core.List.{List, [], _∷_}
+use Prim.Native.Nat.{ℕ}
 use borrow.Author.Needs.{needs}
-use native.Mathlib.Omega.{arith}
-use Rattle.centre.proofs.Sent.{one-length, two-length, three-length, three-put}
+use Rattle.parts.specs.Layout.{widths}
+use Rattle.parts.specs.declared.Part.the-variants.{DebitAmount, DebitCount, CreditAmount, CreditCount}
+use Rattle.parts.proofs.Laid.{laid-digits, put-laid}
+use Rattle.compose.proofs.Places.{digits-known}
+use Rattle.centre.specs.Centre.{sentPart}
 use Rattle.centre.proofs.with_field48.Statement.{statement}
 use Rattle.centre.proofs.with_field48.Tie as tie
 
-number-in-requires : tie.Need-number-in-requires
-number-in-requires c κs = search needs
+slice-aggregate-put-sent : tie.Need-slice-aggregate-put-sent
+slice-aggregate-put-sent c = search needs
 
-numeral-requires : tie.Need-numeral-requires
-numeral-requires c κs = search needs
+put-sent-requires : tie.Need-put-sent-requires
+put-sent-requires c κs = search needs
 
-array-borrow-prefix-ds : tie.Need-array-borrow-prefix-ds
-array-borrow-prefix-ds c = search needs
+slice-aggregate-put-sent-2 : tie.Need-slice-aggregate-put-sent-2
+slice-aggregate-put-sent-2 c = search needs
 
-slice-aggregate-digits-into : tie.Need-slice-aggregate-digits-into
-slice-aggregate-digits-into c = search needs
+put-sent-requires-2 : tie.Need-put-sent-requires-2
+put-sent-requires-2 c κs = search needs
 
-digits-into-requires : tie.Need-digits-into-requires
-digits-into-requires c κs = search needs
+slice-aggregate-put-sent-3 : tie.Need-slice-aggregate-put-sent-3
+slice-aggregate-put-sent-3 c = search needs
 
-number-in-requires-2 : tie.Need-number-in-requires-2
-number-in-requires-2 c κs = search needs
+put-sent-requires-3 : tie.Need-put-sent-requires-3
+put-sent-requires-3 c κs = search needs
 
-numeral-requires-2 : tie.Need-numeral-requires-2
-numeral-requires-2 c κs = search needs
+slice-aggregate-put-sent-4 : tie.Need-slice-aggregate-put-sent-4
+slice-aggregate-put-sent-4 c = search needs
 
-sub-digits-into : tie.Need-sub-digits-into
-sub-digits-into c = search needs
+put-sent-requires-4 : tie.Need-put-sent-requires-4
+put-sent-requires-4 c κs = search needs
 
-part-ds-start : tie.Need-part-ds-start
-part-ds-start c = search needs
+slice-aggregate-put-part : tie.Need-slice-aggregate-put-part
+slice-aggregate-put-part c = search needs
 
-part-ds-end : tie.Need-part-ds-end
-part-ds-end c = omega (arith, one-length (c .before .before .before .before .before .numeral .result) (c .before .before .before .digits-into .ensures))
-
-digits-into-requires-2 : tie.Need-digits-into-requires-2
-digits-into-requires-2 c κs = search needs
-
-sub-digits-into-2 : tie.Need-sub-digits-into-2
-sub-digits-into-2 c = search needs
-
-part-ds-start-2 : tie.Need-part-ds-start-2
-part-ds-start-2 c = search needs
-
-part-ds-end-2 : tie.Need-part-ds-end-2
-part-ds-end-2 c = omega (arith, two-length (c .before .before .before .before .before .before .before .before .numeral .result) (c .before .before .before .before .before .before .digits-into .ensures) (c .before .before .before .numeral2 .result) (c .before .digits-into2 .ensures))
-
-digits-into-requires-3 : tie.Need-digits-into-requires-3
-digits-into-requires-3 c κs = search needs
+put-part-requires : tie.Need-put-part-requires
+put-part-requires c κs = search needs
 
 slice-aggregate-with-digits : tie.Need-slice-aggregate-with-digits
-slice-aggregate-with-digits c =
-    omega (arith, three-length (c .before .before .before .before .before .before .before .before .before .before .before .before .numeral .result) (c .before .before .before .before .before .before .before .before .before .before .digits-into .ensures) (c .before .before .before .before .before .before .before .numeral2 .result) (c .before .before .before .before .before .digits-into2 .ensures) (c .before .before .before .before .before .before .before .before .before .before .before .before .before .before .args .digit) (c .before .before .digits-into3 .ensures))
+slice-aggregate-with-digits c = search needs
 
 with-digits-requires : tie.Need-with-digits-requires
 with-digits-requires c κs = search needs
 
 returns : tie.Need-returns
 returns c =
-    three-put (c .before .before .before .before .before .before .before .before .before .before .before .before .before .numeral .result) (c .before .before .before .before .before .before .before .before .before .before .before .digits-into .ensures) (c .before .before .before .before .before .before .before .before .numeral2 .result) (c .before .before .before .before .before .before .digits-into2 .ensures) (c .before .before .before .before .before .before .before .before .before .before .before .before .before .before .before .args .digit) (c .before .before .before .digits-into3 .ensures) (c .before .before .before .before .before .before .before .before .before .before .before .before .before .before .before .args .m) (c .with-digits .ensures)
-    ∙ rw (c .before .before .before .before .before .before .before .before .numeral2 .ensures, c .before .before .before .before .before .before .before .before .before .number-in2 .ensures, c .before .before .before .before .before .before .before .before .before .before .before .before .before .numeral .ensures, c .before .before .before .before .before .before .before .before .before .before .before .before .before .before .number-in .ensures)
+    let a = c .before .before .before .before .before .before .before .before .before .before .before .before .before .before .before .before .before .args in
+    let xs : List ℕ = sentPart DebitAmount (a .sent) ∷ sentPart DebitCount (a .sent) ∷ sentPart CreditAmount (a .sent) ∷ sentPart CreditCount (a .sent) ∷ a .digit ∷ [] in
+    let put = put-laid (widths 48) xs (rw (c .before .before .before .before .before .before .put-sent4 .ensures, c .before .before .before .before .before .before .before .before .before .put-sent3 .ensures, c .before .before .before .before .before .before .before .before .before .before .before .before .put-sent2 .ensures, c .before .before .before .before .before .before .before .before .before .before .before .before .before .before .before .put-sent .ensures) at (c .before .before .before .put-part .ensures)) in
+    digits-known (a .m) 48 put (laid-digits (widths 48) xs) (c .with-digits .ensures)
 
 pub with-field48-spec : {M : Type 1} → statement M
 with-field48-spec =
     tie.close
     (tie.spec
-    number-in-requires
-    numeral-requires
-    array-borrow-prefix-ds
-    slice-aggregate-digits-into
-    digits-into-requires
-    number-in-requires-2
-    numeral-requires-2
-    sub-digits-into
-    part-ds-start
-    part-ds-end
-    digits-into-requires-2
-    sub-digits-into-2
-    part-ds-start-2
-    part-ds-end-2
-    digits-into-requires-3
+    slice-aggregate-put-sent
+    put-sent-requires
+    slice-aggregate-put-sent-2
+    put-sent-requires-2
+    slice-aggregate-put-sent-3
+    put-sent-requires-3
+    slice-aggregate-put-sent-4
+    put-sent-requires-4
+    slice-aggregate-put-part
+    put-part-requires
     slice-aggregate-with-digits
     with-digits-requires
     returns)

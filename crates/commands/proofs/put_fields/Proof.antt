@@ -1,38 +1,37 @@
 -- `commands::put_fields` meets its contract.
-use mathlib.Core.Path.{refl}
-use mathlib.Core.List.{[]}
-use borrow.Author.Needs.{needs}
-use Rattle.texts.proofs.Texts.{start}
 use Rattle.commands.proofs.Laws.{no-fields, some-fields}
+use mathlib.Core.List.{[]}
+use Rattle.texts.proofs.Texts.{start}
+use borrow.Author.Needs.{needs}
 use Rattle.commands.proofs.put_fields.Statement.{statement}
 use Rattle.commands.proofs.put_fields.Tie as tie
 
 last-requires : tie.Need-last-requires
-last-requires c κs = tt
+last-requires c κs = search needs
 
 slice-aggregate-add : tie.Need-slice-aggregate-add
-slice-aggregate-add c = refl
+slice-aggregate-add c = search needs
 
 add-requires : tie.Need-add-requires
-add-requires c κs = tt
+add-requires c κs = search needs
 
 same-length : tie.Need-same-length
 same-length c = search needs
 
 returns : tie.Need-returns
-returns c = no-fields _ _ (c .before .before .before .before .before .before .last .ensures) (c .before .before .before .before .before .if1 .taken) (c .before .before .add .ensures [] (start _))
+returns c = no-fields _ (c .before .before .before .before .before .before .last .ensures) (c .before .before .before .before .before .if1 .taken) (c .before .before .add .ensures [] (start _))
 
 last-message-requires : tie.Need-last-message-requires
-last-message-requires c κs = tt
+last-message-requires c κs = search needs
 
-message-text-requires : tie.Need-message-text-requires
-message-text-requires c κs = tt
+add-message-requires : tie.Need-add-message-requires
+add-message-requires c κs = search needs
 
 same-length-2 : tie.Need-same-length-2
 same-length-2 c = search needs
 
 returns-2 : tie.Need-returns-2
-returns-2 c = some-fields _ _ (c .before .before .before .before .before .before .last .ensures) (c .before .before .before .before .before .if1 .left) (c .before .before .before .before .last-message .ensures) (c .before .before .message-text .ensures)
+returns-2 c = some-fields _ (c .before .before .before .before .before .before .last .ensures) (c .before .before .before .before .before .if1 .left) (c .before .before .before .before .last-message .ensures) (c .before .before .add-message .ensures [] (start _))
 
 pub put-fields-spec : {M : Type 1} → statement M
 put-fields-spec =
@@ -44,6 +43,6 @@ put-fields-spec =
     same-length
     returns
     last-message-requires
-    message-text-requires
+    add-message-requires
     same-length-2
     returns-2)

@@ -4,7 +4,7 @@ use borrow.Author.Needs.{needs}
 use native.Mathlib.Omega.{arith}
 use Rattle.decode.proofs.answer.Statement.{statement}
 use Rattle.decode.proofs.answer.Tie as tie
-use Rattle.lines.proofs.Hexadecimal.{outcome-fits}
+use Rattle.hexadecimal.proofs.Hexadecimal.{outcome-fits}
 use lib.Seq.{length-take-le}
 
 slice-aggregate-hex-into : tie.Need-slice-aggregate-hex-into

@@ -1,9 +1,7 @@
 -- `decode::answer_all` meets its contract.
-use mathlib.Core.Path.{_≡_, sym}
+use mathlib.Core.Path.{_≡_}
 use lib.ListN.{length}
-use lib.Seq.{length-take-le}
 use borrow.Author.Needs.{needs}
-use native.Mathlib.Omega.{arith}
 use Rattle.decode.proofs.answer_all.Statement.{statement}
 use Rattle.decode.proofs.answer_all.Tie as tie
 
@@ -21,15 +19,6 @@ loop-holds c = search needs
 
 next-requires : tie.Need-next-requires Inv-loop μ-loop
 next-requires c κs = search needs
-
-slice-reshare-prefix-line-of : tie.Need-slice-reshare-prefix-line-of Inv-loop μ-loop
-slice-reshare-prefix-line-of c = search needs
-
-slice-aggregate-line-of : tie.Need-slice-aggregate-line-of Inv-loop μ-loop
-slice-aggregate-line-of c = sym (length-take-le _ _ (omega arith))
-
-line-of-requires : tie.Need-line-of-requires Inv-loop μ-loop
-line-of-requires c κs = search needs
 
 answer-line-requires : tie.Need-answer-line-requires Inv-loop μ-loop
 answer-line-requires c κs = search needs
@@ -61,15 +50,6 @@ same-length-4 c = search needs
 returns-2 : tie.Need-returns-2 Inv-loop μ-loop
 returns-2 c = search needs
 
-same-length-5 : tie.Need-same-length-5 Inv-loop μ-loop
-same-length-5 c = search needs
-
-same-length-6 : tie.Need-same-length-6 Inv-loop μ-loop
-same-length-6 c = search needs
-
-returns-3 : tie.Need-returns-3 Inv-loop μ-loop
-returns-3 c = search needs
-
 pub answer-all-spec : {M : Type 1} → statement M
 answer-all-spec =
     tie.close
@@ -79,9 +59,6 @@ answer-all-spec =
     new-requires
     loop-holds
     next-requires
-    slice-reshare-prefix-line-of
-    slice-aggregate-line-of
-    line-of-requires
     answer-line-requires
     sub-turns
     loop-less
@@ -91,7 +68,4 @@ answer-all-spec =
     returns
     same-length-3
     same-length-4
-    returns-2
-    same-length-5
-    same-length-6
-    returns-3)
+    returns-2)

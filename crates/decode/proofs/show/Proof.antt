@@ -2,7 +2,10 @@
 use borrow.Author.Needs.{needs}
 use Rattle.decode.proofs.show.Statement.{statement}
 use Rattle.decode.proofs.show.Tie as tie
-use Rattle.lines.proofs.Buffer.{put-counts}
+use mathlib.Core.Path.{sym}
+use native.Mathlib.Omega.{arith}
+use lib.Seq.{length-take-le}
+use Rattle.texts.proofs.Texts.{start, within}
 
 read-requires : tie.Need-read-requires
 read-requires c κs = search needs
@@ -25,17 +28,20 @@ say-requires c κs = search needs
 enum-told : tie.Need-enum-told
 enum-told c = search needs
 
-slice-aggregate-message-text : tie.Need-slice-aggregate-message-text
-slice-aggregate-message-text c = search needs
+large-buffer-requires : tie.Need-large-buffer-requires
+large-buffer-requires c κs = search needs
 
-message-text-requires : tie.Need-message-text-requires
-message-text-requires c κs = search needs
+slice-aggregate-add-message : tie.Need-slice-aggregate-add-message
+slice-aggregate-add-message c = search needs
+
+add-message-requires : tie.Need-add-message-requires
+add-message-requires c κs = search needs
 
 array-share-prefix-text : tie.Need-array-share-prefix-text
-array-share-prefix-text c = search needs
+array-share-prefix-text c = omega (arith, within (c .before .add-message .ensures _ (start _)))
 
 slice-aggregate-write-all : tie.Need-slice-aggregate-write-all
-slice-aggregate-write-all c = put-counts (c .before .before .message-text .ensures) .1
+slice-aggregate-write-all c = sym (length-take-le _ _ (omega (arith, within (c .before .before .add-message .ensures _ (start _)))))
 
 write-all-requires : tie.Need-write-all-requires
 write-all-requires c κs = search needs
@@ -57,8 +63,9 @@ show-spec =
     slice-aggregate-say-2
     say-requires
     enum-told
-    slice-aggregate-message-text
-    message-text-requires
+    large-buffer-requires
+    slice-aggregate-add-message
+    add-message-requires
     array-share-prefix-text
     slice-aggregate-write-all
     write-all-requires

@@ -69,6 +69,9 @@ month-day-requires c κs = search needs
 enum-known-name : tie.Need-enum-known-name
 enum-known-name c = search needs
 
+enum-known-name-2 : tie.Need-enum-known-name-2
+enum-known-name-2 c = search needs
+
 enum-told-12 : tie.Need-enum-told-12
 enum-told-12 c = search needs
 
@@ -79,19 +82,19 @@ returns-2 : tie.Need-returns-2
 returns-2 c = rw (c .before .before .enum-told2 .given .1, c .number32 .ensures, c .before .word .ensures)
 
 returns-3 : tie.Need-returns-3
-returns-3 c = search needs
+returns-3 c = rw (c .enum-told3 .given .1)
 
 returns-4 : tie.Need-returns-4
-returns-4 c = search needs
+returns-4 c = rw (c .enum-told4 .given .1)
 
 returns-5 : tie.Need-returns-5
-returns-5 c = search needs
+returns-5 c = rw (c .enum-told5 .given .1)
 
 returns-6 : tie.Need-returns-6
-returns-6 c = search needs
+returns-6 c = rw (c .enum-told6 .given .1)
 
 returns-7 : tie.Need-returns-7
-returns-7 c = search needs
+returns-7 c = rw (c .enum-told7 .given .1)
 
 returns-8 : tie.Need-returns-8
 returns-8 c = rw (c .before .before .before .enum-told8 .given .1, c .same .ensures, c .before .before .word2 .ensures)
@@ -109,7 +112,10 @@ returns-12 : tie.Need-returns-12
 returns-12 c = rw (c .before .name .given .1)
 
 returns-13 : tie.Need-returns-13
-returns-13 c = rw (c .enum-told12 .given .1)
+returns-13 c = rw (c .before .name2 .given .1)
+
+returns-14 : tie.Need-returns-14
+returns-14 c = rw (c .enum-told12 .given .1)
 
 pub command-of-spec : {M : Type 1} → statement M
 command-of-spec =
@@ -137,6 +143,7 @@ command-of-spec =
     word-requires-4
     month-day-requires
     enum-known-name
+    enum-known-name-2
     enum-told-12
     returns
     returns-2
@@ -150,4 +157,5 @@ command-of-spec =
     returns-10
     returns-11
     returns-12
-    returns-13)
+    returns-13
+    returns-14)

@@ -1,20 +1,20 @@
 -- `script::parse` meets its contract.
-use borrow.Author.Needs.{needs}
 use Rattle.script.specs.Script.{parsed}
+use borrow.Author.Needs.{needs}
 use Rattle.script.proofs.parse.Statement.{statement}
 use Rattle.script.proofs.parse.Tie as tie
 
 word-requires : tie.Need-word-requires
 word-requires c κs = search needs
 
-name-of-requires : tie.Need-name-of-requires
-name-of-requires c κs = search needs
+row-of-requires : tie.Need-row-of-requires
+row-of-requires c κs = search needs
 
-shapes-of-requires : tie.Need-shapes-of-requires
-shapes-of-requires c κs = search needs
+name-at-requires : tie.Need-name-at-requires
+name-at-requires c κs = search needs
 
-fault-in-requires : tie.Need-fault-in-requires
-fault-in-requires c κs = search needs
+line-fault-requires : tie.Need-line-fault-requires
+line-fault-requires c κs = search needs
 
 judged-command-requires : tie.Need-judged-command-requires
 judged-command-requires c κs = search needs
@@ -27,16 +27,16 @@ desk-of-requires c κs = search needs
 
 returns : tie.Need-returns
 unfolding parsed
-returns c = rw (c .desk-of .ensures, c .before .settings-in .ensures, c .before .before .judged-command .ensures, c .before .before .before .fault-in .ensures, c .before .before .before .before .shapes-of .ensures, c .before .before .before .before .before .name-of .ensures, c .before .before .before .before .before .before .word .ensures)
+returns c = rw (c .desk-of .ensures, c .before .settings-in .ensures, c .before .before .judged-command .ensures, c .before .before .before .line-fault .ensures, c .before .before .before .before .name-at .ensures, c .before .before .before .before .before .row-of .ensures, c .before .before .before .before .before .before .word .ensures)
 
 pub parse-spec : {M : Type 1} → statement M
 parse-spec =
     tie.close
     (tie.spec
     word-requires
-    name-of-requires
-    shapes-of-requires
-    fault-in-requires
+    row-of-requires
+    name-at-requires
+    line-fault-requires
     judged-command-requires
     settings-in-requires
     desk-of-requires

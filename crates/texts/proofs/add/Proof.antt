@@ -3,12 +3,12 @@ use mathlib.Core.Path.{sym}
 use borrow.Author.Needs.{needs}
 use native.Mathlib.Omega.{arith}
 use lib.Seq.{length-take-le}
-use Rattle.texts.proofs.Texts.{no-room, part-length, adds-copied}
+use Rattle.texts.proofs.Texts.{past-the-end, part-length, adds-copied}
 use Rattle.texts.proofs.add.Statement.{statement}
 use Rattle.texts.proofs.add.Tie as tie
 
 returns : tie.Need-returns
-returns c = no-room _ _ _ (c .if1 .taken)
+returns c = past-the-end _ _ _ (c .if1 .taken)
 
 sub-least : tie.Need-sub-least
 sub-least c = search needs

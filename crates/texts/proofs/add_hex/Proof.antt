@@ -4,7 +4,7 @@ use borrow.Author.Needs.{needs}
 use Prim.Native.Nat.{_-_}
 use lib.ListN.{length, take}
 use lib.Seq.{take-all}
-use Rattle.lines.specs.Hexadecimal.{toHex}
+use Rattle.hexadecimal.specs.Hexadecimal.{toHex}
 use Rattle.texts.specs.Text.{Adds}
 use Rattle.texts.proofs.Texts.{hex-none, hex-next}
 use Rattle.texts.proofs.add_hex.Statement.{statement}

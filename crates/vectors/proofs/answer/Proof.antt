@@ -1,7 +1,7 @@
 -- `vectors::answer` meets its contract.
 use mathlib.Core.Path.{sym, _∙_}
 use borrow.Author.Needs.{needs}
-use Rattle.lines.proofs.Hexadecimal.{outcome-fits}
+use Rattle.hexadecimal.proofs.Hexadecimal.{outcome-fits}
 use lib.Seq.{length-take-le}
 use native.Mathlib.Omega.{arith}
 use Rattle.vectors.proofs.answer.Statement.{statement}

@@ -24,11 +24,11 @@ is-whole-requires c κs = search needs
 returns-3 : tie.Need-returns-3
 returns-3 c = search needs
 
-slice-aggregate-put : tie.Need-slice-aggregate-put
-slice-aggregate-put c = search needs
+slice-aggregate-add : tie.Need-slice-aggregate-add
+slice-aggregate-add c = search needs
 
-put-requires : tie.Need-put-requires
-put-requires c κs = search needs
+add-requires : tie.Need-add-requires
+add-requires c κs = search needs
 
 array-share-prefix-blank : tie.Need-array-share-prefix-blank
 array-share-prefix-blank c = search needs
@@ -64,8 +64,8 @@ show-case-spec =
     returns-2
     is-whole-requires
     returns-3
-    slice-aggregate-put
-    put-requires
+    slice-aggregate-add
+    add-requires
     array-share-prefix-blank
     slice-aggregate-show
     array-borrow-prefix-journal

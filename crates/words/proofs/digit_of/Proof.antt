@@ -1,6 +1,6 @@
 -- `words::digit_of` meets its contract.
 use native.Mathlib.Omega.{arith}
-use Rattle.lines.proofs.Hexadecimal.{between}
+use Rattle.hexadecimal.proofs.Hexadecimal.{between}
 use Rattle.words.specs.Words.{digitOf}
 use Rattle.words.proofs.digit_of.Statement.{statement}
 use Rattle.words.proofs.digit_of.Tie as tie

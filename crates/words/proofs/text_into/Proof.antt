@@ -2,7 +2,7 @@
 use mathlib.Core.Path.{sym, _∙_}
 use borrow.Author.Needs.{needs}
 use denote.Ref.{now}
-use Rattle.lines.proofs.hex_into.Reads as hex-into-reads
+use Rattle.hexadecimal.proofs.hex_into.Reads as hex-into-reads
 use Rattle.words.proofs.Words.{isBytes, Told, bytes-other, bytes-told, plain-other, plain-told}
 use Rattle.words.proofs.says_bytes.Reads as says-bytes-reads
 use Rattle.words.proofs.characters_into.Reads as characters-into-reads

@@ -1,11 +1,8 @@
 -- `screen::shows::add_approval` meets its contract.
-use mathlib.Core.Path.{_≡_, _∙_}
-use borrow.Author.Needs.{needs}
-use native.Mathlib.Omega.{arith}
-use lib.ListN.{length}
 use Rattle.texts.specs.Text.{text}
-use Rattle.screen.specs.Shows.{entryApproval}
 use Rattle.screen.proofs.Lines.{and-two}
+use Rattle.screen.specs.Shows.{entryApproval}
+use borrow.Author.Needs.{needs}
 use Rattle.screen.proofs.shows.add_approval.Statement.{statement}
 use Rattle.screen.proofs.shows.add_approval.Tie as tie
 
@@ -16,7 +13,7 @@ slice-aggregate-add-shown-2 : tie.Need-slice-aggregate-add-shown-2
 slice-aggregate-add-shown-2 c = search needs
 
 add-shown-requires : tie.Need-add-shown-requires
-add-shown-requires c κs = let g = c .before .before .before .before .before .before .before .before .good in let l : length (c .before .before .before .before .before .before .before .before .args .e .card) ≡ 10 = search needs in omega arith
+add-shown-requires c κs = search needs
 
 slice-aggregate-add-shown-3 : tie.Need-slice-aggregate-add-shown-3
 slice-aggregate-add-shown-3 c = search needs
@@ -25,7 +22,7 @@ slice-aggregate-add-shown-4 : tie.Need-slice-aggregate-add-shown-4
 slice-aggregate-add-shown-4 c = search needs
 
 add-shown-requires-2 : tie.Need-add-shown-requires-2
-add-shown-requires-2 c κs = let g = c .before .before .before .before .before .before .before .before .before .before .before .before .before .before .good in let l : length (c .before .before .before .before .before .before .before .before .before .before .before .before .before .before .args .e .date) ≡ 2 = search needs in omega arith
+add-shown-requires-2 c κs = search needs
 
 slice-aggregate-add-shown-5 : tie.Need-slice-aggregate-add-shown-5
 slice-aggregate-add-shown-5 c = search needs
@@ -34,7 +31,7 @@ slice-aggregate-add-shown-6 : tie.Need-slice-aggregate-add-shown-6
 slice-aggregate-add-shown-6 c = let g = c .before .before .before .before .before .before .before .before .before .before .before .before .before .before .before .before .before .before .before .good in search needs
 
 add-shown-requires-3 : tie.Need-add-shown-requires-3
-add-shown-requires-3 c κs = let g = c .before .before .before .before .before .before .before .before .before .before .before .before .before .before .before .before .before .before .before .before .good in let l : length (c .before .before .before .before .before .before .before .before .before .before .before .before .before .before .before .before .before .before .before .before .args .e .authorisation) ≡ 6 = search needs in omega arith
+add-shown-requires-3 c κs = search needs
 
 slice-aggregate-add-shown-7 : tie.Need-slice-aggregate-add-shown-7
 slice-aggregate-add-shown-7 c = search needs
@@ -43,10 +40,10 @@ slice-aggregate-add-shown-8 : tie.Need-slice-aggregate-add-shown-8
 slice-aggregate-add-shown-8 c = let g = c .before .before .before .before .before .before .before .before .before .before .before .before .before .before .before .before .before .before .before .before .before .before .before .before .before .good in search needs
 
 add-shown-requires-4 : tie.Need-add-shown-requires-4
-add-shown-requires-4 c κs = let g = c .before .before .before .before .before .before .before .before .before .before .before .before .before .before .before .before .before .before .before .before .before .before .before .before .before .before .good in let l : length (c .before .before .before .before .before .before .before .before .before .before .before .before .before .before .before .before .before .before .before .before .before .before .before .before .before .before .args .e .reference) ≡ 12 = search needs in omega arith
+add-shown-requires-4 c κs = search needs
 
 same-length : tie.Need-same-length
-same-length c = c .before .out4 .given ∙ c .before .before .before .before .before .before .before .out3 .given ∙ c .before .before .before .before .before .before .before .before .before .before .before .before .before .out2 .given ∙ c .before .before .before .before .before .before .before .before .before .before .before .before .before .before .before .before .before .before .before .out .given
+same-length c = search needs
 
 returns : tie.Need-returns
 unfolding entryApproval

@@ -1,9 +1,8 @@
 -- `screen::shows::add_state` meets its contract.
-use borrow.Author.Needs.{needs}
-use Rattle.texts.specs.Text.{text}
+use mathlib.Core.Path.{_∙_}
 use Rattle.texts.proofs.Texts.{and-then}
-use Rattle.screen.specs.Shows.{stateLine}
-use Rattle.screen.proofs.Lines.{and-two}
+use Rattle.screen.specs.Shows.{stateLine, phaseName}
+use borrow.Author.Needs.{needs}
 use Rattle.screen.proofs.shows.add_state.Statement.{statement}
 use Rattle.screen.proofs.shows.add_state.Tie as tie
 
@@ -16,30 +15,39 @@ slice-aggregate-add c = search needs
 add-requires : tie.Need-add-requires
 add-requires c κs = search needs
 
-add-phase-requires : tie.Need-add-phase-requires
-add-phase-requires c κs = search needs
+slice-aggregate-row : tie.Need-slice-aggregate-row
+slice-aggregate-row c = search needs
 
-slice-aggregate-add-named : tie.Need-slice-aggregate-add-named
-slice-aggregate-add-named c = search needs
+phase-number-requires : tie.Need-phase-number-requires
+phase-number-requires c κs = search needs
 
-cast-add-named : tie.Need-cast-add-named
-cast-add-named c = search needs
-
-add-named-requires : tie.Need-add-named-requires
-add-named-requires c κs = search needs
-
-slice-aggregate-add-2 : tie.Need-slice-aggregate-add-2
-slice-aggregate-add-2 c = search needs
+row-requires : tie.Need-row-requires
+row-requires c κs = search needs
 
 add-requires-2 : tie.Need-add-requires-2
 add-requires-2 c κs = search needs
 
+slice-aggregate-add-value : tie.Need-slice-aggregate-add-value
+slice-aggregate-add-value c = search needs
+
+cast-add-value : tie.Need-cast-add-value
+cast-add-value c = search needs
+
+add-value-requires : tie.Need-add-value-requires
+add-value-requires c κs = search needs
+
+slice-aggregate-add-2 : tie.Need-slice-aggregate-add-2
+slice-aggregate-add-2 c = search needs
+
+add-requires-3 : tie.Need-add-requires-3
+add-requires-3 c κs = search needs
+
 same-length : tie.Need-same-length
-same-length c = search needs
+same-length c = c .before .out5 .given ∙ c .before .before .before .before .before .before .out4 .given ∙ c .before .before .before .before .before .before .before .before .before .before .before .before .out3 .given ∙ c .before .before .before .before .before .before .before .before .before .before .before .before .before .before .before .before .before .before .before .out2 .given ∙ c .before .before .before .before .before .before .before .before .before .before .before .before .before .before .before .before .before .before .before .before .before .before .before .before .out .given
 
 returns : tie.Need-returns
-unfolding stateLine
-returns c = and-then (and-two (text " entries ") _ (and-then (and-then (c .before .before .before .before .before .before .before .before .before .before .before .before .before .before .before .before .before .before .before .before .before .before .add-first-state .ensures) (c .before .before .before .before .before .before .before .before .before .before .before .before .before .before .before .before .before .add .ensures)) (c .before .before .before .before .before .before .before .before .before .before .before .before .before .add-phase .ensures)) (c .before .before .before .before .before .before .before .add-named .ensures)) (c .before .before .add2 .ensures)
+unfolding stateLine phaseName
+returns c = and-then (and-then (and-then (and-then (c .before .before .before .before .before .before .before .before .before .before .before .before .before .before .before .before .before .before .before .before .before .before .before .before .before .add-first-state .ensures) (c .before .before .before .before .before .before .before .before .before .before .before .before .before .before .before .before .before .before .before .before .add .ensures)) (rw (c .before .before .before .before .before .before .before .before .before .before .before .before .before .before .before .row .ensures, c .before .before .before .before .before .before .before .before .before .before .before .before .before .before .before .before .phase-number .ensures) at (c .before .before .before .before .before .before .before .before .before .before .before .before .before .add2 .ensures))) (c .before .before .before .before .before .before .before .add-value .ensures)) (c .before .before .add3 .ensures)
 
 pub add-state-spec : {M : Type 1} → statement M
 add-state-spec =
@@ -48,11 +56,14 @@ add-state-spec =
     add-first-state-requires
     slice-aggregate-add
     add-requires
-    add-phase-requires
-    slice-aggregate-add-named
-    cast-add-named
-    add-named-requires
-    slice-aggregate-add-2
+    slice-aggregate-row
+    phase-number-requires
+    row-requires
     add-requires-2
+    slice-aggregate-add-value
+    cast-add-value
+    add-value-requires
+    slice-aggregate-add-2
+    add-requires-3
     same-length
     returns)

@@ -15,8 +15,8 @@ is-number-requires c κs = search needs
 enum-told : tie.Need-enum-told
 enum-told c = search needs
 
-number-in-requires : tie.Need-number-in-requires
-number-in-requires c κs = search needs
+decimal-in-requires : tie.Need-decimal-in-requires
+decimal-in-requires c κs = search needs
 
 is-number-requires-2 : tie.Need-is-number-requires-2
 is-number-requires-2 c κs = search needs
@@ -27,8 +27,8 @@ enum-told-2 c = search needs
 is-dash-requires : tie.Need-is-dash-requires
 is-dash-requires c κs = search needs
 
-number-in-requires-2 : tie.Need-number-in-requires-2
-number-in-requires-2 c κs = search needs
+decimal-in-requires-2 : tie.Need-decimal-in-requires-2
+decimal-in-requires-2 c κs = search needs
 
 is-number-requires-3 : tie.Need-is-number-requires-3
 is-number-requires-3 c κs = search needs
@@ -51,8 +51,8 @@ is-text-requires-2 c κs = search needs
 enum-told-3 : tie.Need-enum-told-3
 enum-told-3 c = search needs
 
-number-in-requires-3 : tie.Need-number-in-requires-3
-number-in-requires-3 c κs = search needs
+decimal-in-requires-3 : tie.Need-decimal-in-requires-3
+decimal-in-requires-3 c κs = search needs
 
 is-number-requires-4 : tie.Need-is-number-requires-4
 is-number-requires-4 c κs = search needs
@@ -103,10 +103,10 @@ returns : tie.Need-returns
 returns c = rw (c .before .before .before .shape .given .1, c .is-number .ensures, c .before .number-up-to .ensures)
 
 returns-2 : tie.Need-returns-2
-returns-2 c = rw (c .before .before .enum-told .given .1, c .is-number2 .ensures, c .before .number-in .ensures)
+returns-2 c = rw (c .before .before .enum-told .given .1, c .is-number2 .ensures, c .before .decimal-in .ensures)
 
 returns-3 : tie.Need-returns-3
-returns-3 c = rw (c .before .before .before .enum-told2 .given .1, c .before .before .is-dash .ensures, c .is-number3 .ensures, c .before .number-in2 .ensures)
+returns-3 c = rw (c .before .before .before .enum-told2 .given .1, c .before .before .is-dash .ensures, c .is-number3 .ensures, c .before .decimal-in2 .ensures)
 
 returns-4 : tie.Need-returns-4
 returns-4 c = rw (c .before .before .shape2 .given .1, c .is-text .ensures)
@@ -115,7 +115,7 @@ returns-5 : tie.Need-returns-5
 returns-5 c = rw (c .before .before .before .shape3 .given .1, c .before .is-dash2 .ensures, c .is-text2 .ensures)
 
 returns-6 : tie.Need-returns-6
-returns-6 c = rw (c .before .before .enum-told3 .given .1, c .is-number4 .ensures, c .before .number-in3 .ensures)
+returns-6 c = rw (c .before .before .enum-told3 .given .1, c .is-number4 .ensures, c .before .decimal-in3 .ensures)
 
 returns-7 : tie.Need-returns-7
 returns-7 c = rw (c .before .enum-told4 .given .1, c .all-printable .ensures)
@@ -143,11 +143,11 @@ fits-spec =
     number-up-to-requires
     is-number-requires
     enum-told
-    number-in-requires
+    decimal-in-requires
     is-number-requires-2
     enum-told-2
     is-dash-requires
-    number-in-requires-2
+    decimal-in-requires-2
     is-number-requires-3
     enum-known-shape-2
     is-text-requires
@@ -155,7 +155,7 @@ fits-spec =
     is-dash-requires-2
     is-text-requires-2
     enum-told-3
-    number-in-requires-3
+    decimal-in-requires-3
     is-number-requires-4
     enum-told-4
     all-printable-requires

@@ -7,26 +7,26 @@ use Rattle.script.proofs.Says.{number-length}
 use Rattle.script.proofs.values.card_in.Statement.{statement}
 use Rattle.script.proofs.values.card_in.Tie as tie
 
-number-in-requires : tie.Need-number-in-requires
-number-in-requires c κs = search needs
+decimal-in-requires : tie.Need-decimal-in-requires
+decimal-in-requires c κs = search needs
 
 enum-known-x : tie.Need-enum-known-x
 enum-known-x c = search needs
 
 cast-t6 : tie.Need-cast-t6
-cast-t6 c = omega (arith, number-length 19 _ (sym (c .before .before .before .number-in .ensures) ∙ c .before .x .given .1))
+cast-t6 c = omega (arith, number-length 19 _ (sym (c .before .before .before .decimal-in .ensures) ∙ c .before .x .given .1))
 
 enum-told : tie.Need-enum-told
 enum-told c = search needs
 
 returns : tie.Need-returns
 unfolding cardIn
-returns c = rw (← c .before .before .before .number-in .ensures, c .before .x .given .1)
+returns c = rw (← c .before .before .before .decimal-in .ensures, c .before .x .given .1)
 
 returns-2 : tie.Need-returns-2
 unfolding cardIn
-returns-2 c = rw (← c .before .before .number-in .ensures, c .enum-told .given .1)
+returns-2 c = rw (← c .before .before .decimal-in .ensures, c .enum-told .given .1)
 
 pub card-in-spec : {M : Type 1} → statement M
 card-in-spec =
-    tie.close (tie.spec number-in-requires enum-known-x cast-t6 enum-told returns returns-2)
+    tie.close (tie.spec decimal-in-requires enum-known-x cast-t6 enum-told returns returns-2)

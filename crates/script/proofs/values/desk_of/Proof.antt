@@ -81,6 +81,12 @@ enum-told-10 c = search needs
 given-requires-9 : tie.Need-given-requires-9
 given-requires-9 c κs = search needs
 
+enum-told-11 : tie.Need-enum-told-11
+enum-told-11 c = search needs
+
+given-requires-10 : tie.Need-given-requires-10
+given-requires-10 c κs = search needs
+
 returns : tie.Need-returns
 returns c = rw (c .before .before .name .given .1) (c .requested .ensures)
 
@@ -120,6 +126,9 @@ returns-12 c = rw (c .before .enum-told9 .given .1) (c .given8 .ensures)
 returns-13 : tie.Need-returns-13
 returns-13 c = rw (c .before .enum-told10 .given .1) (c .given9 .ensures)
 
+returns-14 : tie.Need-returns-14
+returns-14 c = rw (c .before .enum-told11 .given .1) (c .given10 .ensures)
+
 pub desk-of-spec : {M : Type 1} → statement M
 desk-of-spec =
     tie.close
@@ -150,6 +159,8 @@ desk-of-spec =
     given-requires-8
     enum-told-10
     given-requires-9
+    enum-told-11
+    given-requires-10
     returns
     returns-2
     returns-3
@@ -162,4 +173,5 @@ desk-of-spec =
     returns-10
     returns-11
     returns-12
-    returns-13)
+    returns-13
+    returns-14)

@@ -1,0 +1,71 @@
+-- What is proved of the simulated centre's answers, for every message that left: they are written, and they match.
+use mathlib.Core.Path.{_≡_}
+use mathlib.Core.List.{List}
+use mathlib.Core.Bool.{true, false}
+use Prim.Native.Nat.{ℕ, _≤_}
+use lib.Dec.{eqb}
+use lib.ListN.{length, take}
+use Rattle.field.specs.Bitmap.{names}
+use Rattle.field.specs.Contents.{allPrintable}
+use Rattle.message.specs.Message.{largest}
+use Rattle.message.specs.declared.Message.{Message}
+use Rattle.reading.specs.Reading.{readMessage}
+use Rattle.reading.specs.declared.ReadOutcome.the-variants.{Read}
+use Rattle.writing.specs.Writing.{writeMessage}
+use Rattle.writing.specs.declared.Writing.the-variants.{Written}
+use Rattle.state.specs.declared.State.{State}
+use Rattle.state.specs.declared.Outcome.the-variants.{Send}
+use Rattle.terminal.specs.Events.{Event, call}
+use Rattle.terminal.specs.Shapes.{SettingsShaped, EventShaped}
+use Rattle.outgoing_theorems.specs.Theorems.{outgoingBytes}
+use Rattle.centre.specs.Centre.{leftAs, reply, reconciliation}
+use Rattle.centre.specs.declared.Left.{Left}
+use Rattle.centre.specs.declared.Left.the-variants as left
+use Rattle.history.specs.Words.{messageIn, isMatching, digitIn}
+
+-- what a message that left holds beside the fields of all: a card request its amount, a settlement its totals
+abbrev pub HoldsIts : Left → Message → Type 0
+HoldsIts left.Nothing m = ⊥
+HoldsIts left.Request m = names (m .bitmap) 4 ≡ true
+HoldsIts left.Reversal m = Unit {0}
+HoldsIts left.Settlement m = names (m .bitmap) 48 ≡ true
+HoldsIts left.Upload m = Unit {0}
+
+-- bytes that left: they read, and hold the fields of every message that leaves
+pub record HasLeft (b : List ℕ) : Type 0 where
+  pub reads : readMessage b .outcome ≡ Read
+  pub trace : names (messageIn b .bitmap) 11 ≡ true
+  pub terminal : names (messageIn b .bitmap) 41 ≡ true
+  pub merchant : names (messageIn b .bitmap) 42 ≡ true
+  pub batch : names (messageIn b .bitmap) 60 ≡ true
+  pub its : HoldsIts (leftAs (messageIn b .indicator)) (messageIn b)
+
+-- whatever a call sends is such bytes
+abbrev pub SentHasLeft : Type 0
+SentHasLeft = (e : Event) (s : State) (j m : List ℕ) (k : ℕ) → SettingsShaped (s .settings) → EventShaped e
+    → call e s j m .outcome ≡ Send k → HasLeft (take k (call e s j m .message))
+
+-- a code of field 39
+pub record IsCode (code : List ℕ) : Type 0 where
+  pub two : length code ≡ 2
+  pub printable : allPrintable code ≡ true
+
+-- an answer is written, and what is written is a matching answer to the bytes that left
+pub record Answers (b o : List ℕ) (answer : Message) : Type 0 where
+  pub size : ℕ
+  pub accepted : writeMessage answer o .outcome ≡ Written size
+  pub matching : isMatching (messageIn b) (outgoingBytes answer o) ≡ true
+
+-- a reply answers all that left but a settlement, whatever its code and date
+abbrev pub ReplyAnswers : Type 0
+ReplyAnswers = (b o : List ℕ) (date : ℕ) (code : List ℕ) → HasLeft b → eqb (messageIn b .indicator) 0x0500 ≡ false → IsCode code
+    → largest ≤ length o → Answers b o (reply (messageIn b) date code)
+
+-- a reconciliation of digit 1, 2 or 3 answers a settlement, and carries that digit
+pub record Reconciles (b o : List ℕ) (digit : ℕ) : Type 0 where
+  pub answers : Answers b o (reconciliation (messageIn b) digit)
+  pub carried : digitIn (messageIn (outgoingBytes (reconciliation (messageIn b) digit) o)) ≡ digit
+
+abbrev pub ReconciliationAnswers : Type 0
+ReconciliationAnswers = (b o : List ℕ) (digit : ℕ) → HasLeft b → eqb (messageIn b .indicator) 0x0500 ≡ true → 1 ≤ digit → digit ≤ 3
+    → largest ≤ length o → Reconciles b o digit

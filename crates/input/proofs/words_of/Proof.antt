@@ -1,0 +1,36 @@
+-- `input::words_of` meets its contract.
+use Rattle.input.specs.Input.{wordsIn}
+use borrow.Author.Needs.{needs}
+use Rattle.input.proofs.words_of.Statement.{statement}
+use Rattle.input.proofs.words_of.Tie as tie
+
+in-hand-requires : tie.Need-in-hand-requires
+in-hand-requires c κs = search needs
+
+trim-requires : tie.Need-trim-requires
+trim-requires c κs = search needs
+
+is-skipped-requires : tie.Need-is-skipped-requires
+is-skipped-requires c κs = search needs
+
+slice-aggregate-result : tie.Need-slice-aggregate-result
+slice-aggregate-result c = search needs
+
+returns : tie.Need-returns
+unfolding wordsIn
+returns c = rw (← c .before .before .before .before .in-hand .ensures, ← c .before .before .before .trim .ensures, ← c .before .before .is-skipped .ensures, c .before .if1 .taken)
+
+returns-2 : tie.Need-returns-2
+unfolding wordsIn
+returns-2 c = rw (← c .before .before .before .in-hand .ensures, ← c .before .before .trim .ensures, ← c .before .is-skipped .ensures, c .if1 .left)
+
+pub words-of-spec : {M : Type 1} → statement M
+words-of-spec =
+    tie.close
+    (tie.spec
+    in-hand-requires
+    trim-requires
+    is-skipped-requires
+    slice-aggregate-result
+    returns
+    returns-2)

@@ -1,4 +1,0 @@
-pub mod Hexadecimal
-pub mod Outcome
-pub mod Buffer
-pub mod Lines

@@ -1,0 +1,47 @@
+-- `masking::add_digits` meets its contract.
+use Rattle.masking.proofs.Symbols.{front-there, front-taken, front-is}
+use Prim.Native.Nat.{ℕ}
+use lib.ListN.{replicate}
+use lib.Seq.{length-take-le}
+use mathlib.Core.Path.{sym}
+use borrow.Author.Needs.{needs}
+use native.Mathlib.Omega.{arith}
+use Rattle.masking.proofs.add_digits.Statement.{statement}
+use Rattle.masking.proofs.add_digits.Tie as tie
+
+array-borrow-prefix-text : tie.Need-array-borrow-prefix-text
+array-borrow-prefix-text c = search needs
+
+slice-aggregate-put-symbols : tie.Need-slice-aggregate-put-symbols
+slice-aggregate-put-symbols c = sym (length-take-le (c .before .before .before .args .n) (replicate 255 0) (omega arith))
+
+put-symbols-requires : tie.Need-put-symbols-requires
+put-symbols-requires c κs = rw (length-take-le {A = ℕ} (c .before .before .before .args .n) (replicate 255 0) (omega arith)) (omega arith)
+
+array-share-prefix-text : tie.Need-array-share-prefix-text
+array-share-prefix-text c = front-there (c .before .before .before .before .before .args .card) (c .before .before .before .before .before .args .n) _ _ (replicate 255 0) (omega arith) (c .before .put-symbols .ensures)
+
+slice-aggregate-add : tie.Need-slice-aggregate-add
+slice-aggregate-add c = front-taken (c .before .before .before .before .before .before .args .card) (c .before .before .before .before .before .before .args .n) _ _ (replicate 255 0) (omega arith) (c .before .before .put-symbols .ensures)
+
+add-requires : tie.Need-add-requires
+add-requires c κs = search needs
+
+same-length : tie.Need-same-length
+same-length c = search needs
+
+returns : tie.Need-returns
+returns c = rw (front-is (c .before .before .before .before .before .before .before .before .before .before .args .card) (c .before .before .before .before .before .before .before .before .before .before .args .n) _ _ (replicate 255 0) (omega arith) (c .before .before .before .before .before .before .put-symbols .ensures)) at (c .before .before .add .ensures)
+
+pub add-digits-spec : {M : Type 1} → statement M
+add-digits-spec =
+    tie.close
+    (tie.spec
+    array-borrow-prefix-text
+    slice-aggregate-put-symbols
+    put-symbols-requires
+    array-share-prefix-text
+    slice-aggregate-add
+    add-requires
+    same-length
+    returns)

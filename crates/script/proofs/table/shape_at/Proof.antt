@@ -1,0 +1,26 @@
+-- `script::table::shape_at` meets its contract.
+use Rattle.script.specs.Table.{shapeAt}
+use borrow.Author.Needs.{needs}
+use Rattle.script.proofs.table.shape_at.Statement.{statement}
+use Rattle.script.proofs.table.shape_at.Tie as tie
+
+slice-aggregate-row : tie.Need-slice-aggregate-row
+slice-aggregate-row c = search needs
+
+row-requires : tie.Need-row-requires
+row-requires c κs = search needs
+
+word-requires : tie.Need-word-requires
+word-requires c κs = search needs
+
+shape-named-requires : tie.Need-shape-named-requires
+shape-named-requires c κs = search needs
+
+returns : tie.Need-returns
+unfolding shapeAt
+returns c = rw (c .shape-named .ensures, c .before .word .ensures, c .before .before .row .ensures)
+
+pub shape-at-spec : {M : Type 1} → statement M
+shape-at-spec =
+    tie.close
+    (tie.spec slice-aggregate-row row-requires word-requires shape-named-requires returns)
