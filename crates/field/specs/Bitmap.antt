@@ -1,7 +1,7 @@
 -- Document 01, "Message bytes": the bitmap is 8 bytes, field 1 the top bit of the first.
 use mathlib.Core.List.{List}
 use mathlib.Core.Bool.{Bool, true, cond, _&&_}
-use Prim.Native.Nat.{ℕ, _+_, _-_, _/_, _%_, _^_}
+use Prim.Native.Nat.{ℕ, zero, suc, _+_, _-_, _*_, _/_, _%_, _^_}
 use lib.Dec.{ltb, eqb}
 use lib.ListN.{getD}
 use Rattle.digits.specs.Lists.{all}
@@ -21,3 +21,12 @@ listedAt bm i = cond (bit bm i) (among (i + 1) (numbers formats)) true
 
 unfoldable pub listed : List ℕ → Bool
 listed bm = all 64 (listedAt bm)
+
+-- the first n bytes of a bitmap as a number, the first byte the highest
+abbrev pub wordOf : ℕ → List ℕ → ℕ
+wordOf zero bm = 0
+wordOf (suc n) bm = wordOf n bm * 256 + getD bm n 0
+
+-- a bitmap as a number names field n of 1 to 64: field 64 is its lowest bit
+unfoldable pub hasIn : ℕ → ℕ → Bool
+hasIn word n = eqb (word / 2 ^ ((256 - n) % 64) % 2) 1

@@ -1,7 +1,7 @@
 -- Document 01, "Message bytes": what a field holds, and rules 6 to 8 for its contents.
-use mathlib.Core.List.{List}
+use mathlib.Core.List.{List, [], _∷_}
 use mathlib.Core.Bool.{Bool, cond, _&&_}
-use Prim.Native.Nat.{ℕ}
+use Prim.Native.Nat.{ℕ, _+_}
 use lib.Dec.{leb}
 use lib.ListN.{length, getD}
 use Rattle.digits.specs.Lists.{all}
@@ -21,6 +21,11 @@ size Any n = n
 -- the most bytes that a field's contents take
 abbrev pub room : Format → ℕ
 room f = size (f .class) (f .high)
+
+-- where the contents of each field of a table stand, one field after another, the first at n
+abbrev pub places : ℕ → List Format → List ℕ
+places n [] = []
+places n (f ∷ fs) = n ∷ places (n + room f) fs
 
 -- the bytes of a length
 abbrev pub skip : Prefix → ℕ

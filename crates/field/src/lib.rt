@@ -1,8 +1,8 @@
 // The table of fields, the bitmap, and the test of a field's contents (document 01, "Message bytes", rules 4 to 8).
 ghost use mathlib.Core.Path.{_≡_};
 ghost use Rattle.field.specs.Table.{formats, indicators, among};
-ghost use Rattle.field.specs.Bitmap.{names, listed};
-ghost use Rattle.field.specs.Contents.{size, allowed, allPrintable, fault};
+ghost use Rattle.field.specs.Bitmap.{names, listed, wordOf, hasIn};
+ghost use Rattle.field.specs.Contents.{size, allowed, allPrintable, fault, places};
 
 // What a field holds: packed digits, printable bytes, or bytes of every value.
 pub enum Class {
@@ -57,6 +57,11 @@ const FORMATS: [Format; ROWS] = [
     Format { number: 64, class: Class::Any, prefix: Prefix::Absent, low: 8, high: 8 },
 ];
 
+// Where the contents of each field stand in a message, one field after another.
+const PLACES: [u16; ROWS] = [
+    0, 10, 13, 19, 22, 25, 27, 29, 31, 33, 34, 40, 52, 58, 60, 68, 83, 108, 139, 142, 148, 156, 219,
+];
+
 // The types of document 01.
 const INDICATORS: [u16; 12] = [
     0x0100, 0x0110, 0x0200, 0x0210, 0x0220, 0x0230, 0x0320, 0x0330, 0x0400, 0x0410, 0x0500, 0x0510,
@@ -69,6 +74,12 @@ pub fn table() -> [Format; ROWS]
     ensures { λ r. ⌜ r ≡ formats ⌝ }
 {
     FORMATS
+}
+
+pub fn places() -> [u16; ROWS]
+    ensures { λ r. ⌜ r ≡ places 0 formats ⌝ }
+{
+    PLACES
 }
 
 // Rule 4: whether a message type indicator is listed.
@@ -100,6 +111,27 @@ pub fn named(bm: &[u8; 8], n: u8) -> bool
     let i = wide(n) - 1;
     let k = 7 - i % 8;
     (s[i / 8] >> k) % 2 == 1
+}
+
+// A bitmap as one number; its first byte is the highest.
+pub fn word_of(bm: &[u8; 8]) -> u64
+    ensures { λ r. ⌜ r ≡ wordOf 8 (now (bm .entry)) ⌝ }
+{
+    let s: &[u8] = bm;
+    let mut word: u64 = 0;
+    let mut i = 0;
+    while i < 8 {
+        word = word * 256 + s[i] as u64;
+        i += 1;
+    }
+    word
+}
+
+// Whether a bitmap as a number names field n, for the numbers 1 to 64.
+pub fn has(word: u64, n: u8) -> bool
+    ensures { λ r. ⌜ r ≡ hasIn word n ⌝ }
+{
+    (word >> ((256 - wide(n)) % 64)) % 2 == 1
 }
 
 // Rule 5: whether a bitmap names only fields of the table.

@@ -1,13 +1,14 @@
 -- Where the contents of the table's fields stand.
 use mathlib.Core.Path.{_≡_, refl, ap, _∙_}
 use mathlib.Core.List.{List, [], _∷_}
-use Prim.Native.Nat.{ℕ, _+_, _-_, _≤_, _<_}
+use Prim.Native.Nat.{ℕ, zero, suc, _+_, _-_, _≤_, _<_}
+use native.Mathlib.Nat.{le-of-suc-le-suc, not-suc-le-zero}
 use native.Mathlib.Numerals.{add-one}
 use native.Mathlib.Omega.{arith}
 use lib.ListN.{length, getD, take, drop, length-drop}
 use lib.Seq.{drop-cons, getD-drop, take-all}
 use Rattle.field.specs.Table.{formats, fixed, rows}
-use Rattle.field.specs.Contents.{room, skip}
+use Rattle.field.specs.Contents.{room, skip, places}
 use Rattle.field.specs.declared.Class.the-variants.{Digits}
 use Rattle.field.specs.declared.Format.{Format}
 use Rattle.field.proofs.Formats.{length-formats}
@@ -55,6 +56,19 @@ pub record Place (bs : List ℕ) (k from : ℕ) : Type 0 where
 
 pub place-none : (bs : List ℕ) → length bs ≡ rooms → Place bs 0 0
 place-none bs l = record { len = l; bound = omega arith; rest = omega (arith, rooms-formats) }
+
+-- the place of the field at place k of a table, and the contents from there on
+places-rest : (fs : List Format) (from k : ℕ) → k < length fs → getD (places from fs) k 0 + roomsOf (drop k fs) ≡ from + roomsOf fs
+places-rest [] from k h = absurd (not-suc-le-zero h)
+places-rest (f ∷ fs) from zero h = refl
+places-rest (f ∷ fs) from (suc k) h = omega (arith, places-rest fs (from + room f) k (le-of-suc-le-suc h))
+
+module _ {ps : List ℕ} {k from : ℕ} (e : ps ≡ places 0 formats) (q : from ≡ getD ps k 0) (h : k < rows) where
+  pub place-rest : from + roomsOf (drop k formats) ≡ rooms
+  place-rest = rw (q, e) (omega (arith, places-rest formats 0 k (omega (arith, length-formats)), rooms-formats))
+
+  pub place-of : {bs : List ℕ} → length bs ≡ rooms → Place bs k from
+  place-of l = record { len = l; bound = omega arith; rest = place-rest }
 
 module _ {bs : List ℕ} {k from : ℕ} (p : Place bs k from) where
   pub place-part : take (rooms - from) (drop from bs) ≡ drop from bs

@@ -1,35 +1,57 @@
 -- What the loop over the table keeps while it reads the fields.
 use mathlib.Core.Path.{_≡_, refl, ap, sym, _∙_}
 use mathlib.Core.List.{List, [], _∷_, _++_, append-assoc, append-nil}
-use mathlib.Core.Bool.{cond}
+use mathlib.Core.Bool.{Bool, true, false, cond}
+use mir.Syntax.{w8}
+use mir.Val.{Fits}
 use Prim.Native.Nat.{ℕ, zero, suc, _+_, _-_, _≤_, _<_}
+use native.Mathlib.Nat.{not-suc-le-zero, le-of-suc-le-suc}
 use native.Mathlib.Omega.{arith}
 use native.Mathlib.Numerals.{add-one}
 use lib.Dec.{eqb}
-use lib.ListN.{length, getD, take, drop, set, replicate, length-append, length-take, length-drop, length-set, length-replicate, replicate-append-replicate, drop-of-length-le}
-use lib.Seq.{drop-cons, drop-drop, take-at, drop-at, take-suc-set, take-all, length-take-le}
+use lib.ListN.{length, getD, take, drop, set, replicate, length-append, length-take, length-drop, length-set, length-replicate, replicate-append-replicate, take-append-drop}
+use lib.Seq.{drop-drop, take-at, drop-at, take-suc-set, take-all, length-take-le, getD-set-other, set-getD}
 use borrow.Author.Tests.{eq-eqb, ne-eqb}
 use Rattle.digits.proofs.Lists.{tail-part}
 use Rattle.field.specs.Table.{formats, rows}
-use Rattle.field.specs.Contents.{room}
+use Rattle.field.specs.Bitmap.{names, wordOf, hasIn}
+use Rattle.field.specs.Contents.{room, fault, places}
 use Rattle.field.specs.declared.Format.{Format}
 use Rattle.field.proofs.Formats.{length-formats, drop-formats}
-use Rattle.span.specs.Span.{span}
+use Rattle.field.proofs.Words.{has-row}
+use Rattle.contents.specs.Taken.{Taken}
+use Rattle.contents.proofs.Taken.{filled-number}
+use Rattle.span.specs.Span.{span, frameAt}
 use Rattle.span.specs.declared.Span.{Span}
 use Rattle.span.specs.declared.Span.the-variants.{Held, Refused}
-use Rattle.span.proofs.Held.{Fits, span-fits}
+use Rattle.span.proofs.Held.{span-fits}
+use Rattle.span.proofs.Frame.{frame-refused, frame-held, frame-fault, frame-fits}
 use Rattle.message.specs.Build.{padded}
-use Rattle.message.proofs.Places.{roomsOf, rooms-formats}
+use Rattle.message.proofs.Places.{At, noFormat, roomsOf, rooms-formats}
 use Rattle.message.specs.Message.{rooms}
 use Rattle.reading.specs.Reading.{Fields, bad, good, prepend, afterSpan, readFields, bitmapOf}
 
--- the fields before k are read: their counts and contents stand at the front, and zeros after the contents
+-- where the contents of the field at place k of the table stand
+abbrev pub startOf : ℕ → ℕ
+startOf k = rooms - roomsOf (drop k formats)
+
+place-rest : (n : ℕ) (fs : List Format) (k : ℕ) → k < length fs → getD (places n fs) k 0 + roomsOf (drop k fs) ≡ n + roomsOf fs
+place-rest n [] k h = absurd (not-suc-le-zero h)
+place-rest n (f ∷ fs) zero h = refl
+place-rest n (f ∷ fs) (suc k) h = place-rest (n + room f) fs k (le-of-suc-le-suc h) ∙ omega arith
+
+-- the table of places has it
+pub place-start : {ps : List ℕ} {k : ℕ} → ps ≡ places 0 formats → k < rows → getD ps k 0 ≡ startOf k
+place-start {ps} {k} e h = rw e (omega (arith, place-rest 0 formats k (omega (arith, length-formats)), rooms-formats))
+
+-- the fields before k are read: their counts and contents stand at the front, and zeros after them
 pub record ReadTo (bm s : List ℕ) (k at to : ℕ) (cs bs : List ℕ) : Type 0 where
   pub k-bound : k ≤ rows
   pub at-bound : at ≤ length s
   pub left : to + roomsOf (drop k formats) ≡ rooms
   pub counts-length : length cs ≡ rows
   pub contents-length : length bs ≡ rooms
+  pub no-counts : (j : ℕ) → k ≤ j → getD cs j 0 ≡ 0
   pub zeros : drop to bs ≡ replicate (roomsOf (drop k formats)) 0
   pub eq : readFields formats bm s ≡ prepend (take k cs) (take to bs) (readFields (drop k formats) bm (drop at s))
 
@@ -41,20 +63,27 @@ prepend-twice : (cs bs cs′ bs′ : List ℕ) (x : Fields) → prepend cs bs (p
 prepend-twice cs bs cs′ bs′ (bad e) = refl
 prepend-twice cs bs cs′ bs′ (good cs″ bs″) = rw (append-assoc cs cs′ cs″, append-assoc bs bs′ bs″)
 
-pub read-none : (bm s : List ℕ) → ReadTo bm s 0 0 0 (replicate rows 0) (replicate rooms 0)
+at-start : {bm s : List ℕ} {k at to : ℕ} {cs bs : List ℕ} → ReadTo bm s k at to cs bs → ReadTo bm s k at (startOf k) cs bs
+at-start {k = k} {to = to} r = let e : to ≡ startOf k = omega (arith, r .left) in rw e at r
+
+zero-at : (n j : ℕ) → _≡_ {A = ℕ} (getD (replicate n 0) j 0) 0
+zero-at zero j = refl
+zero-at (suc n) zero = refl
+zero-at (suc n) (suc j) = zero-at n j
+
+pub read-none : (bm s : List ℕ) → ReadTo bm s 0 0 (startOf 0) (replicate rows 0) (replicate rooms 0)
 read-none bm s =
-    record {
+    at-start {to = 0}
+    (record {
       k-bound = omega arith;
       at-bound = omega arith;
       left = omega (arith, rooms-formats);
       counts-length = refl;
       contents-length = refl;
+      no-counts = λ j h. zero-at rows j;
       zeros = rw rooms-formats;
       eq = sym (prepend-nil (readFields formats bm s));
-    }
-
-drop-turn : (k : ℕ) (d : Format) → k < rows → drop k formats ≡ getD formats k d ∷ drop (suc k) formats
-drop-turn k d h = drop-cons formats k d (omega (arith, length-formats))
+    })
 
 -- zeros after a field's contents fill its place, and those of the fields after it
 zeros-split : (z w l o : ℕ) → z ≤ w → drop z (replicate (w + l) o) ≡ replicate (w - z) o ++ replicate l o
@@ -63,21 +92,21 @@ zeros-split z w l o h =
     rw (← e, ← replicate-append-replicate z (w - z + l) o, ← replicate-append-replicate (w - z) l o)
     (drop-at (replicate z o) (replicate (w - z) o ++ replicate l o) z (length-replicate z o))
 
-pub read-more : {bm s : List ℕ} {k at to : ℕ} {cs bs : List ℕ} (d : Format) (n p z : ℕ) (bs′ : List ℕ) → ReadTo bm s k at to cs bs → k < rows
-    → span (getD formats k d) bm (drop at s) ≡ Held n p z
+-- one field more
+read-more : {bm s : List ℕ} {k at to : ℕ} {cs bs : List ℕ} {f : Format} (n p z : ℕ) (bs′ : List ℕ) → ReadTo bm s k at to cs bs → At k f
+    → span f bm (drop at s) ≡ Held n p z
     → bs′ ≡ take to bs ++ (take z (drop p (drop at s)) ++ drop z (drop to bs))
-    → ReadTo bm s (k + 1) (at + p + z) (to + room (getD formats k d)) (set cs k n) bs′
+    → ReadTo bm s (k + 1) (at + p + z) (startOf (k + 1)) (set cs k n) bs′
 unfolding readFields
-read-more {bm} {s} {k} {at} {to} {cs} {bs} d n p z bs′ r h e w =
-    let f = getD formats k d in
+read-more {bm} {s} {k} {at} {to} {cs} {bs} {f} n p z bs′ r a e w =
     let t = span-fits f bm (drop at s) e in
     let b : List ℕ = take z (drop p (drop at s)) in
     let fz : List ℕ = replicate (room f - z) 0 in
-    let lz : List ℕ = replicate (roomsOf (drop (suc k) formats)) 0 in
+    let lz : List ℕ = replicate (roomsOf (drop (k + 1) formats)) 0 in
     let ls : length (drop at s) ≡ length s - at = length-drop at s in
     let lb : length b ≡ z = length-take-le z (drop p (drop at s)) (rw length-drop (omega arith)) in
-    let q : roomsOf (drop k formats) ≡ room f + roomsOf (drop (suc k) formats) = rw (drop-turn k d h) in
-    let zs : drop z (drop to bs) ≡ fz ++ lz = rw (r .zeros, q) (zeros-split z (room f) (roomsOf (drop (suc k) formats)) 0 (t .placed)) in
+    let q : roomsOf (drop k formats) ≡ room f + roomsOf (drop (k + 1) formats) = rw (a .turn) in
+    let zs : drop z (drop to bs) ≡ fz ++ lz = rw (r .zeros, q) (zeros-split z (room f) (roomsOf (drop (k + 1) formats)) 0 (t .placed)) in
     let lt : length (take to bs) ≡ to = length-take-le to bs (omega arith) in
     let front : List ℕ = take to bs ++ (b ++ fz) in
     let w′ : bs′ ≡ front ++ lz = w ∙ rw (zs, ← append-assoc b fz lz) (sym (append-assoc (take to bs) (b ++ fz) lz)) in
@@ -85,67 +114,78 @@ read-more {bm} {s} {k} {at} {to} {cs} {bs} d n p z bs′ r h e w =
     length-append (take to bs) (b ++ fz) ∙ rw (length-append, lt, lb, length-replicate) (omega (arith, t .placed)) in
     let pad : padded (room f) b ≡ b ++ fz = rw lb in
     let sum : at + (p + z) ≡ at + p + z = omega arith in
-    record {
-      k-bound = omega arith;
+    let tc : take (k + 1) (set cs k n) ≡ take k cs ++ (n ∷ []) = rw add-one (take-suc-set cs k n (omega (arith, a .below))) in
+    at-start {to = to + room f}
+    (record {
+      k-bound = omega (arith, a .below);
       at-bound = omega (arith, t .within);
-      left = rw add-one (omega arith);
+      left = omega arith;
       counts-length = length-set cs k n ∙ r .counts-length;
       contents-length = rw w′ (length-append front lz ∙ rw (lf, length-replicate) (omega arith));
-      zeros = rw (w′, add-one) (drop-at front lz (to + room f) lf);
-      eq = r .eq ∙ rw (drop-turn k d h, e, pad, drop-drop (p + z) at s, sum, w′, take-at front lz (to + room f) lf, add-one, take-suc-set cs k n (omega arith))
-          (prepend-twice (take k cs) (take to bs) (n ∷ []) (b ++ fz) (readFields (drop (suc k) formats) bm (drop (at + p + z) s)));
-    }
+      no-counts = λ j h. getD-set-other cs k j n 0 (λ i. omega (arith, i)) ∙ r .no-counts j (omega arith);
+      zeros = rw w′ (drop-at front lz (to + room f) lf);
+      eq = r .eq ∙ rw (a .turn, e, pad, drop-drop (p + z) at s, sum, w′, take-at front lz (to + room f) lf, tc)
+          (prepend-twice (take k cs) (take to bs) (n ∷ []) (b ++ fz) (readFields (drop (k + 1) formats) bm (drop (at + p + z) s)));
+    })
 
--- what the span of a field in the table says of the places that the code computes
-pub record Turn (s : List ℕ) (f : Format) (at to p z : ℕ) : Type 0 where
-  pub within : at + p + z ≤ length s
-  pub placed : to + z ≤ rooms
-  pub next : to + room f ≤ rooms
+-- the bit that code tests
+pub row-named : (bm : List ℕ) {fs : List Format} {k word : ℕ} {b : Bool} → ((j : ℕ) → Fits w8 (getD bm j 0)) → fs ≡ formats → k < rows
+    → word ≡ wordOf 8 bm → b ≡ hasIn word (getD fs k noFormat .number) → names bm (getD fs k noFormat .number) ≡ b
+row-named bm {k = k} y e h w q = sym (q ∙ rw w (has-row bm (λ j. omega (arith, y j)) e k noFormat h))
 
-pub turn : {bm s cs bs : List ℕ} {k at to n p z : ℕ} {fs : List Format} {t : Span} (d : Format) → fs ≡ formats
-    → t ≡ span (getD fs k d) bm (take (length s - at) (drop at s)) → t ≡ Held n p z → ReadTo bm s k at to cs bs → k < rows
-    → Turn s (getD fs k d) at to p z
-turn {bm} {s} {k = k} {at} {to} {n} {p} {z} {fs} {t} d e q g r h =
-    let f = getD fs k d in
-    let sp : span f bm (drop at s) ≡ Held n p z = rw (← tail-part at s) (sym q ∙ g) in
-    let y : Fits f (drop at s) p z = span-fits f bm (drop at s) sp in
-    let m : roomsOf (drop k fs) ≡ room f + roomsOf (drop (suc k) fs) = rw e (rw (drop-turn k d h)) in
-    let l : to + roomsOf (drop k fs) ≡ rooms = rw e (r .left) in
-    record { within = omega (arith, length-drop at s); placed = omega (arith, y .placed); next = omega arith }
+-- the field at place k of the table, in the code's own terms
+module _ {bm s cs bs : List ℕ} {k at : ℕ} {f : Format} (r : ReadTo bm s k at (startOf k) cs bs) (a : At k f) where
+  -- one that the bitmap does not name
+  pub read-past : names bm (f .number) ≡ false → ReadTo bm s (k + 1) at (startOf (k + 1)) cs bs
+  unfolding span
+  read-past e =
+      let u : set cs k 0 ≡ cs = rw (← r .no-counts k (omega arith)) (set-getD cs k 0) in
+      let v : at + 0 + 0 ≡ at = omega arith in
+      rw (u, v) at (read-more 0 0 0 bs r a (rw e) (sym (take-append-drop (startOf k) bs)))
 
-pub copy-fits : {s : List ℕ} {f : Format} {at to p z : ℕ} (bs : List ℕ) → Turn s f at to p z → length bs ≡ rooms
-    → length (take (at + p + z - (at + p)) (drop (at + p) s)) ≤ length (take (to + z - to) (drop to bs))
-copy-fits {s} {f} {at} {to} {p} {z} bs y l =
-    omega (arith, length-take (at + p + z - (at + p)) (drop (at + p) s), length-take (to + z - to) (drop to bs), length-drop to bs, y .within, y .placed)
+  module _ {t : Span} (q : t ≡ frameAt f (take (length s - at) (drop at s))) where
+    frame-there : {x : Span} → t ≡ x → frameAt f (drop at s) ≡ x
+    frame-there g = rw (← tail-part at s) (sym q ∙ g)
 
--- one field more, in the code's own terms
-pub read-next : {bm s cs bs : List ℕ} {k at to n p z : ℕ} {fs : List Format} {t : Span} (d : Format) (w : ℕ) (e : List ℕ) → fs ≡ formats
-    → t ≡ span (getD fs k d) bm (take (length s - at) (drop at s)) → t ≡ Held n p z → ReadTo bm s k at to cs bs → k < rows
-    → e ≡ take (length (take (at + p + z - (at + p)) (drop (at + p) s))) (take (at + p + z - (at + p)) (drop (at + p) s))
-    ++ drop (length (take (at + p + z - (at + p)) (drop (at + p) s))) (take (to + z - to) (drop to bs))
-    → w ≡ room (getD fs k d)
-    → ReadTo bm s (k + 1) (at + p + z) (to + w) (set cs k n) (take to bs ++ (e ++ drop (to + z - to) (drop to bs)))
-read-next {bm} {s} {cs} {bs} {k} {at} {to} {n} {p} {z} {fs} {t} d w e eq q g r h c v =
-    let y = turn d eq q g r h in
-    let f = getD formats k d in
-    let sp : span f bm (drop at s) ≡ Held n p z = rw (← tail-part at s, ← eq) (sym q ∙ g) in
-    let u : List ℕ = take z (drop (at + p) s) in
-    let zs : at + p + z - (at + p) ≡ z = omega arith in
-    let zt : to + z - to ≡ z = omega arith in
-    let lu : length u ≡ z = length-take-le z (drop (at + p) s) (rw length-drop (omega arith)) in
-    let lp : length (take z (drop to bs)) ≡ z = length-take-le z (drop to bs) (rw length-drop (omega arith)) in
-    let ce : e ≡ u = c ∙ rw (zs, zt, lu, take-all z u (omega arith), drop-of-length-le (take z (drop to bs)) {i = z} (omega arith), append-nil) in
-    rw (v, eq, ce, zt) (read-more d n p z (take to bs ++ (u ++ drop z (drop to bs))) r h sp (rw (drop-drop p at s)))
+    -- where a field stands, and where its contents go
+    pub within : {n p z : ℕ} → t ≡ Held n p z → at + p + z ≤ length s
+    within g = omega (arith, frame-fits f (drop at s) (frame-there g) .within, length-drop at s, r .at-bound)
 
-pub read-stop : {bm s : List ℕ} {k at to : ℕ} {cs bs : List ℕ} (d : Format) (x : ℕ) → ReadTo bm s k at to cs bs → k < rows
-    → span (getD formats k d) bm (drop at s) ≡ Refused x → readFields formats bm s ≡ bad x
-unfolding readFields
-read-stop {bm} {s} {k} {at} d x r h e = r .eq ∙ rw (drop-turn k d h, e)
+    pub placed : {n p z : ℕ} → t ≡ Held n p z → startOf k + z ≤ rooms
+    placed g = omega (arith, frame-fits f (drop at s) (frame-there g) .placed, r .left, ap roomsOf (a .turn))
 
-pub read-stop-at : {bm s cs bs : List ℕ} {k at to x : ℕ} {fs : List Format} {t : Span} (d : Format) → fs ≡ formats
-    → t ≡ span (getD fs k d) bm (take (length s - at) (drop at s)) → t ≡ Refused x → ReadTo bm s k at to cs bs → k < rows
-    → readFields formats bm s ≡ bad x
-read-stop-at {bm} {s} {k = k} {at} {x = x} d e q g r h = read-stop d x r h (rw (← tail-part at s, ← e) (sym q ∙ g))
+    module _ (h : names bm (f .number) ≡ true) where
+      pub read-stop : {x : ℕ} → t ≡ Refused x → readFields formats bm s ≡ bad x
+      unfolding readFields
+      read-stop {x} g = r .eq ∙ rw (a .turn, frame-refused f bm (drop at s) h {e = x} (frame-there g))
+
+      -- contents that are tested and copied to their place
+      module _ {n p z : ℕ} (g : t ≡ Held n p z) {to x : ℕ} {out : List ℕ} (e : to ≡ startOf k)
+          (y : Taken (f .class) n (take (at + p + z - (at + p)) (drop (at + p) s)) (length (take (to + z - to) (drop to bs))) x out) where
+        one-end : at + p + z - (at + p) ≡ z
+        one-end = omega arith
+
+        other-end : to + z - to ≡ z
+        other-end = omega arith
+
+        judged : x ≡ fault (f .class) n (take z (drop p (drop at s)))
+        judged =
+            let lb : length (take z (drop (at + p) s)) ≡ z = length-take-le z (drop (at + p) s) (rw length-drop (omega (arith, within g))) in
+            let lo : length (take z (drop to bs)) ≡ z =
+            length-take-le z (drop to bs) (rw length-drop (omega (arith, e, placed g, r .contents-length))) in
+            rw (drop-drop p at s) (filled-number (rw (one-end, other-end) at y) (lo ∙ sym lb))
+
+        pub read-fault : (x ≡ 0 → ⊥) → readFields formats bm s ≡ bad x
+        unfolding readFields
+        read-fault d = r .eq ∙ rw (a .turn, frame-fault f bm (drop at s) h (frame-there g) {e = x} (sym judged) d)
+
+        pub read-next : x ≡ 0
+            → ReadTo bm s (k + 1) (at + p + z) (startOf (k + 1)) (set cs k n) (take to bs ++ (out ++ drop (to + z - to) (drop to bs)))
+        read-next d =
+            let u : out ≡ take z (drop p (drop at s)) = y .copied d ∙ rw (one-end, drop-drop p at s) in
+            rw (other-end, e)
+            (read-more n p z (take (startOf k) bs ++ (out ++ drop z (drop (startOf k) bs))) r a
+            (frame-held f bm (drop at s) h (frame-there g) (sym judged ∙ d)) (rw u))
 
 at-end : {bm s : List ℕ} {k at to : ℕ} {cs bs : List ℕ} → ReadTo bm s k at to cs bs → rows ≤ k
     → readFields formats bm s ≡ prepend cs bs (cond (eqb (length (drop at s)) 0) (good [] []) (bad 9))

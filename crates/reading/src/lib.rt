@@ -51,29 +51,35 @@ fn read_fields(indicator: u16, bitmap: [u8; 8], s: &[u8]) -> Reading
     ensures { λ r. ⌜ r ≡ assembled indicator bitmap (readFields formats bitmap (now (s .entry))) ⌝ }
 {
     let table = field::table();
+    let places = field::places();
+    let word = field::word_of(&bitmap);
     let mut counts = [0u8; field::ROWS];
     let mut contents = [0u8; message::ROOM];
     let mut at = 0;
-    let mut to = 0;
     let mut k = 0;
     while k < field::ROWS {
         let f = table[k];
-        let class = f.class;
-        let t = span::span_of(f, &bitmap, &s[at..]);
-        match t {
-            Span::Refused(e) => {
-                return refusal(e);
-            }
-            Span::Held { count, skip, size } => {
-                let from = at + skip;
-                let end = from + size;
-                let past = to + size;
-                bytes::copy(&s[from..end], &mut contents[to..past]);
-                counts[k] = count;
-                at = end;
+        if field::has(word, f.number) {
+            let t = span::frame_of(f, &s[at..]);
+            match t {
+                Span::Refused(e) => {
+                    return refusal(e);
+                }
+                Span::Held { count, skip, size } => {
+                    let class = f.class;
+                    let from = at + skip;
+                    let end = from + size;
+                    let to = places[k] as usize;
+                    let past = to + size;
+                    let e = contents::take(class, count, &s[from..end], &mut contents[to..past]);
+                    if e != 0 {
+                        return refusal(e);
+                    }
+                    counts[k] = count;
+                    at = end;
+                }
             }
         }
-        to += field::size_of(class, f.high);
         k += 1;
     }
     if at < s.len() {

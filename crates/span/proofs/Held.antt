@@ -29,11 +29,11 @@ refused-held : {e n p z : ℕ} → Refused e ≡ Held n p z → ⊥
 refused-held {e} {n} {p} {z} q = let y : _≡_ {A = ℕ} 0 1 = cc in omega arith
 
 -- a test that refuses where it holds, and one that refuses where it does not
-passed-no : (b : Bool) (e : ℕ) (y : Span) {n p z : ℕ} → cond b (Refused e) y ≡ Held n p z → (b ≡ false) × (y ≡ Held n p z)
+pub passed-no : (b : Bool) (e : ℕ) (y : Span) {n p z : ℕ} → cond b (Refused e) y ≡ Held n p z → (b ≡ false) × (y ≡ Held n p z)
 passed-no true e y q = absurd (refused-held q)
 passed-no false e y q = (refl, q)
 
-passed-yes : (b : Bool) (e : ℕ) (y : Span) {n p z : ℕ} → cond b y (Refused e) ≡ Held n p z → (b ≡ true) × (y ≡ Held n p z)
+pub passed-yes : (b : Bool) (e : ℕ) (y : Span) {n p z : ℕ} → cond b y (Refused e) ≡ Held n p z → (b ≡ true) × (y ≡ Held n p z)
 passed-yes true e y q = (refl, q)
 passed-yes false e y q = absurd (refused-held q)
 

@@ -42,6 +42,21 @@ spanAt f s =
 unfoldable pub span : Format → List ℕ → List ℕ → Span
 span f bm s = cond (names bm (f .number)) (spanAt f s) (Held 0 0 0)
 
+-- where the contents of n digits or bytes at the front of s stand, whatever they hold
+unfoldable pub sizedAt : Format → ℕ → List ℕ → Span
+sizedAt f n s =
+    cond (allowed f n)
+      (cond (ltb (length s) (size (f .class) n)) (Refused 3) (Held n (skip (f .prefix)) (size (f .class) n)))
+      (Refused 7)
+
+-- the field at the front of s, whatever its contents hold
+unfoldable pub frameAt : Format → List ℕ → Span
+frameAt f s =
+    cond (ltb (length s) (skip (f .prefix))) (Refused 3)
+      (cond (isPacked (2 * skip (f .prefix)) (take (skip (f .prefix)) s))
+        (sizedAt f (countIn (f .prefix) (f .high) (take (skip (f .prefix)) s)) (drop (skip (f .prefix)) s))
+        (Refused 6))
+
 -- a field's bytes: its count, packed to the right, then its contents
 unfoldable pub fieldBytes : Format → ℕ → List ℕ → List ℕ
 fieldBytes f n b = pack (digitsOf (2 * skip (f .prefix)) n) ++ b

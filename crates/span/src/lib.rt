@@ -4,7 +4,7 @@ use field::Prefix;
 ghost use mathlib.Core.Path.{_≡_};
 ghost use Prim.Native.Nat.{_+_, _*_};
 ghost use Rattle.field.specs.Contents.{skip};
-ghost use Rattle.span.specs.Span.{countIn, contentsAt, spanAt, span};
+ghost use Rattle.span.specs.Span.{countIn, sizedAt, frameAt};
 
 // A field's count, the bytes before its contents and the bytes of its contents; or why it is refused.
 pub enum Span {
@@ -23,17 +23,15 @@ pub fn skip_of(prefix: Prefix) -> usize
     }
 }
 
-// The field at the front of s where the bitmap names it; else it takes no bytes.
-pub fn span_of(f: Format, bm: &[u8; 8], s: &[u8]) -> Span
-    ensures { λ r. ⌜ r ≡ span f (now (bm .entry)) (now (s .entry)) ⌝ }
+// The field at the front of s, its contents not judged.
+pub fn frame_of(f: Format, s: &[u8]) -> Span
+    ensures { λ r. ⌜ r ≡ frameAt f (now (s .entry)) ⌝ }
 {
-    if field::named(bm, f.number) {
-        return span_at(f, s);
-    }
-    Span::Held {
-        count: 0,
-        skip: 0,
-        size: 0,
+    let prefix = f.prefix;
+    match prefix {
+        Prefix::Absent => sized_at(f, wide(f.high), s),
+        Prefix::One => prefixed_at(f, s),
+        Prefix::Two => prefixed_at(f, s),
     }
 }
 
@@ -64,9 +62,9 @@ fn count_in(prefix: Prefix, high: u8, s: &[u8]) -> usize
     }
 }
 
-// The contents of n digits or bytes at the front of s.
-fn contents_at(f: Format, n: usize, s: &[u8]) -> Span
-    ensures { λ r. ⌜ r ≡ contentsAt f n (now (s .entry)) ⌝ }
+// The contents of n digits or bytes at the front of s, not judged.
+fn sized_at(f: Format, n: usize, s: &[u8]) -> Span
+    ensures { λ r. ⌜ r ≡ sizedAt f n (now (s .entry)) ⌝ }
 {
     if field::is_allowed(f, n) {
         let class = f.class;
@@ -76,22 +74,18 @@ fn contents_at(f: Format, n: usize, s: &[u8]) -> Span
         if s.len() < size {
             return Span::Refused(3);
         }
-        let e = field::fault_of(class, count, &s[..size]);
-        if e == 0 {
-            return Span::Held {
-                count: count,
-                skip: skip_of(prefix),
-                size: size,
-            };
-        }
-        return Span::Refused(e);
+        return Span::Held {
+            count: count,
+            skip: skip_of(prefix),
+            size: size,
+        };
     }
     Span::Refused(7)
 }
 
-// The field at the front of s.
-fn span_at(f: Format, s: &[u8]) -> Span
-    ensures { λ r. ⌜ r ≡ spanAt f (now (s .entry)) ⌝ }
+// The field at the front of s after its length.
+fn prefixed_at(f: Format, s: &[u8]) -> Span
+    ensures { λ r. ⌜ r ≡ frameAt f (now (s .entry)) ⌝ }
 {
     let prefix = f.prefix;
     let skip = skip_of(prefix);
@@ -100,7 +94,7 @@ fn span_at(f: Format, s: &[u8]) -> Span
     }
     if digits::is_packed(&s[..skip], 2 * skip) {
         let n = count_in(prefix, f.high, &s[..skip]);
-        return contents_at(f, n, &s[skip..]);
+        return sized_at(f, n, &s[skip..]);
     }
     Span::Refused(6)
 }

@@ -1,4 +1,3 @@
 -- Laws of writing, for the proofs of this crate and of those above it.
-pub mod Counts
 pub mod Faults
 pub mod Putting

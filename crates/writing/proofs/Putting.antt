@@ -2,26 +2,34 @@
 use mathlib.Core.Path.{_≡_, refl, ap, sym, _∙_}
 use mathlib.Core.List.{List, [], _∷_, _++_, append-assoc, append-nil}
 use mathlib.Core.Bool.{Bool, true, false, cond}
-use Prim.Native.Nat.{ℕ, _+_, _*_, _-_, _≤_}
+use Prim.Native.Nat.{ℕ, _+_, _-_, _*_, _≤_, _<_}
 use native.Mathlib.Omega.{arith}
-use lib.ListN.{length, getD, take, drop, set, length-append, length-drop, length-take, take-append-drop, drop-of-length-le}
-use lib.Seq.{drop-drop, take-at, drop-at, length-take-le, take-length}
-use Rattle.digits.specs.Digits.{pack}
-use Rattle.digits.specs.Numbers.{digitsOf}
-use Rattle.digits.proofs.Lists.{tail-part, put-tail, two-parts}
-use Rattle.field.specs.Table.{formats, rows}
-use Rattle.field.specs.Bitmap.{names}
-use Rattle.field.specs.Contents.{size, room, skip}
+use mir.Syntax.{w64}
+use mir.Val.{Fits}
+use lib.Dec.{eqb}
+use lib.ListN.{length, getD, take, drop, set, length-append, length-drop, length-take, length-set}
+use lib.Seq.{drop-drop, take-at, drop-at, take-add, take-length, length-take-le}
+use borrow.Author.Tests.{le-ltb, eq-eqb, ne-eqb}
+use Rattle.digits.proofs.Lists.{tail-part, put-tail}
+use Rattle.field.specs.Table.{among, indicators, formats, rows}
+use Rattle.field.specs.Bitmap.{names, listed}
+use Rattle.field.specs.Contents.{size, room, skip, allowed, fault}
 use Rattle.field.specs.declared.Format.{Format}
 use Rattle.field.proofs.Formats.{drop-formats}
 use Rattle.span.specs.Span.{fieldBytes}
 use Rattle.span.proofs.Held.{size-bound}
 use Rattle.span.proofs.Bytes.{length-field}
 use Rattle.message.specs.Message.{largest, Shaped, rooms}
+use Rattle.message.specs.Late.{lateFault}
 use Rattle.message.specs.declared.Message.{Message}
-use Rattle.writing.specs.Writing.{fieldFault, fieldsFault, namedBytes, fieldsBytes, messageBytes, messageFault, Put}
-use Rattle.message.proofs.Places.{width, widthsOf, largest-formats, At, Place, place-none, place-part, place-more, first-count}
-use Rattle.writing.proofs.Counts.{set-two}
+use Rattle.message.proofs.Places.{width, widthsOf, largest-formats, At, Place, place-none, place-part, place-more, place-room, first-count}
+use Rattle.contents.proofs.Taken.{copied}
+use Rattle.field_writing.specs.Placing.{putFault, Placing}
+use Rattle.field_writing.specs.declared.Placed.{Placed}
+use Rattle.field_writing.proofs.Counts.{set-two}
+use Rattle.field_writing.proofs.Parts.{placing-refused}
+use Rattle.writing.specs.Writing.{fieldFault, fieldsFault, namedBytes, fieldsBytes, head, messageBytes, messageFault, written, writeMessage}
+use Rattle.writing.specs.declared.Writing.the-variants.{Written}
 use Rattle.writing.proofs.Faults.{field-sound, fields-sound, fault-inversion}
 
 pub field-fits : (f : Format) (bm : List ℕ) (n : ℕ) (bs : List ℕ) → fieldFault f bm n bs ≡ 0 → length (namedBytes f bm n bs) ≤ width f
@@ -47,107 +55,137 @@ unfolding messageBytes
 message-fits m s h =
     rw length-append (omega (arith, s .bitmap-length, formats-fit (m .bitmap) (m .counts) (m .contents) (fault-inversion m h .no-fault)))
 
--- the fields before place k are written, before at; the bytes after that are as they were
-pub record Putting (bm cs bs o : List ℕ) (k from at : ℕ) (out : List ℕ) : Type 0 where
+-- with room for the largest, a field is refused for its count or its contents alone
+put-fault : (f : Format) (n : ℕ) (bs o : List ℕ) → room f ≤ length bs → width f ≤ length o
+    → putFault f n bs o ≡ cond (allowed f n) (fault (f .class) n (take (size (f .class) n) bs)) 7
+unfolding putFault
+put-fault f n bs o hb ho = go (allowed f n) refl
+  where
+    go : (t : Bool) → allowed f n ≡ t → putFault f n bs o ≡ cond t (fault (f .class) n (take (size (f .class) n) bs)) 7
+    go true e = let s = size-bound f n e in rw (e, le-ltb (length bs) (size (f .class) n) (omega arith), le-ltb (length o) (skip (f .prefix) + size (f .class) n) (omega arith))
+    go false e = rw e
+
+-- what code counts with at place k
+pub row-fits : {k : ℕ} → k < rows → Fits w64 (k * 5) × Fits w64 (k * 2) × Fits w64 (k + 1)
+row-fits h = (omega arith, omega arith, omega arith)
+
+pub row-less : {k : ℕ} → k < rows → rows - (k + 1) < rows - k
+row-less h = omega arith
+
+-- the fields before place k have no fault and are written, before at
+pub record Putting (bm cs bs : List ℕ) (most k at : ℕ) (out : List ℕ) : Type 0 where
+  pub from : ℕ
   pub place : Place bs k from
-  pub fits : at + widthsOf (drop k formats) ≤ length o
-  pub len : length out ≡ length o
-  pub sound : fieldsFault (drop k formats) bm (drop k cs) (drop from bs) ≡ 0
-  pub whole : take at out ++ fieldsBytes (drop k formats) bm (drop k cs) (drop from bs) ≡ fieldsBytes formats bm cs bs
-  pub after : drop at out ≡ drop at o
+  pub fits : at + widthsOf (drop k formats) ≤ most
+  pub len : length out ≡ most
+  pub faults : fieldsFault formats bm cs bs ≡ fieldsFault (drop k formats) bm (drop k cs) (drop from bs)
+  pub whole : fieldsBytes formats bm cs bs ≡ take at out ++ fieldsBytes (drop k formats) bm (drop k cs) (drop from bs)
 
-pub putting-none : (bm cs bs o : List ℕ) → length bs ≡ rooms → fieldsFault formats bm cs bs ≡ 0 → largest ≤ 10 + length o → Putting bm cs bs o 0 0 0 o
-putting-none bm cs bs o l s h =
-    record { place = place-none bs l; fits = omega (arith, largest-formats); len = refl; sound = s; whole = refl; after = refl }
+pub putting-none : (bm cs bs o : List ℕ) → length bs ≡ rooms → largest ≤ 10 + length o → Putting bm cs bs (length o) 0 0 o
+putting-none bm cs bs o l h =
+    record { from = 0; place = place-none bs l; fits = omega (arith, largest-formats); len = refl; faults = refl; whole = refl }
 
-module _ {bm cs bs o : List ℕ} {k from at : ℕ} {out : List ℕ} {f : Format} (r : Putting bm cs bs o k from at out) (a : At k f) where
-  turn-sound : (fieldFault f bm (getD cs k 0) (drop from bs) ≡ 0)
-      × (fieldsFault (drop (k + 1) formats) bm (drop (k + 1) cs) (drop (from + room f) bs) ≡ 0)
-  turn-sound =
-      let s = fields-sound f (drop (k + 1) formats) bm (drop k cs) (drop from bs) (rw (a .turn) at (r .sound)) in
-      (rw first-count at (s .0), rw (drop-drop 1 k cs, drop-drop (room f) from bs) at (s .1))
+pub putting-within : {bm cs bs : List ℕ} {most k at : ℕ} {out : List ℕ} → Putting bm cs bs most k at out → at ≤ length out
+putting-within r = omega (arith, r .fits, r .len)
 
-  turn-bytes : fieldsBytes (drop k formats) bm (drop k cs) (drop from bs)
-      ≡ namedBytes f bm (getD cs k 0) (drop from bs) ++ fieldsBytes (drop (k + 1) formats) bm (drop (k + 1) cs) (drop (from + room f) bs)
+module _ {bm cs bs : List ℕ} {most k at : ℕ} {out : List ℕ} {f : Format} (r : Putting bm cs bs most k at out) (a : At k f) where
+  -- the field at place k, and the others
+  turn-fault : fieldsFault formats bm cs bs ≡
+      cond (eqb (fieldFault f bm (getD cs k 0) (drop (r .from) bs)) 0)
+      (fieldsFault (drop (k + 1) formats) bm (drop (k + 1) cs) (drop (r .from + room f) bs))
+      (fieldFault f bm (getD cs k 0) (drop (r .from) bs))
+  unfolding fieldsFault
+  turn-fault = r .faults ∙ rw (a .turn, first-count, drop-drop 1 k cs, drop-drop (room f) (r .from) bs)
+
+  turn-bytes : fieldsBytes formats bm cs bs ≡
+      take at out ++ (namedBytes f bm (getD cs k 0) (drop (r .from) bs) ++ fieldsBytes (drop (k + 1) formats) bm (drop (k + 1) cs) (drop (r .from + room f) bs))
   unfolding fieldsBytes
-  turn-bytes = rw (a .turn, first-count, drop-drop 1 k cs, drop-drop (room f) from bs)
+  turn-bytes = r .whole ∙ rw (a .turn, first-count, drop-drop 1 k cs, drop-drop (room f) (r .from) bs)
 
-  turn-room : at + (width f + widthsOf (drop (k + 1) formats)) ≤ length out
-  turn-room = omega (arith, ap widthsOf (a .turn), r .fits, r .len)
+  turn-room : at + (width f + widthsOf (drop (k + 1) formats)) ≤ most
+  turn-room = omega (arith, ap widthsOf (a .turn), r .fits)
 
-  -- the field at place k is not refused, and there is room for it
-  pub putting-sound : fieldFault f bm (getD cs k 0) (take (rooms - from) (drop from bs)) ≡ 0
-  putting-sound = rw (place-part (r .place)) (turn-sound .0)
-
-  pub putting-room : width f ≤ length (take (length out - at) (drop at out))
-  putting-room = rw (tail-part, length-drop) (omega (arith, turn-room))
-
-  pub putting-more : {n w : ℕ} {e : List ℕ} → w ≡ room f
-      → Put (namedBytes f bm (getD cs k 0) (take (rooms - from) (drop from bs))) (take (length out - at) (drop at out)) n e
-      → Putting bm cs bs o (k + 1) (from + w) (at + n) (take at out ++ (e ++ drop (length out - at) (drop at out)))
-  putting-more {n} {w} {e} ew q =
-      let ws : List ℕ = namedBytes f bm (getD cs k 0) (drop from bs) in
-      let p : Put ws (drop at out) n e = rw (place-part (r .place), tail-part at out) at q in
-      let fit = field-fits f bm (getD cs k 0) (drop from bs) (turn-sound .0) in
-      let front : List ℕ = take at out ++ ws in
-      let tail : List ℕ = drop (at + n) out in
-      let la : length (take at out) ≡ at = length-take-le at out (omega (arith, turn-room)) in
-      let lf : length front ≡ at + n = length-append (take at out) ws ∙ omega (arith, p .count) in
-      let b : take at out ++ (e ++ drop (length out - at) (drop at out)) ≡ take at out ++ (ws ++ tail) = put-tail at out e ∙ rw (p .bytes, drop-drop) in
-      let tk : take (at + n) (front ++ tail) ≡ front = take-at front tail (at + n) lf in
-      let dr : drop (at + n) (front ++ tail) ≡ tail = drop-at front tail (at + n) lf in
-      rw (ew, b, ← append-assoc (take at out) ws tail)
-      (record {
+  pub putting-skip : {t : Bool} → t ≡ names bm (f .number) → t ≡ false → Putting bm cs bs most (k + 1) at out
+  unfolding fieldFault namedBytes
+  putting-skip q e =
+      let no : names bm (f .number) ≡ false = sym q ∙ e in
+      record {
+        from = r .from + room f;
         place = place-more (r .place) a;
-        fits = omega (arith, turn-room, p .count, r .len);
-        len = length-append front tail ∙ omega (arith, length-drop (at + n) out, p .count, r .len, turn-room);
-        sound = turn-sound .1;
-        whole = rw tk (append-assoc (take at out) ws _ ∙ rw (← turn-bytes) (r .whole));
-        after = dr ∙ rw (← drop-drop n at out, r .after) (drop-drop n at o);
-      })
+        fits = omega (arith, turn-room);
+        len = r .len;
+        faults = turn-fault ∙ rw no;
+        whole = turn-bytes ∙ rw no;
+      }
 
-pub putting-done : {bm cs bs o : List ℕ} {k from at : ℕ} {out : List ℕ} → Putting bm cs bs o k from at out → rows ≤ k
-    → Put (fieldsBytes formats bm cs bs) o at out
-unfolding fieldsBytes
-putting-done {bm} {cs} {bs} {o} {k} {from} {at} {out} r h =
+  module _ {t : Bool} {s : ℕ} {p : Placed} {y : List ℕ} (q : t ≡ names bm (f .number)) (e : t ≡ true) (st : Place bs k s)
+      (w : Placing (putFault f (getD cs k 0) (take (rooms - s) (drop s bs)) (take (length out - at) (drop at out)))
+      (fieldBytes f (getD cs k 0) (take (size (f .class) (getD cs k 0)) (take (rooms - s) (drop s bs)))) p y) where
+    same : r .from ≡ s
+    same = omega (arith, r .place .rest, st .rest)
+
+    named : names bm (f .number) ≡ true
+    named = sym q ∙ e
+
+    -- the field's fault and its bytes, in the message's words
+    turned : Placing (fieldFault f bm (getD cs k 0) (drop (r .from) bs)) (namedBytes f bm (getD cs k 0) (drop (r .from) bs)) p y
+    unfolding fieldFault namedBytes
+    turned =
+        let hb = rw (place-part st) at (place-room st a) in
+        let ho : width f ≤ length (drop at out) = rw length-drop (omega (arith, turn-room, r .len)) in
+        rw (same, named, ← put-fault f (getD cs k 0) (drop s bs) (drop at out) hb ho)
+        (rw (place-part st, tail-part at out) at w)
+
+    pub putting-stop : (p .fault ≡ 0 → ⊥) → {o : List ℕ} → Placing (fieldsFault formats bm cs bs) (fieldsBytes formats bm cs bs) p o
+    putting-stop n =
+        let x = turned .fault-is in
+        placing-refused (turn-fault ∙ rw (← x, ne-eqb _ _ n)) n
+
+    pub putting-more : p .fault ≡ 0 → length y ≡ length (take (length out - at) (drop at out))
+        → Putting bm cs bs most (k + 1) (at + p .size) (take at out ++ (y ++ drop (length out - at) (drop at out)))
+    putting-more z l =
+        let ws : List ℕ = namedBytes f bm (getD cs k 0) (drop (r .from) bs) in
+        let none : fieldFault f bm (getD cs k 0) (drop (r .from) bs) ≡ 0 = sym (turned .fault-is) ∙ z in
+        let n : p .size ≡ length ws = turned .size-is none in
+        let fit : length ws ≤ width f = field-fits f bm (getD cs k 0) (drop (r .from) bs) none in
+        let la : length (take at out) ≡ at = length-take-le at out (omega (arith, turn-room, r .len)) in
+        let ly : length y ≡ length out - at = l ∙ rw (tail-part, length-drop) in
+        let tk : take (at + length ws) (take at out ++ y) ≡ take at out ++ ws =
+        take-add at (length ws) (take at out ++ y) ∙ rw (take-at (take at out) y at la, drop-at (take at out) y at la, turned .bytes none) in
+        rw (put-tail, n)
+        (record {
+          from = r .from + room f;
+          place = place-more (r .place) a;
+          fits = omega (arith, turn-room);
+          len = length-append (take at out) y ∙ omega (arith, turn-room, r .len);
+          faults = turn-fault ∙ rw none;
+          whole = turn-bytes ∙ rw (tk, append-assoc);
+        })
+
+pub putting-done : {bm cs bs : List ℕ} {most k at : ℕ} {out : List ℕ} → Putting bm cs bs most k at out → rows ≤ k
+    → Placing (fieldsFault formats bm cs bs) (fieldsBytes formats bm cs bs) (record { fault = 0; size = at }) out
+unfolding fieldsFault fieldsBytes
+putting-done {bm} {cs} {bs} {most} {k} {at} {out} r h =
     let e : k ≡ rows = omega (arith, r .place .bound) in
-    let w : take at out ≡ fieldsBytes formats bm cs bs = sym (append-nil (take at out)) ∙ (rw (e, drop-formats) at (r .whole)) in
+    let w : fieldsBytes formats bm cs bs ≡ take at out = r .whole ∙ rw (e, drop-formats, append-nil) in
+    let l : length (take at out) ≡ at = length-take-le at out (omega (arith, r .fits, r .len)) in
     record {
-      count = sym (ap length (sym w) ∙ length-take-le at out (omega (arith, r .fits, r .len)));
-      bytes = sym (take-append-drop at out) ∙ rw (w, r .after);
+      fault-is = sym (r .faults ∙ rw (e, drop-formats));
+      size-is = λ _. rw (w, l);
+      bytes = λ _. rw (w, l);
     }
 
--- a whole slice was copied into one of its length
-copied : (src dst : List ℕ) {y : List ℕ} → length dst ≡ length src → y ≡ take (length src) src ++ drop (length src) dst → y ≡ src
-copied src dst l e = e ∙ rw (take-length, drop-of-length-le dst {i = length src} (omega arith), append-nil)
+-- room for a message's type and bitmap
+module _ (fs o : List ℕ) (h : 10 + length fs ≤ length o) where
+  pub room-head : 10 ≤ length o
+  room-head = omega arith
 
--- the part of o after its first k bytes, which were written as x
-module _ (x o : List ℕ) (k z : ℕ) (l : length x ≡ length (take k o)) (w : k + z ≤ length o) where
-  length-front : length x ≡ k
-  length-front = l ∙ length-take-le k o (omega arith)
+  module _ (x y : ℕ) where
+    pub head-end : 10 ≤ length (set (set o 0 x) 1 y)
+    head-end = rw (length-set, length-set) room-head
 
-  length-part : length (take (k + z - k) (drop k (x ++ drop k o))) ≡ z
-  length-part =
-      length-take-le (k + z - k) (drop k (x ++ drop k o)) (simp (length-drop, length-append) (omega (arith, length-front))) ∙ omega arith
-
-  pub part-room : (bs : List ℕ) → length (take z bs) ≤ length (take (k + z - k) (drop k (x ++ drop k o)))
-  part-room bs = rw length-part (omega (arith, length-take z bs))
-
-  -- a field's length, then its contents
-  pub put-parts : (f : Format) (bm : List ℕ) (n : ℕ) (bs : List ℕ) {y : List ℕ} {t : Bool} → t ≡ names bm (f .number) → t ≡ true
-      → k ≡ skip (f .prefix) → z ≡ size (f .class) n → z ≤ length bs → x ≡ pack (digitsOf (2 * skip (f .prefix)) n)
-      → y ≡ take (length (take z bs)) (take z bs) ++ drop (length (take z bs)) (take (k + z - k) (drop k (x ++ drop k o)))
-      → Put (namedBytes f bm n bs) o (k + z) (take k (x ++ drop k o) ++ (y ++ drop (k + z - k) (drop k (x ++ drop k o))))
-  unfolding namedBytes fieldBytes
-  put-parts f bm n bs {y} et e ek ez h ex ey =
-      let named : names bm (f .number) ≡ true = sym et ∙ e in
-      let lz : length (take z bs) ≡ z = length-take-le z bs h in
-      let c : y ≡ take z bs = copied (take z bs) _ (length-part ∙ sym lz) ey in
-      let s : k + z - k ≡ z = omega arith in
-      record {
-        count = rw (named, ← ez) (sym (length-field f n (take z bs) ∙ rw (lz, ek)));
-        bytes = rw s (two-parts k z x y o length-front ∙ rw (named, ← ez, ex, c));
-      }
+    pub head-room : (bm : List ℕ) → length bm ≡ 8 → length bm ≤ length (take 8 (drop 2 (set (set o 0 x) 1 y)))
+    head-room bm l = rw (length-take, length-drop, length-set, length-set) (omega (arith, l, room-head))
 
 -- a message's type and bitmap
 pub put-head : (a b : ℕ) (bm o : List ℕ) {y : List ℕ} → length bm ≡ 8 → 10 ≤ length o
@@ -155,18 +193,50 @@ pub put-head : (a b : ℕ) (bm o : List ℕ) {y : List ℕ} → length bm ≡ 8 
     → take 2 (set (set o 0 a) 1 b) ++ (y ++ drop 8 (drop 2 (set (set o 0 a) 1 b))) ≡ (a ∷ b ∷ bm) ++ drop 10 o
 put-head a b bm o {y} l h e =
     let s : set (set o 0 a) 1 b ≡ a ∷ b ∷ drop 2 o = set-two o a b (omega arith) in
-    let c : y ≡ bm = copied bm (take 8 (drop 2 o)) (length-take-le 8 (drop 2 o) (rw length-drop (omega arith)) ∙ sym l) (rw s at e) in
+    let c : y ≡ bm = (rw s at e) ∙ copied bm (take 8 (drop 2 o)) (length-take-le 8 (drop 2 o) (rw length-drop (omega arith)) ∙ sym l) in
     rw (s, c, drop-drop 8 2 o)
 
--- something after the first p bytes, which are h
-pub put-after : (p : ℕ) (h : List ℕ) {ws o b e : List ℕ} {n : ℕ} → length h ≡ p → b ≡ h ++ drop p o
-    → Put ws (take (length b - p) (drop p b)) n e
-    → Put (h ++ ws) o (p + n) (take p b ++ (e ++ drop (length b - p) (drop p b)))
-put-after p h {ws} {o} {b} {e} {n} l q r =
+-- fs, copied behind the first p bytes, which are h
+pub put-after : (p : ℕ) (h fs o : List ℕ) {b y : List ℕ} → length h ≡ p → p + length fs ≤ length o → b ≡ h ++ drop p o
+    → y ≡ take (length fs) fs ++ drop (length fs) (take (length b - p) (drop p b))
+    → take p b ++ (y ++ drop (length b - p) (drop p b)) ≡ (h ++ fs) ++ drop (p + length fs) o
+put-after p h fs o {b} {y} l f q e =
     let t : take p b ≡ h = rw q (take-at h (drop p o) p l) in
     let d : drop p b ≡ drop p o = rw q (drop-at h (drop p o) p l) in
-    let w : e ≡ ws ++ drop (p + n) o = r .bytes ∙ rw (tail-part, d, drop-drop) in
-    record {
-      count = sym (length-append h ws ∙ omega (arith, r .count));
-      bytes = put-tail p b e ∙ rw (t, w) (sym (append-assoc h ws (drop (p + n) o)));
-    }
+    let w : y ≡ fs ++ drop (p + length fs) o = e ∙ rw (tail-part, d, drop-drop, take-length) in
+    put-tail p b y ∙ rw (t, w) (sym (append-assoc h fs (drop (p + length fs) o)))
+
+-- a message of a listed type that names listed fields
+module _ (m : Message) {p : Placed} {o : List ℕ} (i : among (m .indicator) indicators ≡ true) (l : listed (m .bitmap) ≡ true)
+    (w : Placing (fieldsFault formats (m .bitmap) (m .counts) (m .contents)) (fieldsBytes formats (m .bitmap) (m .counts) (m .contents)) p o) where
+  pub contents-late : {x : ℕ} → p .fault ≡ 0 → x ≡ lateFault m
+      → Placing (messageFault m) (fieldsBytes formats (m .bitmap) (m .counts) (m .contents)) (record { fault = x; size = p .size }) o
+  unfolding messageFault
+  contents-late z e =
+      let none = sym (w .fault-is) ∙ z in
+      record { fault-is = e ∙ rw (i, l, none); size-is = λ _. w .size-is none; bytes = λ _. w .bytes none }
+
+  pub contents-stop : (p .fault ≡ 0 → ⊥) → Placing (messageFault m) (fieldsBytes formats (m .bitmap) (m .counts) (m .contents)) p o
+  unfolding messageFault
+  contents-stop n = rw (i, l, ne-eqb _ _ (λ z. n (w .fault-is ∙ z))) w
+
+-- the fields of a message that is not refused leave room for its type and its bitmap
+pub contents-fit : (m : Message) {p : Placed} {o : List ℕ} → Placing (messageFault m) (fieldsBytes formats (m .bitmap) (m .counts) (m .contents)) p o
+    → p .fault ≡ 0 → 10 + p .size ≤ largest
+contents-fit m w z =
+    let none : messageFault m ≡ 0 = sym (w .fault-is) ∙ z in
+    omega (arith, w .size-is none, formats-fit (m .bitmap) (m .counts) (m .contents) (fault-inversion m none .no-fault))
+
+-- a message that is not refused, its fields' bytes at the front of fs
+pub message-written : (m : Message) (o fs : List ℕ) {p : Placed} {b : List ℕ} → length (m .bitmap) ≡ 8 → largest ≤ length o
+    → Placing (messageFault m) (fieldsBytes formats (m .bitmap) (m .counts) (m .contents)) p fs → p .fault ≡ 0
+    → b ≡ (head m ++ take (p .size) fs) ++ drop (10 + length (take (p .size) fs)) o
+    → written (Written (10 + p .size)) b ≡ writeMessage m o
+unfolding writeMessage messageBytes
+message-written m o fs {p} {b} l h w z e =
+    let none : messageFault m ≡ 0 = sym (w .fault-is) ∙ z in
+    let ws : List ℕ = fieldsBytes formats (m .bitmap) (m .counts) (m .contents) in
+    let n : p .size ≡ length ws = w .size-is none in
+    let t : take (p .size) fs ≡ ws = rw n (w .bytes none) in
+    let c : length (messageBytes m) ≡ 10 + length ws = length-append (head m) ws ∙ omega (arith, l) in
+    rw (le-ltb _ _ h, eq-eqb _ _ none, e, t, n) (ap (λ (k : ℕ). written (Written k) ((head m ++ ws) ++ drop k o)) (sym c))

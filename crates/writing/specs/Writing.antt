@@ -1,5 +1,4 @@
 -- Document 01, "Read and write a message": writing is judged by 1 (the message buffer alone), then 4 to 8 in the reading's order.
-use mathlib.Core.Path.{_≡_}
 use mathlib.Core.List.{List, [], _∷_, _++_}
 use mathlib.Core.Bool.{cond}
 use Prim.Native.Nat.{ℕ, _/_, _%_}
@@ -70,8 +69,3 @@ writeMessage m o =
       (cond (eqb (messageFault m) 0)
         (written (Written (length (messageBytes m))) (messageBytes m ++ drop (length (messageBytes m)) o))
         (written (Refused (messageFault m)) o))
-
--- o′ is o with bs, n bytes, at its front
-pub record Put (bs o : List ℕ) (n : ℕ) (o′ : List ℕ) : Type 0 where
-  pub count : n ≡ length bs
-  pub bytes : o′ ≡ bs ++ drop n o

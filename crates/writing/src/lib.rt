@@ -1,17 +1,14 @@
 // Writing a message (document 01, rules 1 and 4 to 8).
-use field::Format;
-use field::Prefix;
+use field_writing::Placed;
 use message::Message;
 ghost use mathlib.Core.Path.{_≡_};
-ghost use mathlib.Core.Bool.{true};
-ghost use Prim.Native.Nat.{_+_, _*_, _/_, _%_, _≤_};
-ghost use lib.ListN.{length};
-ghost use Rattle.digits.specs.Digits.{pack};
-ghost use Rattle.digits.specs.Numbers.{digitsOf};
+ghost use mathlib.Core.List.{_++_};
+ghost use Prim.Native.Nat.{_+_, _≤_};
+ghost use lib.ListN.{length, drop};
 ghost use Rattle.field.specs.Table.{formats};
-ghost use Rattle.field.specs.Contents.{size, room, skip, allowed};
 ghost use Rattle.message.specs.Message.{largest};
-ghost use Rattle.writing.specs.Writing.{written, fieldFault, fieldsFault, namedBytes, fieldsBytes, messageBytes, contentsFault, messageFault, writeMessage, Put};
+ghost use Rattle.field_writing.specs.Placing.{Placing};
+ghost use Rattle.writing.specs.Writing.{written, fieldsFault, fieldsBytes, head, messageFault, writeMessage};
 
 // A message was written, so many bytes long, or it is refused by a number of document 01.
 pub enum Writing {
@@ -26,168 +23,83 @@ pub fn write(m: Message, buf: &mut [u8]) -> Writing
     if buf.len() < Message::LARGEST {
         return Writing::Refused(1);
     }
-    let e = message_fault(m);
-    if e == 0 {
-        return Writing::Written(put_message(m, buf));
+    let mut fields = [0u8; Message::LARGEST];
+    let p = put_contents(m, &mut fields);
+    if p.fault == 0 {
+        let n = p.size;
+        put_message(m, &fields[..n], buf);
+        return Writing::Written(10 + n);
     }
-    Writing::Refused(e)
+    Writing::Refused(p.fault)
 }
 
-fn wide(x: u8) -> usize
+fn wide(x: u16) -> usize
     ensures { λ r. ⌜ r ≡ x ⌝ }
 {
     x as usize
 }
 
-// The bytes of an allowed count of digits or bytes, which fit the field's place.
-fn size_in(f: Format, n: u8) -> usize
-    requires { ⌜ allowed f n ≡ true ⌝ }
-    ensures { λ r. ⌜ (r ≡ size (f .class) n) × (r ≤ room f) ⌝ }
-{
-    let class = f.class;
-    field::size_of(class, n)
-}
-
-// What a field of n digits or bytes, with its contents at the front of bs, is refused for; 0 for nothing.
-fn fault_of(f: Format, bm: &[u8; 8], n: u8, bs: &[u8]) -> u8
-    requires { ⌜ room f ≤ length (now bs) ⌝ }
-    ensures { λ r. ⌜ r ≡ fieldFault f (now (bm .entry)) n (now (bs .entry)) ⌝ }
-{
-    if field::named(bm, f.number) {
-        if field::is_allowed(f, wide(n)) {
-            let class = f.class;
-            let size = size_in(f, n);
-            return field::fault_of(class, n, &bs[..size]);
-        }
-        return 7;
-    }
-    0
-}
-
-// The first fault of the fields, ascending; 0 for none.
-fn fields_fault(bm: &[u8; 8], counts: [u8; field::ROWS], contents: [u8; message::ROOM]) -> u8
-    ensures { λ r. ⌜ r ≡ fieldsFault formats (now (bm .entry)) counts contents ⌝ }
-{
-    let table = field::table();
-    let mut at = 0;
-    let mut k = 0;
-    while k < field::ROWS {
-        let f = table[k];
-        let class = f.class;
-        let e = fault_of(f, bm, counts[k], &contents[at..]);
-        if e != 0 {
-            return e;
-        }
-        at += field::size_of(class, f.high);
-        k += 1;
-    }
-    0
-}
-
-// A count's last two digits, packed.
-fn pair(n: u8) -> u8
-    ensures { λ r. ⌜ r ≡ n / 10 % 10 * 16 + n % 10 ⌝ }
-{
-    n / 10 % 10 * 16 + n % 10
-}
-
-// Writes a field's length at the front of out.
-fn put_count(prefix: Prefix, n: u8, out: &mut [u8])
-    requires { ⌜ length (now out) ≡ skip prefix ⌝ }
-    ensures { λ _. ⌜ now (out .exit) ≡ pack (digitsOf (2 * skip prefix) n) ⌝ }
-{
-    match prefix {
-        Prefix::Absent => {}
-        Prefix::One => {
-            out[0] = pair(n);
-        }
-        Prefix::Two => {
-            out[0] = n / 100;
-            out[1] = pair(n);
-        }
-    }
-}
-
-// Writes a field at the front of out, where the bitmap names it, and gives the number of its bytes.
-fn put_field(f: Format, bm: &[u8; 8], n: u8, bs: &[u8], out: &mut [u8]) -> usize
-    requires { ⌜ (fieldFault f (now bm) n (now bs) ≡ 0) × (room f ≤ length (now bs)) × (skip (f .prefix) + room f ≤ length (now out)) ⌝ }
-    ensures { λ r. ⌜ Put (namedBytes f (now (bm .entry)) n (now (bs .entry))) (now (out .entry)) r (now (out .exit)) ⌝ }
-{
-    if field::named(bm, f.number) {
-        let prefix = f.prefix;
-        let size = size_in(f, n);
-        let skip = span::skip_of(prefix);
-        let end = skip + size;
-        put_count(prefix, n, &mut out[..skip]);
-        bytes::copy(&bs[..size], &mut out[skip..end]);
-        return end;
-    }
-    0
-}
-
-// Writes the fields at the front of out, ascending, and gives the number of their bytes.
+// Writes the fields that the bitmap names at the front of out, ascending, up to the first that is refused.
 fn put_fields(
     bm: &[u8; 8],
     counts: [u8; field::ROWS],
     contents: [u8; message::ROOM],
     out: &mut [u8],
-) -> usize
-    requires { ⌜ (fieldsFault formats (now bm) counts contents ≡ 0) × (largest ≤ 10 + length (now out)) ⌝ }
-    ensures { λ r. ⌜ Put (fieldsBytes formats (now (bm .entry)) counts contents) (now (out .entry)) r (now (out .exit)) ⌝ }
+) -> Placed
+    requires { ⌜ largest ≤ 10 + length (now out) ⌝ }
+    ensures { λ r. ⌜ Placing (fieldsFault formats (now (bm .entry)) counts contents) (fieldsBytes formats (now (bm .entry)) counts contents) r (now (out .exit)) ⌝ }
 {
     let table = field::table();
+    let places = field::places();
     let mut at = 0;
-    let mut from = 0;
     let mut k = 0;
     while k < field::ROWS {
         let f = table[k];
-        let class = f.class;
-        let n = put_field(f, bm, counts[k], &contents[from..], &mut out[at..]);
-        at += n;
-        from += field::size_of(class, f.high);
+        if field::named(bm, f.number) {
+            let from = wide(places[k]);
+            let p = field_writing::put_field(f, counts[k], &contents[from..], &mut out[at..]);
+            if p.fault != 0 {
+                return p;
+            }
+            at += p.size;
+        }
         k += 1;
     }
-    at
+    Placed { fault: 0, size: at }
 }
 
-// The first fault of a message's fields, or else of the message as a whole; 0 for none.
-fn contents_fault(m: Message) -> u8
-    ensures { λ r. ⌜ r ≡ contentsFault m ⌝ }
+// Writes a message's fields at the front of out, where the message is in form.
+fn put_contents(m: Message, out: &mut [u8]) -> Placed
+    requires { ⌜ largest ≤ 10 + length (now out) ⌝ }
+    ensures { λ r. ⌜ Placing (messageFault m) (fieldsBytes formats (m .bitmap) (m .counts) (m .contents)) r (now (out .exit)) ⌝ }
 {
     let bitmap = m.bitmap;
     let counts = m.counts;
     let contents = m.contents;
-    let e = fields_fault(&bitmap, counts, contents);
-    if e == 0 {
-        return message::late_fault(m);
-    }
-    e
-}
-
-// What a message is refused for; 0 for nothing.
-fn message_fault(m: Message) -> u8
-    ensures { λ r. ⌜ r ≡ messageFault m ⌝ }
-{
-    let bitmap = m.bitmap;
     if field::listed_indicator(m.indicator) {
         if field::all_listed(&bitmap) {
-            return contents_fault(m);
+            let p = put_fields(&bitmap, counts, contents, out);
+            if p.fault == 0 {
+                return Placed {
+                    fault: message::late_fault(m),
+                    size: p.size,
+                };
+            }
+            return p;
         }
-        return 5;
+        return Placed { fault: 5, size: 0 };
     }
-    4
+    Placed { fault: 4, size: 0 }
 }
 
-// Writes a message at the front of buf and gives its length.
-fn put_message(m: Message, buf: &mut [u8]) -> usize
-    requires { ⌜ (messageFault m ≡ 0) × (largest ≤ length (now buf)) ⌝ }
-    ensures { λ r. ⌜ Put (messageBytes m) (now (buf .entry)) r (now (buf .exit)) ⌝ }
+// Writes a message's type, its bitmap and the bytes of its fields at the front of buf.
+fn put_message(m: Message, fields: &[u8], buf: &mut [u8])
+    requires { ⌜ 10 + length (now fields) ≤ length (now buf) ⌝ }
+    ensures { λ _. ⌜ now (buf .exit) ≡ (head m ++ now (fields .entry)) ++ drop (10 + length (now (fields .entry))) (now (buf .entry)) ⌝ }
 {
     let bitmap = m.bitmap;
-    let counts = m.counts;
-    let contents = m.contents;
     buf[0] = (m.indicator / 256) as u8;
     buf[1] = (m.indicator % 256) as u8;
     bytes::copy(&bitmap, &mut buf[2..10]);
-    10 + put_fields(&bitmap, counts, contents, &mut buf[10..])
+    bytes::copy(fields, &mut buf[10..]);
 }

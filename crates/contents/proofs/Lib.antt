@@ -1,0 +1,3 @@
+-- Laws of contents that are tested and copied.
+pub mod Packed
+pub mod Taken

@@ -1,0 +1,69 @@
+-- A field is found where its frame stands and its contents are in form.
+use mathlib.Core.Path.{_≡_, refl, sym, _∙_}
+use mathlib.Core.List.{List}
+use mathlib.Core.Bool.{Bool, true, false, cond}
+use Prim.Native.Nat.{ℕ, _+_, _*_, _≤_, _<_}
+use native.Mathlib.Omega.{arith}
+use lib.Dec.{ltb, eqb}
+use lib.ListN.{length, take, drop, length-drop}
+use borrow.Author.Tests.{ltb-false, le-ltb, eq-eqb, ne-eqb}
+use Rattle.digits.specs.Digits.{isPacked}
+use Rattle.field.specs.Bitmap.{names}
+use Rattle.field.specs.Contents.{size, skip, allowed, fault}
+use Rattle.field.specs.declared.Prefix.{Prefix}
+use Rattle.field.specs.declared.Prefix.the-variants.{Absent}
+use Rattle.field.specs.declared.Format.{Format}
+use Rattle.span.specs.Span.{countIn, contentsAt, spanAt, span, sizedAt, frameAt}
+use Rattle.span.specs.declared.Span.{Span}
+use Rattle.span.specs.declared.Span.the-variants.{Held, Refused}
+use Rattle.span.proofs.Held.{Fits, passed-no, passed-yes, size-bound}
+
+-- a frame's contents are judged after it
+abbrev judged : Format → List ℕ → Span → Span
+judged f s (Refused e) = Refused e
+judged f s (Held n p z) =
+    cond (eqb (fault (f .class) n (take z (drop p s))) 0) (Held n p z) (Refused (fault (f .class) n (take z (drop p s))))
+
+judged-cond : (f : Format) (s : List ℕ) (b : Bool) (x y : Span) → judged f s (cond b x y) ≡ cond b (judged f s x) (judged f s y)
+judged-cond f s true x y = refl
+judged-cond f s false x y = refl
+
+span-frame : (f : Format) (s : List ℕ) → spanAt f s ≡ judged f s (frameAt f s)
+unfolding spanAt contentsAt frameAt sizedAt
+span-frame f s = rw (judged-cond, judged-cond, judged-cond, judged-cond)
+
+module _ (f : Format) (bm s : List ℕ) (h : names bm (f .number) ≡ true) where
+  pub frame-refused : {e : ℕ} → frameAt f s ≡ Refused e → span f bm s ≡ Refused e
+  unfolding span
+  frame-refused q = rw (h, span-frame f s, q)
+
+  module _ {n p z : ℕ} (q : frameAt f s ≡ Held n p z) where
+    pub frame-held : fault (f .class) n (take z (drop p s)) ≡ 0 → span f bm s ≡ Held n p z
+    unfolding span
+    frame-held e = rw (h, span-frame f s, q, eq-eqb _ _ e)
+
+    pub frame-fault : {e : ℕ} → fault (f .class) n (take z (drop p s)) ≡ e → (e ≡ 0 → ⊥) → span f bm s ≡ Refused e
+    unfolding span
+    frame-fault {e} g k = rw (h, span-frame f s, q, g, ne-eqb e 0 k)
+
+pub frame-fits : (f : Format) (s : List ℕ) {n p z : ℕ} → frameAt f s ≡ Held n p z → Fits f s p z
+unfolding frameAt sizedAt
+frame-fits f s {n} {p} {z} q =
+    let k = skip (f .prefix) in
+    let m = countIn (f .prefix) (f .high) (take (skip (f .prefix)) s) in
+    let w = size (f .class) m in
+    let r = drop k s in
+    let a = passed-no (ltb (length s) k) 3 _ q in
+    let b = passed-yes (isPacked (2 * k) (take k s)) 6 _ (a .1) in
+    let c = passed-yes (allowed f m) 7 _ (b .1) in
+    let d = passed-no (ltb (length r) w) 3 (Held m k w) (c .1) in
+    let kp : k ≤ length s = ltb-false (length s) k (a .0) in
+    let wr : w ≤ length r = ltb-false (length r) w (d .0) in
+    let pk : k ≡ p = cc in
+    let zw : w ≡ z = cc in
+    record { within = omega (arith, length-drop k s); placed = rw (← zw) (size-bound f m (c .0)) }
+
+-- a field without a length has one count
+pub frame-absent : (f : Format) (s : List ℕ) → f .prefix ≡ Absent → frameAt f s ≡ sizedAt f (f .high) s
+unfolding frameAt isPacked
+frame-absent f s e = rw (e, le-ltb (length s) 0 (omega arith))
