@@ -34,9 +34,13 @@ inForm e =
 unfoldable pub keepsVoided : Entry → Bool
 keepsVoided e = eqb (e .voided) 0 || isVoidable (e .kind)
 
+-- an entry of a kind that is uploaded
+abbrev pub dueEntry : Entry → Bool
+dueEntry e = isDue (e .kind)
+
 -- a mark or resend other than 0 outside the upload or on an entry not due
-unfoldable pub keepsUnmarked : Bool → Entry → Bool
-keepsUnmarked uploading e = (uploading && isDue (e .kind)) || (eqb (e .mark) 0 && eqb (e .resends) 0)
+unfoldable pub keepsUnmarked : (Entry → Bool) → Bool → Entry → Bool
+keepsUnmarked due uploading e = (uploading && due e) || (eqb (e .mark) 0 && eqb (e .resends) 0)
 
 -- a resend at mark 0 or above L
 unfoldable pub keepsResends : ℕ → Entry → Bool
@@ -49,4 +53,4 @@ keepsSilent l awaited e = not (eqb (e .mark) 1 && eqb (e .resends) l) || awaited
 -- all of these, for an entry that is the awaited item or is not
 unfoldable pub fits : ℕ → Bool → Bool → Entry → Bool
 fits l uploading awaited e =
-    inForm e && keepsVoided e && keepsUnmarked uploading e && keepsResends l e && keepsSilent l awaited e
+    inForm e && keepsVoided e && keepsUnmarked dueEntry uploading e && keepsResends l e && keepsSilent l awaited e

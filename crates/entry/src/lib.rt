@@ -1,11 +1,13 @@
 // An entry of the journal: its bytes and its values (document 01, "State and journal").
 use numbers::Trace;
 ghost use mathlib.Core.Path.{_≡_};
-ghost use mathlib.Core.List.{_++_};
+ghost use mathlib.Core.List.{[], _∷_, _++_};
 ghost use Prim.Native.Nat.{_+_, _≤_};
 ghost use lib.ListN.{length, take, drop};
-
+ghost use Rattle.digits.specs.Digits.{pack};
+ghost use Rattle.digits.specs.Numbers.{digitsOf};
 ghost use Rattle.digits.specs.Packed.{packedNumber};
+ghost use Rattle.field.specs.Contents.{allPrintable};
 ghost use Rattle.entry.specs.Entry.{decode, encode, part, allZero, blank, entrySize};
 ghost use Rattle.entry.specs.Form.{cardInForm, inForm, keepsVoided, keepsUnmarked, keepsResends, keepsSilent, fits};
 
@@ -82,62 +84,33 @@ pub fn entry_of(b: &[u8; Entry::SIZE]) -> Entry
 pub fn bytes_of(e: Entry) -> [u8; Entry::SIZE]
     ensures { λ r. ⌜ r ≡ encode e ⌝ }
 {
-    let trace = e.trace;
     let card = e.card;
     let date = e.date;
     let authorisation = e.authorisation;
     let reference = e.reference;
     let reserved = e.reserved;
-    let marks = [e.kind, e.voided, e.mark, e.resends];
-    let digits = [e.digits];
-    let mut number = [0u8; 3];
-    let mut amount = [0u8; 6];
-    digits::put_number(trace.0 as u64, &mut number);
-    digits::put_number(e.amount, &mut amount);
-    let mut b = [0u8; Entry::SIZE];
-    put(&marks, 0, &mut b);
-    put(&number, 4, &mut b);
-    put(&amount, 7, &mut b);
-    put(&digits, 13, &mut b);
-    put(&card, 14, &mut b);
-    put(&date, 24, &mut b);
-    put(&authorisation, 26, &mut b);
-    put(&reference, 32, &mut b);
-    put(&reserved, 44, &mut b);
-    b
+    let head = head_of(e);
+    let to14 = put(&head, 0, [0u8; Entry::SIZE]);
+    let to24 = put(&card, 14, to14);
+    let to26 = put(&date, 24, to24);
+    let to32 = put(&authorisation, 26, to26);
+    let to44 = put(&reference, 32, to32);
+    put(&reserved, 44, to44)
 }
 
-// Whether each value is in its range and form.
-pub fn is_in_form(e: Entry) -> bool
-    ensures { λ r. ⌜ r ≡ inForm e ⌝ }
+// Whether the entry that 48 bytes hold keeps the clauses of rule 2 that are about it alone.
+pub fn fits(b: &[u8; Entry::SIZE], sendings: u8, uploading: bool, awaited: bool) -> bool
+    ensures { λ r. ⌜ r ≡ fits sendings uploading awaited (decode (now (b .entry))) ⌝ }
 {
-    let trace = e.trace;
-    let card = e.card;
-    let date = e.date;
-    let authorisation = e.authorisation;
-    let reference = e.reference;
-    let reserved = e.reserved;
-    kinds::is_kind(e.kind)
-        & (e.voided <= 1)
-        & (e.mark <= 4)
-        & numbers::is_within(1, trace.0 as u64, numbers::LAST_NUMBER as u64)
-        & numbers::is_within(1, e.amount, numbers::LARGEST_AMOUNT)
-        & is_card(e.digits, &card)
-        & digits::is_packed(&date, 4)
-        & field::all_printable(&authorisation)
-        & field::all_printable(&reference)
-        & is_zero(&reserved)
-}
-
-// Whether an entry keeps the clauses of rule 2 that are about it alone.
-pub fn fits(e: Entry, sendings: u8, uploading: bool, awaited: bool) -> bool
-    ensures { λ r. ⌜ r ≡ fits sendings uploading awaited e ⌝ }
-{
-    is_in_form(e)
-        & ((e.voided == 0) | kinds::is_voidable(e.kind))
-        & ((uploading & kinds::is_due(e.kind)) | ((e.mark == 0) & (e.resends == 0)))
-        & ((e.resends <= sendings) & (!(e.mark == 0) | (e.resends == 0)))
-        & (!((e.mark == 1) & (e.resends == sendings)) | awaited)
+    let s: &[u8] = b;
+    let kind = s[0];
+    let mark = s[2];
+    let resends = s[3];
+    is_in_form(s)
+        & ((s[1] == 0) | kinds::is_voidable(kind))
+        & ((uploading & kinds::is_due(kind)) | ((mark == 0) & (resends == 0)))
+        & ((resends <= sendings) & (!(mark == 0) | (resends == 0)))
+        & (!((mark == 1) & (resends == sendings)) | awaited)
 }
 
 // The values of 48 zeros, which stand for no entry.
@@ -168,13 +141,47 @@ fn trace_in(s: &[u8]) -> Trace
     Trace(digits::packed_number(&s[4..7]) as u32)
 }
 
-// Copies s into out from an offset on.
-fn put(s: &[u8], at: usize, out: &mut [u8])
-    requires { ⌜ at + length (now s) ≤ length (now out) ⌝ }
-    ensures { λ _. ⌜ now (out .exit) ≡ take at (now (out .entry)) ++ (now (s .entry) ++ drop (at + length (now (s .entry))) (now (out .entry))) ⌝ }
+// Whether each value is in its range and form.
+fn is_in_form(s: &[u8]) -> bool
+    requires { ⌜ length (now s) ≡ entrySize ⌝ }
+    ensures { λ r. ⌜ r ≡ inForm (decode (now (s .entry))) ⌝ }
 {
+    let trace = trace_in(s);
+    kinds::is_kind(s[0])
+        & (s[1] <= 1)
+        & (s[2] <= 4)
+        & numbers::is_number(trace.0)
+        & numbers::is_within(1, digits::packed_number(&s[7..13]), numbers::LARGEST_AMOUNT)
+        & is_card(s[13], &s[14..24])
+        & digits::is_packed(&s[24..26], 4)
+        & is_printable(&s[26..32])
+        & is_printable(&s[32..44])
+        & is_zero(&s[44..48])
+}
+
+// The bytes before the card.
+fn head_of(e: Entry) -> [u8; 14]
+    ensures { λ r. ⌜ r ≡ (e .kind ∷ e .voided ∷ e .mark ∷ e .resends ∷ []) ++ (pack (digitsOf 6 (e .trace .0)) ++ (pack (digitsOf 12 (e .amount)) ++ (e .digits ∷ []))) ⌝ }
+{
+    let trace = e.trace;
+    let mut n = [0u8; 3];
+    let mut a = [0u8; 6];
+    digits::put_number(trace.0 as u64, &mut n);
+    digits::put_number(e.amount, &mut a);
+    [
+        e.kind, e.voided, e.mark, e.resends, n[0], n[1], n[2], a[0], a[1], a[2], a[3], a[4], a[5], e.digits,
+    ]
+}
+
+// The bytes with s from an offset on.
+fn put(s: &[u8], at: usize, b: [u8; Entry::SIZE]) -> [u8; Entry::SIZE]
+    requires { ⌜ at + length (now s) ≤ entrySize ⌝ }
+    ensures { λ r. ⌜ r ≡ take at b ++ (now (s .entry) ++ drop (at + length (now (s .entry))) b) ⌝ }
+{
+    let mut out = b;
     let end = at + s.len();
     bytes::copy(s, &mut out[at..end]);
+    out
 }
 
 fn is_zero(s: &[u8]) -> bool
@@ -188,6 +195,20 @@ fn is_zero(s: &[u8]) -> bool
         i += 1;
     }
     true
+}
+
+// Whether each byte is 20 to 7E; without an exit, so that the machine tests several at once.
+fn is_printable(s: &[u8]) -> bool
+    ensures { λ r. ⌜ r ≡ allPrintable (now (s .entry)) ⌝ }
+{
+    let mut good = true;
+    let mut i = 0;
+    while i < s.len() {
+        let b = s[i];
+        good = good & ((0x20 <= b) & (b <= 0x7E));
+        i += 1;
+    }
+    good
 }
 
 fn is_card(n: u8, card: &[u8]) -> bool

@@ -1,4 +1,4 @@
--- Laws of the entries that a journal's bytes hold: how many they are, one more, one written, one byte of one changedAt.
+-- Laws of the entries that a journal's bytes hold: how many they are, one more, one written, one byte of one changed.
 use mathlib.Core.Path.{_≡_, refl, ap, sym, _∙_}
 use mathlib.Core.List.{List, [], _∷_, _++_, append-nil}
 use mathlib.Core.Bool.{true}

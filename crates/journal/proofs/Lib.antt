@@ -1,5 +1,6 @@
 -- Laws of the journal, for other crates to cite.
 pub mod Entries
+pub mod Here
 pub mod Searches
 pub mod Traces
 pub mod Sums

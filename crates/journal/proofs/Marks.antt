@@ -1,4 +1,4 @@
--- Laws of an entry whose voided flag, upload mark or number of resends is changedAt.
+-- Laws of an entry whose voided flag, upload mark or number of resends is changed.
 use mathlib.Core.Path.{_≡_, refl}
 use mathlib.Core.Bool.{true}
 use Prim.Native.Nat.{ℕ, _≤_}

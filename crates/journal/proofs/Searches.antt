@@ -9,13 +9,12 @@ use native.Mathlib.Decide.{decLt, ℕ-discrete}
 use lib.Dec.{eqb}
 use lib.ListN.{length}
 use borrow.Author.Tests.{not-true, eqb-true}
-use Rattle.kinds.specs.Kinds.{isDue}
 use Rattle.entry.specs.declared.Entry.{Entry}
 use Rattle.journal.specs.declared.Found.{Found}
 use Rattle.journal.specs.declared.Found.the-variants.{At, Nowhere}
 use Rattle.journal.specs.Journal.{entryAt, every, firstOf, dueWith, otherwise, nextDue, changedAt}
 
--- places of a list and of a changedAt one
+-- places of a list and of a changed one
 pub entry-front : (es fs : List Entry) (i : ℕ) → i < length es → entryAt (es ++ fs) i ≡ entryAt es i
 entry-front [] fs i h = absurd (omega arith)
 entry-front (e ∷ es) fs zero h = refl
@@ -224,33 +223,24 @@ first-same p q h i [] = refl
 first-same p q h i (e ∷ es) = rw (h e, first-same p q h (suc i) es)
 
 -- the entry at place k is due, and is not sent or awaits its answer
-pub record IsNext (es : List Entry) (k : ℕ) : Type 0 where
+pub record IsNext (p : Entry → Bool) (es : List Entry) (k : ℕ) : Type 0 where
   pub below : k < length es
-  pub due : isDue (entryAt es k .kind) ≡ true
+  pub due : p (entryAt es k) ≡ true
   pub mark-most : entryAt es k .mark ≤ 1
 
-first-due : (m : ℕ) → m ≤ 1 → (es : List Entry) (k : ℕ) → firstOf (dueWith m) 0 es ≡ At k → IsNext es k
-unfolding dueWith
-first-due m h es k e =
-    let r = first-at (dueWith m) 0 es k e in
-    let z : k - 0 ≡ k = omega arith in
-    let b = and-eq-true-iff (isDue (entryAt es k .kind)) (eqb (entryAt es k .mark) m) .0 (rw z at (r .holds)) in
-    record { below = omega (arith, r .below); due = b .0; mark-most = omega (arith, eqb-true (entryAt es k .mark) m (b .1)) }
+module _ {p : Entry → Bool} where
+  first-due : (m : ℕ) → m ≤ 1 → (es : List Entry) (k : ℕ) → firstOf (dueWith p m) 0 es ≡ At k → IsNext p es k
+  unfolding dueWith
+  first-due m h es k e =
+      let r = first-at (dueWith p m) 0 es k e in
+      let z : k - 0 ≡ k = omega arith in
+      let b = and-eq-true-iff (p (entryAt es k)) (eqb (entryAt es k .mark) m) .0 (rw z at (r .holds)) in
+      record { below = omega (arith, r .below); due = b .0; mark-most = omega (arith, eqb-true (entryAt es k .mark) m (b .1)) }
 
-pub next-at : (es : List Entry) (k : ℕ) → nextDue es ≡ At k → IsNext es k
-unfolding nextDue
-next-at es k h = go (firstOf (dueWith 0) 0 es) refl h
-  where
-    go : (f : Found) → firstOf (dueWith 0) 0 es ≡ f → otherwise f (firstOf (dueWith 1) 0 es) ≡ At k → IsNext es k
-    go (At i) e h = first-due 0 (omega arith) es k (e ∙ h)
-    go Nowhere e h = first-due 1 (omega arith) es k h
-
-pub next-nowhere : (es : List Entry) → nextDue es ≡ Nowhere
-    → (every (λ m e. not (dueWith 0 e)) 0 es ≡ true) × (every (λ m e. not (dueWith 1 e)) 0 es ≡ true)
-unfolding nextDue
-next-nowhere es h = go (firstOf (dueWith 0) 0 es) refl h
-  where
-    go : (f : Found) → firstOf (dueWith 0) 0 es ≡ f → otherwise f (firstOf (dueWith 1) 0 es) ≡ Nowhere
-        → (every (λ m e. not (dueWith 0 e)) 0 es ≡ true) × (every (λ m e. not (dueWith 1 e)) 0 es ≡ true)
-    go (At i) e h = let z : _≡_ {A = ℕ} 0 1 = cc in absurd (omega arith)
-    go Nowhere e h = (first-nowhere (dueWith 0) 0 es e, first-nowhere (dueWith 1) 0 es h)
+  pub next-at : (es : List Entry) (k : ℕ) → nextDue p es ≡ At k → IsNext p es k
+  unfolding nextDue
+  next-at es k h = go (firstOf (dueWith p 0) 0 es) refl h
+    where
+      go : (f : Found) → firstOf (dueWith p 0) 0 es ≡ f → otherwise f (firstOf (dueWith p 1) 0 es) ≡ At k → IsNext p es k
+      go (At i) e h = first-due 0 (omega arith) es k (e ∙ h)
+      go Nowhere e h = first-due 1 (omega arith) es k h

@@ -1,6 +1,6 @@
 -- What loops over the entries keep.
 use mathlib.Core.Path.{_≡_, sym, _∙_}
-use mathlib.Core.List.{List, [], _∷_, _++_}
+use mathlib.Core.List.{List, [], _∷_}
 use mathlib.Core.Bool.{Bool, true, false}
 use Prim.Native.Nat.{ℕ, suc, _+_, _-_, _≤_, _<_}
 use native.Mathlib.Nat.{sub-zero}
@@ -8,29 +8,16 @@ use native.Mathlib.Numerals.{add-one}
 use native.Mathlib.Omega.{arith}
 use lib.ListN.{length, take, drop, length-drop}
 use lib.Seq.{drop-drop}
-use Rattle.entry.specs.Entry.{entrySize, part, decode}
+use Rattle.entry.specs.Entry.{entrySize}
 use Rattle.entry.specs.declared.Entry.{Entry}
-use Rattle.entry.proofs.Bytes.{part-copied}
 use Rattle.entry.proofs.Theorems.{decode-amount}
 use Rattle.journal.specs.declared.Found.the-variants.{At, Nowhere}
 use Rattle.kinds.specs.declared.Totals.{Totals}
 use Rattle.journal.specs.Journal.{entriesOf, every, firstOf, totalsOf}
 use Rattle.journal.specs.Sums.{withEntry, Room}
+use Rattle.journal.proofs.Here.{here}
 use Rattle.journal.proofs.Entries.{entries-more, entries-short}
 use Rattle.journal.proofs.Sums.{Gathering, gathering-none, gathering-room, gathering-more, gathering-done}
-
--- the entry whose bytes begin at an index
-abbrev pub here : List ℕ → ℕ → Entry
-here j at = decode (take entrySize (drop at j))
-
--- its bytes, copied from the journal
-pub here-copied : (j z x : List ℕ) (at : ℕ) → at + entrySize ≤ length j → length z ≡ entrySize
-    → x ≡ take (length (part at (at + entrySize - at) j)) (part at (at + entrySize - at) j)
-    ++ drop (length (part at (at + entrySize - at) j)) z
-    → x ≡ part at entrySize j
-here-copied j z x at h l e =
-    let k : at + entrySize - at ≡ entrySize = omega arith in
-    rw k at (part-copied at (at + entrySize - at) j z (omega arith) (omega arith) e)
 
 -- the first n entries without the first i, where the bytes of the next begin at an index
 abbrev pub left : ℕ → List ℕ → ℕ → ℕ → List Entry

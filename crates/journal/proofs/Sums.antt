@@ -1,7 +1,7 @@
 -- Laws of sums over a journal's entries and of the totals.
 use mathlib.Core.Path.{_≡_, refl, ap, sym, _∙_}
 use mathlib.Core.List.{List, [], _∷_, _++_}
-use mathlib.Core.Bool.{Bool, true, false, cond, and-eq-true-iff, true≢false}
+use mathlib.Core.Bool.{Bool, true, false, cond, _&&_, and-eq-true-iff, true≢false}
 use Prim.Native.Nat.{ℕ, zero, suc, _+_, _*_, _≤_, _<_}
 use native.Mathlib.Nat.{add-zero, zero-add, add-assoc}
 use native.Mathlib.Omega.{arith}
@@ -20,7 +20,7 @@ use Rattle.entry.proofs.Theorems.{decode-amount}
 use Rattle.journal.specs.declared.Found.{Found}
 use Rattle.kinds.specs.declared.Totals.{Totals}
 use Rattle.journal.specs.Journal.{entriesOf, every, sumOf, debitEntry, creditEntry, totalsOf, sumsOf, fitsAt, isAt, withVoided, withMark, withResends, changedAt}
-use Rattle.journal.specs.Sums.{withEntry, Room}
+use Rattle.journal.specs.Sums.{withEntry, sumsWith, Room}
 use Rattle.journal.proofs.Entries.{entries-more, entries-short}
 use Rattle.journal.proofs.Searches.{every-implies}
 
@@ -169,6 +169,37 @@ totals-last es e =
       sum-last creditEntry (λ e. e .amount) es e,
       sum-last creditEntry (λ e. 1) es e,
     )
+
+-- one more entry in the sums of those that satisfy p
+pub sums-last : (p : Entry → Bool) (es : List Entry) (e : Entry) → sumsOf p (es ++ (e ∷ [])) ≡ sumsWith p (sumsOf p es) e
+unfolding sumsOf sumsWith withEntry
+sums-last p es e =
+    rw (
+      sum-last (λ e. p e && debitEntry e) (λ e. e .amount) es e,
+      sum-last (λ e. p e && debitEntry e) (λ e. 1) es e,
+      sum-last (λ e. p e && creditEntry e) (λ e. e .amount) es e,
+      sum-last (λ e. p e && creditEntry e) (λ e. 1) es e,
+    )
+    (go (p e) (sumsOf p es))
+  where
+    go : (b : Bool) (t : Totals)
+        → _≡_ {A = Totals}
+        (record {
+          debit = t .debit + cond (b && debitEntry e) (e .amount) 0;
+          debits = t .debits + cond (b && debitEntry e) 1 0;
+          credit = t .credit + cond (b && creditEntry e) (e .amount) 0;
+          credits = t .credits + cond (b && creditEntry e) 1 0;
+        })
+        (cond b
+        (record {
+          debit = t .debit + cond (debitEntry e) (e .amount) 0;
+          debits = t .debits + cond (debitEntry e) 1 0;
+          credit = t .credit + cond (creditEntry e) (e .amount) 0;
+          credits = t .credits + cond (creditEntry e) 1 0;
+        })
+        t)
+    go true t = refl
+    go false t = rw (add-zero (t .debit), add-zero (t .debits), add-zero (t .credit), add-zero (t .credits))
 
 -- totals and those of the entries that are left
 abbrev gathered : Totals → List Entry → Totals

@@ -5,9 +5,9 @@ use Prim.Native.Nat.{ℕ, zero, suc, _+_, _*_}
 use lib.Dec.{leb, ltb, eqb}
 use lib.ListN.{length, take, drop, set}
 use Rattle.numbers.specs.Numbers.{following}
-use Rattle.kinds.specs.Kinds.{isDebit, isCredit, isDue, originalKind}
+use Rattle.kinds.specs.Kinds.{isDebit, isCredit, originalKind}
 use Rattle.entry.specs.Entry.{entrySize, decode, encode, blank}
-use Rattle.entry.specs.Form.{fits}
+use Rattle.entry.specs.Form.{dueEntry, fits}
 use Rattle.entry.specs.declared.Entry.{Entry}
 use Rattle.journal.specs.declared.Found.{Found}
 use Rattle.journal.specs.declared.Found.the-variants.{At, Nowhere}
@@ -78,13 +78,13 @@ abbrev pub originalFor : ℕ → ℕ → List Entry → Found
 originalFor kind x es = firstOf (isOriginal (originalKind kind) x) 0 es
 
 -- an entry is due and has this upload mark
-unfoldable pub dueWith : ℕ → Entry → Bool
-dueWith mark e = isDue (e .kind) && eqb (e .mark) mark
+unfoldable pub dueWith : (Entry → Bool) → ℕ → Entry → Bool
+dueWith due mark e = due e && eqb (e .mark) mark
 
 abbrev pub asked : Query → Entry → Bool
 asked (OfTrace x) e = hasTrace (x .0) e
 asked (Original k x) e = isOriginal k (x .0) e
-asked (Due mark) e = dueWith mark e
+asked (Due mark) e = dueWith dueEntry mark e
 
 -- there is no such entry
 abbrev pub nowhere : Found → Bool
@@ -105,8 +105,8 @@ abbrev pub otherwise : Found → Found → Found
 otherwise (At i) next = At i
 otherwise Nowhere next = next
 
-unfoldable pub nextDue : List Entry → Found
-nextDue es = otherwise (firstOf (dueWith 0) 0 es) (firstOf (dueWith 1) 0 es)
+unfoldable pub nextDue : (Entry → Bool) → List Entry → Found
+nextDue due es = otherwise (firstOf (dueWith due 0) 0 es) (firstOf (dueWith due 1) 0 es)
 
 -- no entry has this trace; no two entries have one trace
 unfoldable pub absent : ℕ → List Entry → Bool
@@ -132,7 +132,7 @@ putEntry i e j =
       (take (entrySize * i) j ++ (encode e ++ drop (entrySize * i + entrySize) j))
       j
 
--- the bytes j with a byte of entry i changedAt: 1 voided, 2 upload mark, 3 resends
+-- the bytes j with a byte of entry i changed: 1 voided, 2 upload mark, 3 resends
 unfoldable pub setByte : ℕ → ℕ → ℕ → List ℕ → List ℕ
 setByte i at x j = set j (entrySize * i + at) x
 
@@ -158,7 +158,7 @@ withResends x e =
       digits = e .digits; card = e .card; date = e .date;
       authorisation = e .authorisation; reference = e .reference; reserved = e .reserved }
 
--- the entries with entry i changedAt by f
+-- the entries with entry i changed by f
 abbrev pub changedAt : ℕ → (Entry → Entry) → List Entry → List Entry
 changedAt i f [] = []
 changedAt zero f (e ∷ es) = f e ∷ es

@@ -1,5 +1,5 @@
 -- One more entry in the totals: what a private function of this crate asks and promises.
-use mathlib.Core.Bool.{cond}
+use mathlib.Core.Bool.{Bool, cond}
 use Prim.Native.Nat.{_+_, _≤_, _<_}
 use Rattle.entry.specs.declared.Entry.{Entry}
 use Rattle.kinds.specs.declared.Totals.{Totals}
@@ -11,6 +11,10 @@ withEntry t e =
     record {
       debit = t .debit + cond (debitEntry e) (e .amount) 0; debits = t .debits + cond (debitEntry e) 1 0;
       credit = t .credit + cond (creditEntry e) (e .amount) 0; credits = t .credits + cond (creditEntry e) 1 0 }
+
+-- the sums of the entries that satisfy p, with one entry more
+unfoldable pub sumsWith : (Entry → Bool) → Totals → Entry → Totals
+sumsWith p t e = cond (p e) (withEntry t e) t
 
 -- there is room for one more
 pub record Room (t : Totals) (e : Entry) : Type 0 where

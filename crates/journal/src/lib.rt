@@ -7,6 +7,7 @@ ghost use mathlib.Core.Path.{_≡_};
 ghost use Prim.Native.Nat.{_+_, _*_, _≤_, _<_};
 ghost use lib.ListN.{length, take, drop};
 ghost use Rattle.entry.specs.Entry.{decode, entrySize};
+ghost use Rattle.entry.specs.Form.{dueEntry};
 ghost use Rattle.journal.specs.Journal.{entriesOf, entryAt, every, firstOf, asked, totalsOf, isAt, nowhere, originalFor, fitsAt, nextDue, putEntry, setByte};
 ghost use Rattle.journal.specs.Sums.{withEntry, Room};
 
@@ -56,7 +57,8 @@ pub fn entry_at(journal: &[u8], n: u16, i: u16) -> Entry
     if journal.len() < at + Entry::SIZE {
         return entry::blank();
     }
-    load(journal, at)
+    let b = bytes_at(journal, at);
+    entry::entry_of(&b)
 }
 
 // The first entry that is what is looked for.
@@ -69,7 +71,7 @@ pub fn find(journal: &[u8], n: u16, query: Query) -> Found
         if journal.len() - at < Entry::SIZE {
             return Found::Nowhere;
         }
-        if is_asked(load(journal, at), query) {
+        if is_asked(journal, at, query) {
             return Found::At(i);
         }
         at += Entry::SIZE;
@@ -88,7 +90,8 @@ pub fn all_fit(journal: &[u8], n: u16, sendings: u8, uploading: bool, awaited: F
         if journal.len() - at < Entry::SIZE {
             return true;
         }
-        if !entry::fits(load(journal, at), sendings, uploading, awaited.is_at(i)) {
+        let b = bytes_at(journal, at);
+        if !entry::fits(&b, sendings, uploading, awaited.is_at(i)) {
             return false;
         }
         at += Entry::SIZE;
@@ -112,7 +115,7 @@ pub fn totals_of(journal: &[u8], n: u16) -> Totals
         if journal.len() - at < Entry::SIZE {
             return sums;
         }
-        sums = plus(sums, load(journal, at));
+        sums = plus(sums, journal, at);
         at += Entry::SIZE;
         i += 1;
     }
@@ -132,7 +135,7 @@ pub fn find_original(journal: &[u8], n: u16, kind: u8, trace: Trace) -> Found
 
 // The first due entry of mark 0 or, where no due one is 0, of mark 1.
 pub fn next_due(journal: &[u8], n: u16) -> Found
-    ensures { λ r. ⌜ r ≡ nextDue (entriesOf n (now (journal .entry))) ⌝ }
+    ensures { λ r. ⌜ r ≡ nextDue dueEntry (entriesOf n (now (journal .entry))) ⌝ }
 {
     match find(journal, n, Query::Due(0)) {
         Found::At(i) => Found::At(i),
@@ -168,37 +171,59 @@ fn wide(x: u16) -> usize
     x as usize
 }
 
-// The entry whose bytes begin at an index.
-fn load(journal: &[u8], at: usize) -> Entry
+// The bytes of the entry that begins at an index.
+fn bytes_at(journal: &[u8], at: usize) -> [u8; Entry::SIZE]
     requires { ⌜ at + entrySize ≤ length (now journal) ⌝ }
-    ensures { λ r. ⌜ r ≡ decode (take entrySize (drop at (now (journal .entry)))) ⌝ }
+    ensures { λ r. ⌜ r ≡ take entrySize (drop at (now (journal .entry))) ⌝ }
 {
     let mut b = [0u8; Entry::SIZE];
     let end = at + Entry::SIZE;
     bytes::copy(&journal[at..end], &mut b);
-    entry::entry_of(&b)
+    b
 }
 
-// Whether an entry is what is looked for.
-fn is_asked(e: Entry, query: Query) -> bool
-    ensures { λ r. ⌜ r ≡ asked query e ⌝ }
+// The trace of the entry that begins at an index.
+fn trace_in(journal: &[u8], at: usize) -> u32
+    requires { ⌜ at + entrySize ≤ length (now journal) ⌝ }
+    ensures { λ r. ⌜ r ≡ decode (take entrySize (drop at (now (journal .entry)))) .trace .0 ⌝ }
 {
-    let own = e.trace;
+    let from = at + 4;
+    let end = from + 3;
+    digits::packed_number(&journal[from..end]) as u32
+}
+
+// Its amount.
+fn amount_in(journal: &[u8], at: usize) -> u64
+    requires { ⌜ at + entrySize ≤ length (now journal) ⌝ }
+    ensures { λ r. ⌜ r ≡ decode (take entrySize (drop at (now (journal .entry)))) .amount ⌝ }
+{
+    let from = at + 7;
+    let end = from + 6;
+    digits::packed_number(&journal[from..end])
+}
+
+// Whether the entry that begins at an index is what is looked for.
+fn is_asked(journal: &[u8], at: usize, query: Query) -> bool
+    requires { ⌜ at + entrySize ≤ length (now journal) ⌝ }
+    ensures { λ r. ⌜ r ≡ asked query (decode (take entrySize (drop at (now (journal .entry))))) ⌝ }
+{
     match query {
-        Query::Trace(trace) => own.0 == trace.0,
-        Query::Original { kind, trace } => (e.kind == kind) & (own.0 == trace.0),
-        Query::Due(mark) => kinds::is_due(e.kind) & (e.mark == mark),
+        Query::Trace(trace) => trace_in(journal, at) == trace.0,
+        Query::Original { kind, trace } => (journal[at] == kind)
+            & (trace_in(journal, at) == trace.0),
+        Query::Due(mark) => kinds::is_due(journal[at]) & (journal[at + 2] == mark),
     }
 }
 
-// The totals with one entry more.
-fn plus(sums: Totals, e: Entry) -> Totals
-    requires { ⌜ Room sums e ⌝ }
-    ensures { λ r. ⌜ r ≡ withEntry sums e ⌝ }
+// The totals with one entry more, the one that begins at an index.
+fn plus(sums: Totals, journal: &[u8], at: usize) -> Totals
+    requires { ⌜ (at + entrySize ≤ length (now journal)) × Room sums (decode (take entrySize (drop at (now journal)))) ⌝ }
+    ensures { λ r. ⌜ r ≡ withEntry sums (decode (take entrySize (drop at (now (journal .entry))))) ⌝ }
 {
-    match kinds::side_of(e.kind) {
+    let amount = amount_in(journal, at);
+    match kinds::side_of(journal[at]) {
         Side::Debit => Totals {
-            debit: sums.debit + e.amount,
+            debit: sums.debit + amount,
             debits: sums.debits + 1,
             credit: sums.credit,
             credits: sums.credits,
@@ -206,7 +231,7 @@ fn plus(sums: Totals, e: Entry) -> Totals
         Side::Credit => Totals {
             debit: sums.debit,
             debits: sums.debits,
-            credit: sums.credit + e.amount,
+            credit: sums.credit + amount,
             credits: sums.credits + 1,
         },
         Side::Neither => sums,

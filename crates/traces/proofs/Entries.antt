@@ -1,13 +1,13 @@
 -- How many entries there are, those from one on, and the bytes of their traces.
 use mathlib.Core.Path.{_≡_, refl, sym, ap, _∙_}
-use mathlib.Core.List.{List, [], _∷_}
+use mathlib.Core.List.{List, [], _∷_, _++_}
 use mathlib.Core.Bool.{Bool, true, false, cond}
 use Prim.Native.Nat.{ℕ, zero, suc, _+_, _-_, _*_, _≤_, _<_}
 use native.Mathlib.Omega.{arith}
 use native.Mathlib.Numerals.{unary-clauses}
 use lib.Dec.{ltb}
 use lib.ListN.{length, take, drop, length-drop}
-use lib.Seq.{drop-drop, take-take, length-take-le}
+use lib.Seq.{drop-drop}
 use borrow.Author.Tests.{ltb-false}
 use Rattle.digits.proofs.Lists.{tail-part}
 use Rattle.digits.specs.Packed.{packedNumber}
@@ -16,6 +16,7 @@ use Rattle.entry.specs.Entry.{decode, entrySize}
 use Rattle.entry.specs.declared.Entry.{Entry}
 use Rattle.journal.specs.Journal.{entriesOf, entryAt}
 use Rattle.journal.proofs.Entries.{entries-more, entries-short, entry-there}
+use Rattle.journal.proofs.Here.{part-here}
 use Rattle.traces.specs.Traces.{traceAt}
 
 -- m of them, where these are all or there are no bytes for one more
@@ -64,17 +65,21 @@ pub entries-after : (n i at : ℕ) (j : List ℕ) → at ≡ entrySize * (i + 1)
     → entriesOf (n - (i + 1)) (take (length j - at) (drop at j)) ≡ drop (i + 1) (entriesOf n j)
 entries-after n i at j q h = rw (tail-part at j, q) (sym (drop-entries n (i + 1) j (omega arith)))
 
+pub take-entry : (es : List Entry) (i : ℕ) → i < length es → take (suc i) es ≡ take i es ++ (entryAt es i ∷ [])
+take-entry [] i h = absurd (omega arith)
+take-entry (e ∷ es) zero h = refl
+take-entry (e ∷ es) (suc i) h = rw (take-entry es i (omega arith))
+
+pub entry-take : (es : List Entry) (i k : ℕ) → k < i → entryAt (take i es) k ≡ entryAt es k
+entry-take es zero k h = absurd (omega arith)
+entry-take [] (suc i) k h = refl
+entry-take (e ∷ es) (suc i) zero h = refl
+entry-take (e ∷ es) (suc i) (suc k) h = entry-take es i k (omega arith)
+
 pub drop-entry : (es : List Entry) (i : ℕ) → i < length es → drop i es ≡ entryAt es i ∷ drop (suc i) es
 drop-entry [] i h = absurd (omega arith)
 drop-entry (e ∷ es) zero h = refl
 drop-entry (e ∷ es) (suc i) h = drop-entry es i (omega arith)
-
--- a part of a front
-inner : (m a k : ℕ) (b : List ℕ) → a + m ≤ k → take m (drop a (take k b)) ≡ take m (drop a b)
-inner m zero k b h = take-take m k b (omega arith)
-inner m (suc a) zero b h = absurd (omega arith)
-inner m (suc a) (suc k) [] h = refl
-inner m (suc a) (suc k) (x ∷ b) h = inner m a k b (omega arith)
 
 -- the trace of entry i, from its bytes
 trace-bytes : (n i : ℕ) (j : List ℕ) → i < length (entriesOf n j)
@@ -83,18 +88,11 @@ unfolding traceAt decode
 trace-bytes n i j h =
     let r = entries-room n i j h in
     ap (λ (e : Entry). e .trace .0) (entry-there n i j (r .1) (r .0))
-    ∙ ap (packedNumber 6) (inner 3 4 entrySize (drop (entrySize * i) j) (omega arith) ∙ ap (take 3) (drop-drop 4 (entrySize * i) j))
+    ∙ ap (packedNumber 6) (part-here 3 4 (entrySize * i) j (omega arith))
 
 pub trace-is : {t : ℕ} (n i : ℕ) (j : List ℕ) → i < length (entriesOf n j) → t ≡ packedNumber 6 (take 3 (drop (entrySize * i + 4) j))
     → t ≡ traceAt (entriesOf n j) i
 trace-is n i j h q = q ∙ sym (trace-bytes n i j h)
-
--- three bytes of a part
-pub three-bytes : (at : ℕ) (j : List ℕ) → at + 3 ≤ length j
-    → packedNumber (2 * length (take (at + 3 - at) (drop at j))) (take (at + 3 - at) (drop at j)) ≡ packedNumber 6 (take 3 (drop at j))
-three-bytes at j h =
-    let m : at + 3 - at ≡ 3 = omega arith in
-    rw (m, length-take-le 3 (drop at j) (rw length-drop (omega arith)))
 
 pub trace-below : (at : ℕ) (j : List ℕ) → packedNumber 6 (take 3 (drop at j)) < 1000000
 trace-below at j = number-below 6 (take 3 (drop at j))

@@ -3,7 +3,9 @@ use mathlib.Core.Path.{_≡_}
 use mathlib.Core.List.{List, [], _∷_}
 use mathlib.Core.Bool.{Bool, true, false, not, _&&_, _||_}
 use Prim.Native.Nat.{ℕ, _≤_, _<_}
-use lib.Dec.{ltb}
+use lib.Dec.{ltb, eqb}
+use lib.ListN.{length, getD}
+use Rattle.digits.specs.Lists.{all}
 use Rattle.entry.specs.declared.Entry.{Entry}
 use Rattle.journal.specs.Journal.{entryAt, absent, takenFrom}
 
@@ -24,6 +26,10 @@ rising f wrapped x (e ∷ es) =
 abbrev pub ordered : List Entry → Bool
 ordered [] = true
 ordered (e ∷ es) = rising (e .trace .0) false (e .trace .0) es
+
+-- none of the numbers is t
+unfoldable pub unseen : ℕ → List ℕ → Bool
+unseen t xs = all (length xs) (λ k. not (eqb (getD xs k 0) t))
 
 -- a search for the number x has come to y, with so many numbers left to leave behind; where it has left none behind, y is free
 pub record Pass (es : List Entry) (x left y rest : ℕ) : Type 0 where

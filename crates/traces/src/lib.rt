@@ -6,10 +6,14 @@ use numbers::Trace;
 ghost use mathlib.Core.Path.{_≡_};
 ghost use Prim.Native.Nat.{_+_, _*_, _≤_};
 ghost use lib.ListN.{length, take, drop};
+ghost use Rattle.numbers.specs.Limits.{mostEntries};
 ghost use Rattle.entry.specs.Entry.{entrySize};
 ghost use Rattle.digits.specs.Packed.{packedNumber};
 ghost use Rattle.journal.specs.Journal.{entriesOf, absent, distinct, takenFrom, taken};
-ghost use Rattle.traces.specs.Traces.{mayFollow, ordered, Pass};
+ghost use Rattle.traces.specs.Traces.{mayFollow, ordered, unseen, Pass};
+
+// The most entries whose traces are noted.
+const MOST: usize = numbers::MOST_ENTRIES as usize;
 
 // Where a pass has led: the number it has come to, and how many it may still leave behind.
 struct Passed {
@@ -23,6 +27,9 @@ pub fn are_distinct(journal: &[u8], n: u16) -> bool
 {
     if is_ordered(journal, n) {
         return true;
+    }
+    if n as usize <= MOST {
+        return are_few_apart(journal, n);
     }
     are_apart(journal, n)
 }
@@ -100,6 +107,39 @@ fn is_absent(journal: &[u8], n: u16, x: Trace) -> bool
         Found::At(_) => false,
         Found::Nowhere => true,
     }
+}
+
+// Whether none of the numbers is t; without an exit, so that the machine compares several at once.
+fn is_new(t: u32, seen: &[u32]) -> bool
+    ensures { λ r. ⌜ r ≡ unseen t (now (seen .entry)) ⌝ }
+{
+    let mut new = true;
+    let mut k = 0;
+    while k < seen.len() {
+        new = new & !(seen[k] == t);
+        k += 1;
+    }
+    new
+}
+
+// Whether no two of the entries, which are few enough to note their traces, have one trace.
+fn are_few_apart(journal: &[u8], n: u16) -> bool
+    requires { ⌜ n ≤ mostEntries ⌝ }
+    ensures { λ r. ⌜ r ≡ distinct (entriesOf n (now (journal .entry))) ⌝ }
+{
+    let count = count_of(journal, n);
+    let mut seen = [0u32; MOST];
+    let mut i: u16 = 0;
+    while i < count {
+        let t = trace_at(journal, i);
+        let k = i as usize;
+        if !is_new(t, &seen[..k]) {
+            return false;
+        }
+        seen[k] = t;
+        i += 1;
+    }
+    true
 }
 
 // Whether no entry has the trace of one after it, each compared with all that follow.

@@ -1,11 +1,10 @@
 -- `entry_of` meets its contract.
-use mathlib.Core.Path.{_≡_, refl, _∙_}
-use native.Mathlib.Omega.{arith}
+use mathlib.Core.Path.{_≡_}
 use denote.Ref.{now}
 use lib.ListN.{length}
 use borrow.Author.Needs.{needs}
 use Rattle.entry.specs.Entry.{entrySize}
-use Rattle.entry.proofs.Bytes.{part-number, part-copied, decode-is}
+use Rattle.entry.proofs.Bytes.{decode-copied}
 use Rattle.entry.proofs.entry_of.Statement.{statement}
 use Rattle.entry.proofs.entry_of.Tie as tie
 
@@ -130,10 +129,8 @@ returns c =
     let at-trace-in-ensures = c .before .before .before .before .before .before .before .trace-in .ensures in
     let s = now at-args-b in
     let l : length s ≡ entrySize = search needs in
-    decode-is s at-trace-in-ensures (c .before .packed-number .ensures ∙ part-number 7 6 s (omega arith))
-    (part-copied 14 10 s _ (omega arith) refl (at-copy-ensures .1)) (part-copied 24 2 s _ (omega arith) refl (at-copy2-ensures .1))
-    (part-copied 26 6 s _ (omega arith) refl (at-copy3-ensures .1)) (part-copied 32 12 s _ (omega arith) refl (at-copy4-ensures .1))
-    (part-copied 44 4 s _ (omega arith) refl (at-copy5-ensures .1))
+    decode-copied s l at-trace-in-ensures (c .before .packed-number .ensures) (at-copy-ensures .1) (at-copy2-ensures .1)
+    (at-copy3-ensures .1) (at-copy4-ensures .1) (at-copy5-ensures .1)
 
 pub entry-of-spec : {M : Type 1} → statement M
 entry-of-spec =

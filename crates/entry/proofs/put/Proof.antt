@@ -11,27 +11,22 @@ add-end c = search needs
 sub-copy : tie.Need-sub-copy
 sub-copy c = search needs
 
-part-copy-start : tie.Need-part-copy-start
-part-copy-start c = search needs
+part-out-start : tie.Need-part-out-start
+part-out-start c = search needs
 
-part-copy-end : tie.Need-part-copy-end
-part-copy-end c = search needs
+part-out-end : tie.Need-part-out-end
+part-out-end c = search needs
 
 copy-requires : tie.Need-copy-requires
 copy-requires c κs = search needs
 
-same-length : tie.Need-same-length
-same-length c = search needs
-
 returns : tie.Need-returns
 returns c =
-    let at-args-at = c .before .before .before .before .before .before .args .at in
-    let at-args-out = c .before .before .before .before .before .before .args .out in
-    let at-args-s = c .before .before .before .before .before .before .args .s in
-    let at-copy-ensures = c .before .before .copy .ensures in
-    put-is at-args-at (now at-args-s) (now at-args-out) (search needs) (at-copy-ensures .1)
+    let at-args-at = c .before .before .before .before .args .at in
+    let at-args-b = c .before .before .before .before .args .b in
+    let at-args-s = c .before .before .before .before .args .s in
+    let at-copy-ensures = c .before .copy .ensures in
+    put-is at-args-at (now at-args-s) at-args-b (search needs) (at-copy-ensures .1)
 
 pub put-spec : {M : Type 1} → statement M
-put-spec =
-    tie.close
-    (tie.spec add-end sub-copy part-copy-start part-copy-end copy-requires same-length returns)
+put-spec = tie.close (tie.spec add-end sub-copy part-out-start part-out-end copy-requires returns)

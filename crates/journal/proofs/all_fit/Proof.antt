@@ -26,8 +26,8 @@ returns c =
     let at-loop = c .before .before .loop in
     testing-short (at-loop .inv) (c .if1 .taken)
 
-load-requires : tie.Need-load-requires Inv-loop μ-loop
-load-requires c κs = omega arith
+bytes-at-requires : tie.Need-bytes-at-requires Inv-loop μ-loop
+bytes-at-requires c κs = omega arith
 
 is-at-requires : tie.Need-is-at-requires Inv-loop μ-loop
 is-at-requires c κs = search needs
@@ -37,11 +37,11 @@ fits-requires c κs = search needs
 
 returns-2 : tie.Need-returns-2 Inv-loop μ-loop
 returns-2 c =
-    let at-loop-inv = c .before .before .before .before .before .before .loop .inv in
-    let at-loop-test-taken = c .before .before .before .before .before .loop-test .taken in
-    let at-load-ensures = c .before .before .before .load .ensures in
+    let at-loop-inv = c .before .before .before .before .before .before .before .loop .inv in
+    let at-loop-test-taken = c .before .before .before .before .before .before .loop-test .taken in
+    let at-bytes-at-ensures = c .before .before .before .before .bytes-at .ensures in
     let at-is-at-ensures = c .before .before .is-at .ensures in
-    let e = rw (at-load-ensures, at-is-at-ensures) at (c .before .fits2 .ensures) in
+    let e = rw (at-bytes-at-ensures, at-is-at-ensures) at (c .before .fits2 .ensures) in
     testing-fails at-loop-inv at-loop-test-taken (omega arith) (sym e ∙ not-true _ (c .if2 .taken))
 
 add-at : tie.Need-add-at Inv-loop μ-loop
@@ -55,11 +55,11 @@ loop-less c = search needs
 
 loop-again : tie.Need-loop-again Inv-loop μ-loop
 loop-again c =
-    let at-loop-inv = c .before .before .before .before .before .before .loop .inv in
-    let at-loop-test-taken = c .before .before .before .before .before .loop-test .taken in
-    let at-load-ensures = c .before .before .before .load .ensures in
+    let at-loop-inv = c .before .before .before .before .before .before .before .loop .inv in
+    let at-loop-test-taken = c .before .before .before .before .before .before .loop-test .taken in
+    let at-bytes-at-ensures = c .before .before .before .before .bytes-at .ensures in
     let at-is-at-ensures = c .before .before .is-at .ensures in
-    let e = rw (at-load-ensures, at-is-at-ensures) at (c .before .fits2 .ensures) in
+    let e = rw (at-bytes-at-ensures, at-is-at-ensures) at (c .before .fits2 .ensures) in
     testing-more at-loop-inv at-loop-test-taken (omega arith) (sym e ∙ not-false _ (c .if2 .left))
 
 returns-3 : tie.Need-returns-3 Inv-loop μ-loop
@@ -74,7 +74,7 @@ all-fit-spec =
     loop-holds
     sub-if1
     returns
-    load-requires
+    bytes-at-requires
     is-at-requires
     fits-requires
     returns-2

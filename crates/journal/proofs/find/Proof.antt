@@ -25,19 +25,14 @@ returns c =
     let at-loop = c .before .before .loop in
     seeking-short (at-loop .inv) (c .if1 .taken)
 
-load-requires : tie.Need-load-requires Inv-loop μ-loop
-load-requires c κs = omega arith
-
 is-asked-requires : tie.Need-is-asked-requires Inv-loop μ-loop
-is-asked-requires c κs = search needs
+is-asked-requires c κs = omega arith
 
 returns-2 : tie.Need-returns-2 Inv-loop μ-loop
 returns-2 c =
-    let at-loop-inv = c .before .before .before .before .before .loop .inv in
-    let at-loop-test-taken = c .before .before .before .before .loop-test .taken in
-    let at-load-ensures = c .before .before .load .ensures in
-    let e = rw at-load-ensures at (c .before .is-asked .ensures) in
-    seeking-here at-loop-inv at-loop-test-taken (omega arith) (sym e ∙ c .if2 .taken)
+    let at-loop-inv = c .before .before .before .before .loop .inv in
+    let at-loop-test-taken = c .before .before .before .loop-test .taken in
+    seeking-here at-loop-inv at-loop-test-taken (omega arith) (sym (c .before .is-asked .ensures) ∙ c .if2 .taken)
 
 add-at : tie.Need-add-at Inv-loop μ-loop
 add-at c = search needs
@@ -50,11 +45,9 @@ loop-less c = search needs
 
 loop-again : tie.Need-loop-again Inv-loop μ-loop
 loop-again c =
-    let at-loop-inv = c .before .before .before .before .before .loop .inv in
-    let at-loop-test-taken = c .before .before .before .before .loop-test .taken in
-    let at-load-ensures = c .before .before .load .ensures in
-    let e = rw at-load-ensures at (c .before .is-asked .ensures) in
-    seeking-more at-loop-inv at-loop-test-taken (omega arith) (sym e ∙ c .if2 .left)
+    let at-loop-inv = c .before .before .before .before .loop .inv in
+    let at-loop-test-taken = c .before .before .before .loop-test .taken in
+    seeking-more at-loop-inv at-loop-test-taken (omega arith) (sym (c .before .is-asked .ensures) ∙ c .if2 .left)
 
 returns-3 : tie.Need-returns-3 Inv-loop μ-loop
 returns-3 c = seeking-done (c .before .loop .inv) (c .loop-test .left)
@@ -68,7 +61,6 @@ find-spec =
     loop-holds
     sub-if1
     returns
-    load-requires
     is-asked-requires
     returns-2
     add-at

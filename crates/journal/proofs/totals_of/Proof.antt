@@ -23,13 +23,10 @@ returns c =
     let at-loop = c .before .before .loop in
     summing-short (at-loop .inv) (c .if1 .taken)
 
-load-requires : tie.Need-load-requires Inv-loop μ-loop
-load-requires c κs = omega arith
-
 plus-requires : tie.Need-plus-requires Inv-loop μ-loop
 plus-requires c κs =
-    let at-loop-inv = c .before .before .before .loop .inv in
-    rw (c .load .ensures) (summing-room at-loop-inv (omega arith))
+    let at-loop-inv = c .before .before .loop .inv in
+    (omega arith, summing-room at-loop-inv (omega arith))
 
 add-at : tie.Need-add-at Inv-loop μ-loop
 add-at c = search needs
@@ -42,9 +39,9 @@ loop-less c = search needs
 
 loop-again : tie.Need-loop-again Inv-loop μ-loop
 loop-again c =
-    let at-loop-inv = c .before .before .before .before .loop .inv in
-    let at-loop-test-taken = c .before .before .before .loop-test .taken in
-    rw (c .plus .ensures, c .before .load .ensures) (summing-more at-loop-inv at-loop-test-taken (omega arith))
+    let at-loop-inv = c .before .before .before .loop .inv in
+    let at-loop-test-taken = c .before .before .loop-test .taken in
+    rw (c .plus .ensures) (summing-more at-loop-inv at-loop-test-taken (omega arith))
 
 returns-2 : tie.Need-returns-2 Inv-loop μ-loop
 returns-2 c = summing-done (c .before .loop .inv) (c .loop-test .left)
@@ -58,7 +55,6 @@ totals-of-spec =
     loop-holds
     sub-if1
     returns
-    load-requires
     plus-requires
     add-at
     add-i

@@ -5,7 +5,8 @@ use native.Mathlib.Omega.{arith}
 use Prim.Native.Nat.{_+_, _*_}
 use denote.Ref.{now}
 use Rattle.entry.specs.Entry.{entrySize}
-use Rattle.traces.proofs.Entries.{three-bytes, trace-below}
+use Rattle.journal.proofs.Here.{slice-number}
+use Rattle.traces.proofs.Entries.{trace-below}
 use Rattle.traces.proofs.trace_at.Statement.{statement}
 use Rattle.traces.proofs.trace_at.Tie as tie
 
@@ -36,7 +37,7 @@ cast-result c =
     let at-args-journal = c .before .before .before .args .journal in
     let at = entrySize * at-args-i + 4 in
     let j = now at-args-journal in
-    omega (arith, c .packed-number .ensures, three-bytes at j (search needs), trace-below at j)
+    omega (arith, c .packed-number .ensures, slice-number at 3 j (search needs), trace-below at j)
 
 returns : tie.Need-returns
 returns c =
@@ -44,7 +45,7 @@ returns c =
     let at-args-journal = c .before .before .before .args .journal in
     let at = entrySize * at-args-i + 4 in
     let j = now at-args-journal in
-    c .packed-number .ensures ∙ three-bytes at j (search needs)
+    c .packed-number .ensures ∙ slice-number at 3 j (search needs)
 
 pub trace-at-spec : {M : Type 1} → statement M
 trace-at-spec =
