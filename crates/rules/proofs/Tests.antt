@@ -2,66 +2,23 @@
 use mathlib.Core.Path.{_≡_, refl, sym, ap, _∙_}
 use mathlib.Core.List.{List, [], _∷_}
 use mathlib.Core.Bool.{Bool, true, false, not, _&&_, true≢false}
-use Prim.Native.Nat.{ℕ, zero, suc, _+_, _-_, _*_, _^_, _≤_, _<_}
-use native.Mathlib.Omega.{arith}
-use lib.Dec.{leb, ltb, eqb}
-use lib.ListN.{length, getD}
-use borrow.Author.Tests.{lt-ltb, le-ltb, le-leb, lt-leb, ltb-true, ltb-false}
-use Rattle.numbers.specs.Limits.{largestTotal}
-use Rattle.numbers.specs.Numbers.{within}
+use Prim.Native.Nat.{ℕ, suc, _-_, _*_, _≤_, _<_}
+use lib.Dec.{ltb}
+use lib.ListN.{length}
+use borrow.Author.Tests.{lt-ltb, le-ltb}
 use Rattle.message.specs.Message.{largest}
 use Rattle.entry.specs.Entry.{entrySize}
-use Rattle.entry.specs.Form.{inForm, keepsVoided, keepsUnmarked, keepsResends, keepsSilent, fits}
+use Rattle.entry.specs.Form.{inForm, dueEntry, keepsVoided, keepsUnmarked, keepsResends, keepsSilent, fits}
 use Rattle.entry.specs.declared.Entry.{Entry}
 use Rattle.journal.specs.Journal.{entriesOf, every, firstOf, hasTrace, isAt, fitsAt, totalsOf, absent, distinct, nowhere}
 use Rattle.journal.specs.declared.Found.{Found}
 use Rattle.journal.specs.declared.Found.the-variants.{At, Nowhere}
 use Rattle.journal.proofs.Traces.{absent-first, first-absent}
-use Rattle.state.specs.declared.Card.{Card}
 use Rattle.state.specs.declared.Request.{Request}
 use Rattle.state.specs.declared.State.{State}
 use Rattle.checks.specs.Checks.{firstBroken}
-use Rattle.rules.specs.Rules.{stateKept, journalKept, settingsInForm, isCard, stateInForm, inUpload, awaitedItem, exceeds, sumsKept, waiting, balanced, past, originalUnvoided, requestKept, phaseKept, tooShort, keepsRule2, rules12}
-
--- a card of too few or too many digits
-pub few-digits : (c : Card) → c .length < 13 → false ≡ isCard c
-unfolding isCard within
-few-digits c h = rw (lt-leb 13 (c .length) h)
-
-pub many-digits : (c : Card) → 19 < c .length → false ≡ isCard c
-unfolding isCard within
-many-digits c h = rw (le-leb 13 (c .length) (omega arith), lt-leb (c .length) 19 h)
-
--- the powers of ten from 10^13 to 10^19
-abbrev pub powers : List ℕ
-powers = 10000000000000 ∷ 100000000000000 ∷ 1000000000000000 ∷ 10000000000000000 ∷ 100000000000000000 ∷ 1000000000000000000 ∷ 10000000000000000000 ∷ []
-
-power-at : (k : ℕ) → k < 7 → getD powers k 0 ≡ 10 ^ (13 + k)
-power-at zero h = refl
-power-at (suc zero) h = refl
-power-at (suc (suc zero)) h = refl
-power-at (suc (suc (suc zero))) h = refl
-power-at (suc (suc (suc (suc zero)))) h = refl
-power-at (suc (suc (suc (suc (suc zero))))) h = refl
-power-at (suc (suc (suc (suc (suc (suc zero)))))) h = refl
-power-at (suc (suc (suc (suc (suc (suc (suc k))))))) h = absurd (omega arith)
-
-pub right-digits : (c : Card) → 13 ≤ c .length → c .length ≤ 19 → ltb (c .number) (getD powers (c .length - 13) 0) ≡ isCard c
-unfolding isCard within
-right-digits c a b =
-    let e : 13 + (c .length - 13) ≡ c .length = omega arith in
-    rw (le-leb 13 (c .length) a, le-leb (c .length) 19 b, power-at (c .length - 13) (omega arith), e)
-
--- a total past 999,999,999,999, without a sum that might not fit
-pub exceeds-alone : (total amount : ℕ) → largestTotal < amount → true ≡ exceeds total amount
-exceeds-alone total amount h = rw (lt-ltb largestTotal (total + amount) (omega arith))
-
-pub exceeds-both : (total amount : ℕ) → amount ≤ largestTotal → ltb (largestTotal - amount) total ≡ exceeds total amount
-exceeds-both total amount h = go (ltb (largestTotal - amount) total) refl
-  where
-    go : (b : Bool) → ltb (largestTotal - amount) total ≡ b → b ≡ exceeds total amount
-    go true e = let l = ltb-true (largestTotal - amount) total e in rw (lt-ltb largestTotal (total + amount) (omega arith))
-    go false e = let l = ltb-false (largestTotal - amount) total e in rw (le-ltb largestTotal (total + amount) (omega arith))
+use Rattle.rules.specs.Rules.{journalKept, inUpload, due, awaitedItem, originalUnvoided, requestKept, phaseKept, tooShort, keepsRule2, rules12}
+use Rattle.state_rules.specs.StateRules.{stateKept, sumsKept, past}
 
 -- a search that finds nothing
 pub nowhere-absent : (x : ℕ) (es : List Entry) → nowhere (firstOf (hasTrace x) 0 es) ≡ absent x es
@@ -87,14 +44,14 @@ every-both p q i (e ∷ es) = rw (every-both p q (suc i) es) (cross (p i e) (q i
 
 pub every-fits : (l : ℕ) (up : Bool) (item : Found) (es : List Entry)
     → every (fitsAt l up item) 0 es
-    ≡ (every (λ i e. inForm e) 0 es && every (λ i e. keepsVoided e) 0 es && every (λ i e. keepsUnmarked up e) 0 es
+    ≡ (every (λ i e. inForm e) 0 es && every (λ i e. keepsVoided e) 0 es && every (λ i e. keepsUnmarked dueEntry up e) 0 es
     && every (λ i e. keepsResends l e) 0 es && every (λ i e. keepsSilent l (isAt item i) e) 0 es)
 unfolding fits
 every-fits l up item es =
     rw (
-      every-both (λ i e. inForm e && keepsVoided e && keepsUnmarked up e && keepsResends l e) (λ i e. keepsSilent l (isAt item i) e) 0 es,
-      every-both (λ i e. inForm e && keepsVoided e && keepsUnmarked up e) (λ i e. keepsResends l e) 0 es,
-      every-both (λ i e. inForm e && keepsVoided e) (λ i e. keepsUnmarked up e) 0 es,
+      every-both (λ i e. inForm e && keepsVoided e && keepsUnmarked dueEntry up e && keepsResends l e) (λ i e. keepsSilent l (isAt item i) e) 0 es,
+      every-both (λ i e. inForm e && keepsVoided e && keepsUnmarked dueEntry up e) (λ i e. keepsResends l e) 0 es,
+      every-both (λ i e. inForm e && keepsVoided e) (λ i e. keepsUnmarked dueEntry up e) 0 es,
       every-both (λ i e. inForm e) (λ i e. keepsVoided e) 0 es,
     )
 
@@ -118,26 +75,12 @@ joined true true true true true true false = refl
 joined true true true true true true true = refl
 
 pub journal-kept-is : (l : ℕ) (uploading : Bool) (item : Found) (es : List Entry)
-    → (every (fitsAt l uploading item) 0 es && distinct es && sumsKept (totalsOf es)) ≡ journalKept l uploading item es
+    → (every (fitsAt l uploading item) 0 es && distinct es && sumsKept (totalsOf es)) ≡ journalKept l dueEntry uploading item es
 unfolding journalKept
 journal-kept-is l uploading item es =
     rw (every-fits l uploading item es)
-    (joined (every (λ i e. inForm e) 0 es) (every (λ i e. keepsVoided e) 0 es) (every (λ i e. keepsUnmarked uploading e) 0 es)
+    (joined (every (λ i e. inForm e) 0 es) (every (λ i e. keepsVoided e) 0 es) (every (λ i e. keepsUnmarked dueEntry uploading e) 0 es)
     (every (λ i e. keepsResends l e) 0 es) (every (λ i e. keepsSilent l (isAt item i) e) 0 es) (distinct es) (sumsKept (totalsOf es)))
-
--- the tests of the state
-pub state-kept-is : (s : State) {a b c d : Bool} → a ≡ settingsInForm (s .settings) → b ≡ stateInForm s
-    → c ≡ leb (s .entries) (s .settings .limit) → d ≡ balanced (s .counts) (waiting (s .phase)) (s .entries)
-    → (a && b && c && d) ≡ stateKept s
-unfolding stateKept
-state-kept-is s {a} {b} {c} {d} p q r t = rw (← p, ← q, ← r, ← t) (go a b c d)
-  where
-    go : (a b c d : Bool) → (a && b && c && d) ≡ (a && (b && (c && (d && true))))
-    go false b c d = refl
-    go true false c d = refl
-    go true true false d = refl
-    go true true true false = refl
-    go true true true true = refl
 
 -- where settings and state break a rule, rule 2 is broken; else it goes by journal and phase
 pub state-broken : (s : State) (es : List Entry) (b : Bool) → b ≡ stateKept s → not b ≡ true → false ≡ keepsRule2 s es
@@ -146,7 +89,7 @@ state-broken s es true e h = absurd (true≢false (sym h))
 state-broken s es false e h = rw (← e)
 
 pub state-right : (s : State) (es : List Entry) (b : Bool) {x y : Bool} → b ≡ stateKept s → not b ≡ false
-    → x ≡ journalKept (s .settings .sendings) (inUpload (s .phase)) (awaitedItem (s .phase)) es
+    → x ≡ journalKept (s .settings .sendings) (due (s .phase)) (inUpload (s .phase)) (awaitedItem (s .phase)) es
     → y ≡ phaseKept (s .settings) (s .entries) es (s .phase) → (x && y) ≡ keepsRule2 s es
 unfolding keepsRule2
 state-right s es false e h p q = absurd (true≢false h)

@@ -1,6 +1,7 @@
 -- Document 01, "State and journal": the state, and how a call changes it.
 use mathlib.Core.Bool.{Bool, true, false}
-use Prim.Native.Nat.{ℕ, _+_}
+use Prim.Native.Nat.{ℕ, _+_, _≤_}
+use Rattle.numbers.specs.Limits.{mostRequests, mostEntries}
 use Rattle.numbers.specs.Numbers.{following}
 use Rattle.numbers.specs.declared.Trace.{Trace}
 use Rattle.numbers.specs.declared.Batch.{Batch}
@@ -28,6 +29,15 @@ plus Declined c = countsOf (c .sent) (c .approved) (c .declined + 1) (c .reverse
 plus Reversed c = countsOf (c .sent) (c .approved) (c .declined) (c .reversed + 1) (c .«given_up») (c .unanswered)
 plus GivenUp c = countsOf (c .sent) (c .approved) (c .declined) (c .reversed) (c .«given_up» + 1) (c .unanswered)
 plus Unanswered c = countsOf (c .sent) (c .approved) (c .declined) (c .reversed) (c .«given_up») (c .unanswered + 1)
+
+-- there is room for one more of each count
+pub record CountsSmall (c : Counts) : Type 0 where
+  pub sent : c .sent ≤ mostRequests
+  pub approved : c .approved ≤ mostRequests
+  pub declined : c .declined ≤ mostRequests
+  pub reversed : c .reversed ≤ mostRequests
+  pub given-up : c .«given_up» ≤ mostRequests
+  pub unanswered : c .unanswered ≤ mostRequests
 
 -- a state from its members
 abbrev stateOf : Settings → Bool → Batch → Trace → ℕ → Counts → Phase → State
@@ -70,6 +80,11 @@ abbrev pub closed : State → State
 closed s =
     inPhase Resting
       (withCounts noCounts (withEntries 0 (inBatch (record { 0 = following (s .batch .0) }) (signed false s))))
+
+-- there is room for one more entry and for one more of each count
+pub record CountsBounded (s : State) : Type 0 where
+  pub entries : s .entries ≤ mostEntries
+  pub counts : CountsSmall (s .counts)
 
 -- something is awaited
 abbrev pub waits : Phase → Bool

@@ -2,7 +2,9 @@
 use numbers::Batch;
 use numbers::Trace;
 ghost use mathlib.Core.Path.{_≡_};
-ghost use Rattle.state.specs.State.{noCounts, fresh, inPhase, withCounts, withEntries, withNext, inBatch, signed, took, closed, isResting, isWaiting, isPending, isClosing, isUploading};
+ghost use Prim.Native.Nat.{_+_, _≤_};
+ghost use Rattle.numbers.specs.Limits.{mostRequests};
+ghost use Rattle.state.specs.State.{noCounts, CountsSmall, plus, fresh, inPhase, withCounts, withEntries, withNext, inBatch, signed, took, closed, isResting, isWaiting, isPending, isClosing, isUploading};
 
 // A card number keyed at the desk: its digits as a number, and how many they are.
 pub struct Card {
@@ -119,6 +121,33 @@ impl Counts {
             given_up: 0,
             unanswered: 0,
         }
+    }
+
+    // One card request more, where there is room for it.
+    pub fn plus(mut self, count: Count) -> Self
+        ensures { λ r. ⌜ (CountsSmall self → r ≡ plus count self) ⌝ }
+    {
+        match count {
+            Count::Sent => {
+                self.sent = one_more(self.sent);
+            }
+            Count::Approved => {
+                self.approved = one_more(self.approved);
+            }
+            Count::Declined => {
+                self.declined = one_more(self.declined);
+            }
+            Count::Reversed => {
+                self.reversed = one_more(self.reversed);
+            }
+            Count::GivenUp => {
+                self.given_up = one_more(self.given_up);
+            }
+            Count::Unanswered => {
+                self.unanswered = one_more(self.unanswered);
+            }
+        }
+        self
     }
 }
 
@@ -312,4 +341,11 @@ impl Called {
             state: state,
         }
     }
+}
+
+// One more, where there is room for it.
+fn one_more(n: u32) -> u32
+    ensures { λ r. ⌜ (n ≤ mostRequests → r ≡ n + 1) ⌝ }
+{
+    std::num::wrapping_add_u32(n, 1)
 }

@@ -27,7 +27,12 @@ in-phase-requires c κs = search needs
 returns : tie.Need-returns
 returns c =
     rw (
-      c .in-phase .ensures, c .before .with-counts .ensures, c .before .before .new .ensures, c .before .before .before .with-entries .ensures, c .before .before .before .before .in-batch .ensures, c .before .before .before .before .before .signed .ensures,
+      c .in-phase .ensures,
+      c .before .with-counts .ensures,
+      c .before .before .new .ensures,
+      c .before .before .before .with-entries .ensures,
+      c .before .before .before .before .in-batch .ensures,
+      c .before .before .before .before .before .signed .ensures,
       c .before .before .before .before .before .before .following .ensures,
     )
 

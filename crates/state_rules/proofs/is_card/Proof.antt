@@ -1,9 +1,9 @@
--- `rules::is_card` meets its contract.
+-- `state_rules::is_card` meets its contract.
 use borrow.Author.Needs.{needs}
 use native.Mathlib.Omega.{arith}
-use Rattle.rules.proofs.Tests.{few-digits, many-digits, right-digits}
-use Rattle.rules.proofs.is_card.Statement.{statement}
-use Rattle.rules.proofs.is_card.Tie as tie
+use Rattle.state_rules.proofs.Tests.{few-digits, many-digits, right-digits}
+use Rattle.state_rules.proofs.is_card.Statement.{statement}
+use Rattle.state_rules.proofs.is_card.Tie as tie
 
 returns : tie.Need-returns
 returns c = few-digits (c .before .args .card) (c .if1 .taken)

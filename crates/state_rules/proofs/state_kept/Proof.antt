@@ -1,9 +1,9 @@
--- `rules::state_kept` meets its contract.
+-- `state_rules::state_kept` meets its contract.
 use mathlib.Core.Path.{_≡_, refl, sym, ap, _∙_}
 use borrow.Author.Needs.{needs}
-use Rattle.rules.proofs.Tests.{state-kept-is}
-use Rattle.rules.proofs.state_kept.Statement.{statement}
-use Rattle.rules.proofs.state_kept.Tie as tie
+use Rattle.state_rules.proofs.Tests.{state-kept-is}
+use Rattle.state_rules.proofs.state_kept.Statement.{statement}
+use Rattle.state_rules.proofs.state_kept.Tie as tie
 
 settings-in-form-requires : tie.Need-settings-in-form-requires
 settings-in-form-requires c κs = search needs

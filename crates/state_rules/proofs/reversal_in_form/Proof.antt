@@ -1,8 +1,8 @@
--- `rules::reversal_in_form` meets its contract.
+-- `state_rules::reversal_in_form` meets its contract.
 use borrow.Author.Needs.{needs}
-use Rattle.rules.specs.Rules.{reversalInForm}
-use Rattle.rules.proofs.reversal_in_form.Statement.{statement}
-use Rattle.rules.proofs.reversal_in_form.Tie as tie
+use Rattle.state_rules.specs.StateRules.{reversalInForm}
+use Rattle.state_rules.proofs.reversal_in_form.Statement.{statement}
+use Rattle.state_rules.proofs.reversal_in_form.Tie as tie
 
 request-in-form-requires : tie.Need-request-in-form-requires
 request-in-form-requires c κs = search needs

@@ -1,8 +1,8 @@
--- `rules::exceeds` meets its contract.
+-- `state_rules::exceeds` meets its contract.
 use native.Mathlib.Omega.{arith}
-use Rattle.rules.proofs.Tests.{exceeds-alone, exceeds-both}
-use Rattle.rules.proofs.exceeds.Statement.{statement}
-use Rattle.rules.proofs.exceeds.Tie as tie
+use Rattle.state_rules.proofs.Tests.{exceeds-alone, exceeds-both}
+use Rattle.state_rules.proofs.exceeds.Statement.{statement}
+use Rattle.state_rules.proofs.exceeds.Tie as tie
 
 returns : tie.Need-returns
 returns c = exceeds-alone (c .before .args .total) (c .before .args .amount) (c .if1 .taken)

@@ -1,8 +1,8 @@
--- `rules::request_in_form` meets its contract.
+-- `state_rules::request_in_form` meets its contract.
 use borrow.Author.Needs.{needs}
-use Rattle.rules.specs.Rules.{requestInForm}
-use Rattle.rules.proofs.request_in_form.Statement.{statement}
-use Rattle.rules.proofs.request_in_form.Tie as tie
+use Rattle.state_rules.specs.StateRules.{requestInForm}
+use Rattle.state_rules.proofs.request_in_form.Statement.{statement}
+use Rattle.state_rules.proofs.request_in_form.Tie as tie
 
 is-kind-requires : tie.Need-is-kind-requires
 is-kind-requires c κs = search needs

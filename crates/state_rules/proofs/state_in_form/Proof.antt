@@ -1,8 +1,8 @@
--- `rules::state_in_form` meets its contract.
+-- `state_rules::state_in_form` meets its contract.
 use borrow.Author.Needs.{needs}
-use Rattle.rules.specs.Rules.{stateInForm}
-use Rattle.rules.proofs.state_in_form.Statement.{statement}
-use Rattle.rules.proofs.state_in_form.Tie as tie
+use Rattle.state_rules.specs.StateRules.{stateInForm}
+use Rattle.state_rules.proofs.state_in_form.Statement.{statement}
+use Rattle.state_rules.proofs.state_in_form.Tie as tie
 
 is-number-requires : tie.Need-is-number-requires
 is-number-requires c κs = search needs

@@ -1,9 +1,9 @@
--- `rules::is_balanced` meets its contract.
+-- `state_rules::is_balanced` meets its contract.
 use mathlib.Core.Path.{refl}
 use borrow.Author.Needs.{needs}
-use Rattle.rules.specs.Rules.{balanced}
-use Rattle.rules.proofs.is_balanced.Statement.{statement}
-use Rattle.rules.proofs.is_balanced.Tie as tie
+use Rattle.state_rules.specs.StateRules.{balanced}
+use Rattle.state_rules.proofs.is_balanced.Statement.{statement}
+use Rattle.state_rules.proofs.is_balanced.Tie as tie
 
 cast-decided : tie.Need-cast-decided
 cast-decided c = search needs

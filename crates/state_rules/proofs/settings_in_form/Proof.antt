@@ -1,9 +1,9 @@
--- `rules::settings_in_form` meets its contract.
+-- `state_rules::settings_in_form` meets its contract.
 use borrow.Author.Needs.{needs}
 use Rattle.numbers.specs.Numbers.{within}
-use Rattle.rules.specs.Rules.{settingsInForm}
-use Rattle.rules.proofs.settings_in_form.Statement.{statement}
-use Rattle.rules.proofs.settings_in_form.Tie as tie
+use Rattle.state_rules.specs.StateRules.{settingsInForm}
+use Rattle.state_rules.proofs.settings_in_form.Statement.{statement}
+use Rattle.state_rules.proofs.settings_in_form.Tie as tie
 
 is-within-requires : tie.Need-is-within-requires
 is-within-requires c κs = search needs

@@ -1,7 +1,7 @@
--- `rules::awaited_in_form` meets its contract.
+-- `state_rules::awaited_in_form` meets its contract.
 use borrow.Author.Needs.{needs}
-use Rattle.rules.proofs.awaited_in_form.Statement.{statement}
-use Rattle.rules.proofs.awaited_in_form.Tie as tie
+use Rattle.state_rules.proofs.awaited_in_form.Statement.{statement}
+use Rattle.state_rules.proofs.awaited_in_form.Tie as tie
 
 enum-known-a : tie.Need-enum-known-a
 enum-known-a c = search needs

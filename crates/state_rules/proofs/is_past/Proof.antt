@@ -1,8 +1,8 @@
--- `rules::is_past` meets its contract.
+-- `state_rules::is_past` meets its contract.
 use borrow.Author.Needs.{needs}
-use Rattle.rules.specs.Rules.{exceeds, past}
-use Rattle.rules.proofs.is_past.Statement.{statement}
-use Rattle.rules.proofs.is_past.Tie as tie
+use Rattle.state_rules.specs.StateRules.{exceeds, past}
+use Rattle.state_rules.proofs.is_past.Statement.{statement}
+use Rattle.state_rules.proofs.is_past.Tie as tie
 
 side-of-requires : tie.Need-side-of-requires
 side-of-requires c κs = search needs

@@ -1,7 +1,7 @@
--- `rules::phase_in_form` meets its contract.
+-- `state_rules::phase_in_form` meets its contract.
 use borrow.Author.Needs.{needs}
-use Rattle.rules.proofs.phase_in_form.Statement.{statement}
-use Rattle.rules.proofs.phase_in_form.Tie as tie
+use Rattle.state_rules.proofs.phase_in_form.Statement.{statement}
+use Rattle.state_rules.proofs.phase_in_form.Tie as tie
 
 enum-told : tie.Need-enum-told
 enum-told c = search needs

@@ -1,0 +1,167 @@
+-- What follows from rule 2 for settings and state.
+use mathlib.Core.Path.{_≡_}
+use mathlib.Core.List.{List, [], _∷_}
+use mathlib.Core.Bool.{Bool, true, cond, not, _&&_, and-eq-true-iff}
+use Prim.Native.Nat.{_+_, _^_, _≤_, _<_}
+use native.Mathlib.Omega.{arith}
+use lib.Dec.{leb, ltb, eqb}
+use lib.ListN.{length}
+use borrow.Author.Tests.{leb-true, ltb-true, eqb-true}
+use Rattle.numbers.specs.Limits.{largestAmount, lastNumber, mostRequests, mostEntries, mostSendings}
+use Rattle.numbers.specs.Numbers.{within}
+use Rattle.numbers.proofs.Bounds.{within-bounds}
+use Rattle.field.specs.Contents.{allPrintable}
+use Rattle.kinds.specs.Kinds.{isKind, takesOriginal, isNeverReversed}
+use Rattle.state.specs.declared.Card.{Card}
+use Rattle.state.specs.declared.Request.{Request}
+use Rattle.state.specs.declared.Reversal.{Reversal}
+use Rattle.state.specs.declared.Settings.{Settings}
+use Rattle.state.specs.declared.State.{State}
+use Rattle.state.specs.State.{CountsBounded}
+use Rattle.state_rules.specs.StateRules.{settingsInForm, isCard, requestInForm, reversalInForm, phaseInForm, stateInForm, waiting, balanced, allOf, stateClauses, stateKept}
+
+-- settings in their ranges
+pub record SettingsHold (x : Settings) : Type 0 where
+  pub limit-least : 1 ≤ x .limit
+  pub limit-most : x .limit ≤ mostEntries
+  pub sendings-least : 1 ≤ x .sendings
+  pub sendings-most : x .sendings ≤ mostSendings
+  pub refund-least : 1 ≤ x .refund
+  pub refund-most : x .refund ≤ largestAmount
+  pub terminal-printable : allPrintable (x .terminal) ≡ true
+  pub merchant-printable : allPrintable (x .merchant) ≡ true
+
+pub settings-hold : (x : Settings) → settingsInForm x ≡ true → SettingsHold x
+unfolding settingsInForm
+settings-hold x e =
+    let a = and-eq-true-iff (within 1 (x .limit) mostEntries && within 1 (x .sendings) mostSendings && within 1 (x .refund) largestAmount && allPrintable (x .terminal)) (allPrintable (x .merchant)) .0 e in
+    let b = and-eq-true-iff (within 1 (x .limit) mostEntries && within 1 (x .sendings) mostSendings && within 1 (x .refund) largestAmount) (allPrintable (x .terminal)) .0 (a .0) in
+    let d = and-eq-true-iff (within 1 (x .limit) mostEntries && within 1 (x .sendings) mostSendings) (within 1 (x .refund) largestAmount) .0 (b .0) in
+    let f = and-eq-true-iff (within 1 (x .limit) mostEntries) (within 1 (x .sendings) mostSendings) .0 (d .0) in
+    let l = within-bounds 1 (x .limit) mostEntries (f .0) in
+    let n = within-bounds 1 (x .sendings) mostSendings (f .1) in
+    let r = within-bounds 1 (x .refund) largestAmount (d .1) in
+    record {
+      limit-least = l .0;
+      limit-most = l .1;
+      sendings-least = n .0;
+      sendings-most = n .1;
+      refund-least = r .0;
+      refund-most = r .1;
+      terminal-printable = b .1;
+      merchant-printable = a .1;
+    }
+
+-- a request's values in their ranges
+pub record RequestHolds (q : Request) : Type 0 where
+  pub kind-listed : isKind (q .kind) ≡ true
+  pub amount-least : 1 ≤ q .amount
+  pub amount-most : q .amount ≤ largestAmount
+  pub card-least : 13 ≤ q .card .length
+  pub card-most : q .card .length ≤ 19
+  pub card-below : q .card .number < 10 ^ q .card .length
+  pub trace-least : 1 ≤ q .trace .0
+  pub trace-most : q .trace .0 ≤ lastNumber
+  pub original-form : cond (takesOriginal (q .kind)) (within 1 (q .original .0) lastNumber) (eqb (q .original .0) 0) ≡ true
+
+pub record CardHolds (c : Card) : Type 0 where
+  pub least : 13 ≤ c .length
+  pub most : c .length ≤ 19
+  pub below : c .number < 10 ^ c .length
+
+pub card-holds : (c : Card) → isCard c ≡ true → CardHolds c
+unfolding isCard
+card-holds c e =
+    let a = and-eq-true-iff (within 13 (c .length) 19) (ltb (c .number) (10 ^ c .length)) .0 e in
+    let l = within-bounds 13 (c .length) 19 (a .0) in
+    record { least = l .0; most = l .1; below = ltb-true (c .number) (10 ^ c .length) (a .1) }
+
+pub request-holds : (q : Request) → requestInForm q ≡ true → RequestHolds q
+unfolding requestInForm
+request-holds q e =
+    let last = cond (takesOriginal (q .kind)) (within 1 (q .original .0) lastNumber) (eqb (q .original .0) 0) in
+    let a = and-eq-true-iff (isKind (q .kind) && within 1 (q .amount) largestAmount && isCard (q .card) && within 1 (q .trace .0) lastNumber) last .0 e in
+    let b = and-eq-true-iff (isKind (q .kind) && within 1 (q .amount) largestAmount && isCard (q .card)) (within 1 (q .trace .0) lastNumber) .0 (a .0) in
+    let d = and-eq-true-iff (isKind (q .kind) && within 1 (q .amount) largestAmount) (isCard (q .card)) .0 (b .0) in
+    let f = and-eq-true-iff (isKind (q .kind)) (within 1 (q .amount) largestAmount) .0 (d .0) in
+    let m = within-bounds 1 (q .amount) largestAmount (f .1) in
+    let k = card-holds (q .card) (d .1) in
+    let t = within-bounds 1 (q .trace .0) lastNumber (b .1) in
+    record {
+      kind-listed = f .0;
+      amount-least = m .0;
+      amount-most = m .1;
+      card-least = k .least;
+      card-most = k .most;
+      card-below = k .below;
+      trace-least = t .0;
+      trace-most = t .1;
+      original-form = a .1;
+    }
+
+pub reversal-holds : (v : Reversal) → reversalInForm v ≡ true → RequestHolds (v .request)
+unfolding reversalInForm
+reversal-holds v e = request-holds (v .request) (and-eq-true-iff (requestInForm (v .request)) (not (isNeverReversed (v .request .kind))) .0 e .0)
+
+-- rule 2 of settings and state, and the bounds that follow
+pub record StateHolds (s : State) : Type 0 where
+  pub settings : SettingsHold (s .settings)
+  pub batch-least : 1 ≤ s .batch .0
+  pub batch-most : s .batch .0 ≤ lastNumber
+  pub next-least : 1 ≤ s .next .0
+  pub next-most : s .next .0 ≤ lastNumber
+  pub sent-most : s .counts .sent ≤ mostRequests
+  pub phase-form : phaseInForm (s .phase) ≡ true
+  pub few : s .entries ≤ s .settings .limit
+  pub balance : s .counts .sent ≡ s .counts .approved + s .counts .declined + s .counts .reversed + s .counts .«given_up» + s .counts .unanswered + waiting (s .phase)
+  pub approvals : s .counts .approved ≡ s .entries
+
+-- the tests of a list, all true
+abbrev pub Each : List Bool → Type 0
+Each [] = Unit
+Each (b ∷ bs) = (b ≡ true) × Each bs
+
+pub each : (bs : List Bool) → allOf bs ≡ true → Each bs
+each [] e = tt
+each (b ∷ bs) e = let a = and-eq-true-iff b (allOf bs) .0 e in (a .0, each bs (a .1))
+
+pub state-holds : (s : State) → stateKept s ≡ true → StateHolds s
+unfolding stateKept stateInForm balanced
+state-holds s e =
+    let a = each (stateClauses s) e in
+    let c = s .counts in
+    let p = and-eq-true-iff (within 1 (s .batch .0) lastNumber && within 1 (s .next .0) lastNumber && leb (c .sent) mostRequests) (phaseInForm (s .phase)) .0 (a .1 .0) in
+    let q = and-eq-true-iff (within 1 (s .batch .0) lastNumber && within 1 (s .next .0) lastNumber) (leb (c .sent) mostRequests) .0 (p .0) in
+    let r = and-eq-true-iff (within 1 (s .batch .0) lastNumber) (within 1 (s .next .0) lastNumber) .0 (q .0) in
+    let b = within-bounds 1 (s .batch .0) lastNumber (r .0) in
+    let n = within-bounds 1 (s .next .0) lastNumber (r .1) in
+    let whole = c .approved + c .declined + c .reversed + c .«given_up» + c .unanswered + waiting (s .phase) in
+    let u = and-eq-true-iff (eqb (c .sent) whole) (eqb (c .approved) (s .entries)) .0 (a .1 .1 .1 .0) in
+    record {
+      settings = settings-hold (s .settings) (a .0);
+      batch-least = b .0;
+      batch-most = b .1;
+      next-least = n .0;
+      next-most = n .1;
+      sent-most = leb-true (c .sent) mostRequests (q .1);
+      phase-form = p .1;
+      few = leb-true (s .entries) (s .settings .limit) (a .1 .1 .0);
+      balance = eqb-true (c .sent) whole (u .0);
+      approvals = eqb-true (c .approved) (s .entries) (u .1);
+    }
+
+-- the counts are bounded by what has been sent, so each has room for one more
+pub room-for-one : (s : State) → StateHolds s → CountsBounded s
+room-for-one s o =
+    let l = o .settings in
+    record {
+      entries = omega arith;
+      counts = record {
+        sent = omega arith;
+        approved = omega arith;
+        declined = omega arith;
+        reversed = omega arith;
+        given-up = omega arith;
+        unanswered = omega arith;
+      };
+    }

@@ -1,0 +1,68 @@
+-- Laws of the tests of rule 2 for settings and state.
+use mathlib.Core.Path.{_≡_, refl}
+use mathlib.Core.List.{List, [], _∷_}
+use mathlib.Core.Bool.{Bool, true, false, _&&_}
+use Prim.Native.Nat.{ℕ, zero, suc, _+_, _-_, _^_, _≤_, _<_}
+use native.Mathlib.Omega.{arith}
+use lib.Dec.{leb, ltb}
+use lib.ListN.{length, getD}
+use borrow.Author.Tests.{lt-ltb, le-ltb, le-leb, lt-leb, ltb-true, ltb-false}
+use Rattle.numbers.specs.Limits.{largestTotal}
+use Rattle.numbers.specs.Numbers.{within}
+use Rattle.state.specs.declared.Card.{Card}
+use Rattle.state.specs.declared.State.{State}
+use Rattle.state_rules.specs.StateRules.{stateKept, settingsInForm, isCard, stateInForm, exceeds, waiting, balanced}
+
+-- a card of too few or too many digits
+pub few-digits : (c : Card) → c .length < 13 → false ≡ isCard c
+unfolding isCard within
+few-digits c h = rw (lt-leb 13 (c .length) h)
+
+pub many-digits : (c : Card) → 19 < c .length → false ≡ isCard c
+unfolding isCard within
+many-digits c h = rw (le-leb 13 (c .length) (omega arith), lt-leb (c .length) 19 h)
+
+-- the powers of ten from 10^13 to 10^19
+abbrev pub powers : List ℕ
+powers = 10000000000000 ∷ 100000000000000 ∷ 1000000000000000 ∷ 10000000000000000 ∷ 100000000000000000 ∷ 1000000000000000000 ∷ 10000000000000000000 ∷ []
+
+power-at : (k : ℕ) → k < 7 → getD powers k 0 ≡ 10 ^ (13 + k)
+power-at zero h = refl
+power-at (suc zero) h = refl
+power-at (suc (suc zero)) h = refl
+power-at (suc (suc (suc zero))) h = refl
+power-at (suc (suc (suc (suc zero)))) h = refl
+power-at (suc (suc (suc (suc (suc zero))))) h = refl
+power-at (suc (suc (suc (suc (suc (suc zero)))))) h = refl
+power-at (suc (suc (suc (suc (suc (suc (suc k))))))) h = absurd (omega arith)
+
+pub right-digits : (c : Card) → 13 ≤ c .length → c .length ≤ 19 → ltb (c .number) (getD powers (c .length - 13) 0) ≡ isCard c
+unfolding isCard within
+right-digits c a b =
+    let e : 13 + (c .length - 13) ≡ c .length = omega arith in
+    rw (le-leb 13 (c .length) a, le-leb (c .length) 19 b, power-at (c .length - 13) (omega arith), e)
+
+-- a total past 999,999,999,999, without a sum that might not fit
+pub exceeds-alone : (total amount : ℕ) → largestTotal < amount → true ≡ exceeds total amount
+exceeds-alone total amount h = rw (lt-ltb largestTotal (total + amount) (omega arith))
+
+pub exceeds-both : (total amount : ℕ) → amount ≤ largestTotal → ltb (largestTotal - amount) total ≡ exceeds total amount
+exceeds-both total amount h = go (ltb (largestTotal - amount) total) refl
+  where
+    go : (b : Bool) → ltb (largestTotal - amount) total ≡ b → b ≡ exceeds total amount
+    go true e = let l = ltb-true (largestTotal - amount) total e in rw (lt-ltb largestTotal (total + amount) (omega arith))
+    go false e = let l = ltb-false (largestTotal - amount) total e in rw (le-ltb largestTotal (total + amount) (omega arith))
+
+-- the tests of the state
+pub state-kept-is : (s : State) {a b c d : Bool} → a ≡ settingsInForm (s .settings) → b ≡ stateInForm s
+    → c ≡ leb (s .entries) (s .settings .limit) → d ≡ balanced (s .counts) (waiting (s .phase)) (s .entries)
+    → (a && b && c && d) ≡ stateKept s
+unfolding stateKept
+state-kept-is s {a} {b} {c} {d} p q r t = rw (← p, ← q, ← r, ← t) (go a b c d)
+  where
+    go : (a b c d : Bool) → (a && b && c && d) ≡ (a && (b && (c && (d && true))))
+    go false b c d = refl
+    go true false c d = refl
+    go true true false d = refl
+    go true true true false = refl
+    go true true true true = refl

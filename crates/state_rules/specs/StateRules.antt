@@ -1,0 +1,125 @@
+-- Document 01, "Why a call is turned down", rule 2 for settings and state, and the bound of rule 21.
+use mathlib.Core.List.{List, [], _∷_}
+use mathlib.Core.Bool.{Bool, true, false, cond, not, _&&_}
+use Prim.Native.Nat.{ℕ, _+_, _^_}
+use lib.Dec.{leb, ltb, eqb}
+use Rattle.numbers.specs.Limits.{largestAmount, largestTotal, mostRequests, mostEntries, mostSendings}
+use Rattle.numbers.specs.Numbers.{within, isNumber, isAmount}
+use Rattle.field.specs.Contents.{allPrintable}
+use Rattle.kinds.specs.Kinds.{isKind, sideOf, takesOriginal, isNeverReversed}
+use Rattle.kinds.specs.declared.Side.{Side}
+use Rattle.kinds.specs.declared.Side.the-variants.{Debit, Credit, Neither}
+use Rattle.kinds.specs.declared.Totals.{Totals}
+use Rattle.state.specs.declared.Card.{Card}
+use Rattle.state.specs.declared.Request.{Request}
+use Rattle.state.specs.declared.Reversal.{Reversal}
+use Rattle.state.specs.declared.Awaited.{Awaited}
+use Rattle.state.specs.declared.Awaited.the-variants as awaited
+use Rattle.state.specs.declared.Phase.{Phase}
+use Rattle.state.specs.declared.Phase.the-variants.{Resting, Waiting, Pending, Settling, Uploading}
+use Rattle.state.specs.declared.Settings.{Settings}
+use Rattle.state.specs.declared.Counts.{Counts}
+use Rattle.state.specs.declared.State.{State}
+
+-- Rule 2, settings and state.
+-- Entry limit 1 to 300; sendings L 1 to 9; largest refund 1 to 9,999,999,999 fen; fields 41 and 42 printable.
+unfoldable pub settingsInForm : Settings → Bool
+settingsInForm x =
+    within 1 (x .limit) mostEntries
+    && within 1 (x .sendings) mostSendings
+    && within 1 (x .refund) largestAmount
+    && allPrintable (x .terminal)
+    && allPrintable (x .merchant)
+
+-- a card number of 13 to 19 digits
+unfoldable pub isCard : Card → Bool
+isCard c = within 13 (c .length) 19 && ltb (c .number) (10 ^ c .length)
+
+-- a void has an original's trace, another kind none
+unfoldable pub requestInForm : Request → Bool
+requestInForm q =
+    isKind (q .kind)
+    && isAmount (q .amount)
+    && isCard (q .card)
+    && isNumber (q .trace .0)
+    && cond (takesOriginal (q .kind)) (isNumber (q .original .0)) (eqb (q .original .0) 0)
+
+-- a refund is never reversed
+unfoldable pub reversalInForm : Reversal → Bool
+reversalInForm v = requestInForm (v .request) && not (isNeverReversed (v .request .kind))
+
+abbrev pub awaitedInForm : Awaited → Bool
+awaitedInForm (awaited.Request q) = requestInForm q
+awaitedInForm (awaited.Reversal v) = reversalInForm v
+awaitedInForm (awaited.Settlement x) = isNumber (x .0)
+awaitedInForm (awaited.Item i) = true
+awaitedInForm (awaited.End x) = isNumber (x .0)
+
+abbrev pub phaseInForm : Phase → Bool
+phaseInForm Resting = true
+phaseInForm (Waiting a) = awaitedInForm a
+phaseInForm (Pending v) = reversalInForm v
+phaseInForm Settling = true
+phaseInForm Uploading = true
+
+-- rule 18: at most 900,000 card requests leave in a batch; by the balance no other count is larger
+unfoldable pub stateInForm : State → Bool
+stateInForm s =
+    isNumber (s .batch .0)
+    && isNumber (s .next .0)
+    && leb (s .counts .sent) mostRequests
+    && phaseInForm (s .phase)
+
+-- Waiting is 1 for a card request until its decision or, with a reversal, until its end.
+abbrev pub awaitedWaiting : Awaited → ℕ
+awaitedWaiting (awaited.Request q) = 1
+awaitedWaiting (awaited.Reversal v) = 1
+awaitedWaiting (awaited.Settlement x) = 0
+awaitedWaiting (awaited.Item i) = 0
+awaitedWaiting (awaited.End x) = 0
+
+abbrev pub waiting : Phase → ℕ
+waiting Resting = 0
+waiting (Waiting a) = awaitedWaiting a
+waiting (Pending v) = 1
+waiting Settling = 0
+waiting Uploading = 0
+
+-- the sum in demand 3, and approved is the number of entries
+unfoldable pub balanced : Counts → ℕ → ℕ → Bool
+balanced c undecided n =
+    eqb (c .sent) (c .approved + c .declined + c .reversed + c .«given_up» + c .unanswered + undecided)
+    && eqb (c .approved) n
+
+abbrev pub allOf : List Bool → Bool
+allOf [] = true
+allOf (b ∷ bs) = b && allOf bs
+
+abbrev pub stateClauses : State → List Bool
+stateClauses s =
+    -- each value is in its range and form
+    settingsInForm (s .settings)
+    ∷ stateInForm s
+    -- no more entries than the limit
+    ∷ leb (s .entries) (s .settings .limit)
+    -- the counts balance
+    ∷ balanced (s .counts) (waiting (s .phase)) (s .entries)
+    ∷ []
+
+unfoldable pub stateKept : State → Bool
+stateKept s = allOf (stateClauses s)
+
+-- Sums past rule 21: the kind's debit or credit total would pass 999,999,999,999.
+abbrev pub exceeds : ℕ → ℕ → Bool
+exceeds total amount = ltb largestTotal (total + amount)
+
+abbrev pub pastOn : Side → ℕ → Totals → Bool
+pastOn Debit amount t = exceeds (t .debit) amount
+pastOn Credit amount t = exceeds (t .credit) amount
+pastOn Neither amount t = false
+
+unfoldable pub past : ℕ → ℕ → Totals → Bool
+past kind amount t = pastOn (sideOf kind) amount t
+
+unfoldable pub sumsKept : Totals → Bool
+sumsKept t = leb (t .debit) largestTotal && leb (t .credit) largestTotal
