@@ -2,8 +2,8 @@
 use digits::Number;
 use message::Message;
 use numbers::Batch;
-use parts::Part;
 use numbers::Trace;
+use parts::Part;
 use state::Awaited;
 use state::Settings;
 ghost use mathlib.Core.Path.{_≡_};

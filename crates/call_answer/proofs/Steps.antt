@@ -1,7 +1,7 @@
 -- Laws of the calls: rules 1 and 2 have refused or passed, and what follows in the phase.
 use mathlib.Core.Path.{_≡_, refl, sym, ap, _∙_}
 use mathlib.Core.List.{List}
-use mathlib.Core.Bool.{Bool, true, false, not, true≢false}
+use mathlib.Core.Bool.{Bool, true, false, not}
 use Prim.Native.Nat.{ℕ}
 use native.Mathlib.Omega.{arith}
 use Rattle.message.specs.declared.Message.{Message}
@@ -13,36 +13,26 @@ use Rattle.state.specs.declared.Awaited.{Awaited}
 use Rattle.state.specs.declared.Called.{Called}
 use Rattle.state.specs.declared.Outcome.the-variants.{Quiet, Refused}
 use Rattle.state.specs.declared.Phase.{Phase}
-use Rattle.state.specs.declared.Phase.the-variants.{Resting, Waiting, Pending, Settling, Uploading}
+use Rattle.state.specs.declared.Phase.the-variants.{Waiting}
 use Rattle.state.specs.declared.State.{State}
-use Rattle.state.specs.State.{signed, waits, isWaiting}
+use Rattle.state.specs.State.{CountsBounded, signed, isWaiting}
 use Rattle.checks.specs.Checks.{firstBroken}
 use Rattle.checks.proofs.Choices.{first-stops, last-broken, last-kept}
 use Rattle.state.specs.Calls.{resultOf}
 use Rattle.state.proofs.Judged.{refuses, goes}
+use Rattle.state_rules.proofs.Holds.{room-for-one}
 use Rattle.rules.specs.Rules.{rules12}
 use Rattle.rules.proofs.InOrder.{fit}
 use Rattle.answer_match.specs.Match.{isAnswer}
-use Rattle.call_answer.specs.Answer.{Changed, changed, quietly, silent, silentIn, noAnswer, powerReturned, answered, traceSent, batchSent, answeredIn, answerIn, answer}
-use Rattle.call_answer.specs.Bounds.{CountsBounded, Gives}
-
--- silence where nothing is awaited changes nothing
-pub nothing-silent : (p : Phase) (s : State) (j : List ℕ) → waits p ≡ false → silentIn p s j ≡ changed s j
-nothing-silent Resting s j h = refl
-nothing-silent (Waiting a) s j h = absurd (true≢false h)
-nothing-silent (Pending v) s j h = refl
-nothing-silent Settling s j h = refl
-nothing-silent Uploading s j h = refl
+use Rattle.call_answer.specs.Answer.{quietly, noAnswer, powerReturned, traceSent, batchSent, answeredIn, answerIn, answer}
+use Rattle.journal_effects.specs.JournalEffects.{Changed, changed, silent, silentIn, answered}
+use Rattle.journal_effects.proofs.Silence.{awaited-silent}
+use Rattle.call_answer.specs.Bounds.{Gives}
 
 -- a quiet change
 changes : (d : Changed) (r : Called) (t : State) (k m : List ℕ) → r ≡ record { outcome = Quiet; state = t } → changed t k ≡ d
     → resultOf r k m ≡ quietly d m
 changes d r t k m e h = rw (e, ← h)
-
--- what is awaited is silent
-pub awaited-silent : (s : State) (j : List ℕ) (w : Awaited) (d : Changed) → s .phase ≡ Waiting w → d ≡ silent w s j
-    → d ≡ silentIn (s .phase) s j
-awaited-silent s j w d f h = h ∙ ap (λ (p : Phase). silentIn p s j) (sym f)
 
 module _ (good : Bool) (a : Message) (s : State) (j : List ℕ) (r : Called) where
   -- 14. Nothing is awaited.
@@ -65,22 +55,9 @@ module _ (good : Bool) (a : Message) (s : State) (j : List ℕ) (r : Called) whe
         (changes _ r t k m q (u ∙ ap (λ (p : Phase). answeredIn p good a s j) (sym f)))
 
 module _ (s : State) (j m : List ℕ) (n : ℕ) (e : n ≡ firstBroken (rules12 s j m)) where
-  -- the counts are bounded by what has been sent
-  pub room-for-one : n ≡ 0 → CountsBounded s
-  room-for-one z =
-      let o = fit s j m (sym e ∙ z) .order .state in
-      let l = o .settings in
-      record {
-        entries = omega arith;
-        counts = record {
-          sent = omega arith;
-          approved = omega arith;
-          declined = omega arith;
-          reversed = omega arith;
-          given-up = omega arith;
-          unanswered = omega arith;
-        };
-      }
+  -- there is room for one more
+  pub bounded : n ≡ 0 → CountsBounded s
+  bounded z = room-for-one s (fit s j m (sym e ∙ z) .order .state)
 
   module _ (r : Called) where
     pub no-answer-first-refusal : (n ≡ 0 → ⊥) → r ≡ record { outcome = Refused n; state = s } → resultOf r j m ≡ noAnswer s j m

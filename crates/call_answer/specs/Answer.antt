@@ -1,86 +1,29 @@
 -- Document 01, "Calls": answer (bytes, MAC good or bad); no answer; power returned.
 use mathlib.Core.List.{List, [], _∷_, _++_}
-use mathlib.Core.Bool.{Bool, false, cond, not}
-use Prim.Native.Nat.{ℕ, _+_}
-use lib.Dec.{leb, ltb, eqb}
+use mathlib.Core.Bool.{Bool, false, not}
+use Prim.Native.Nat.{ℕ}
 use Rattle.message.specs.declared.Message.{Message}
 use Rattle.reading.specs.Reading.{readMessage}
-use Rattle.reading.specs.declared.Reading.{Reading}
 use Rattle.reading.specs.declared.ReadOutcome.{ReadOutcome as Judgement}
 use Rattle.reading.specs.declared.ReadOutcome.the-variants.{Read, Refused as Unread}
 use Rattle.numbers.specs.declared.Trace.{Trace}
 use Rattle.numbers.specs.declared.Batch.{Batch}
-use Rattle.kinds.specs.Kinds.{takesOriginal, isNeverReversed}
-use Rattle.entry.specs.Entry.{voidedOffset, markOffset}
 use Rattle.entry.specs.declared.Entry.{Entry}
-use Rattle.journal.specs.Journal.{entriesOf, entryAt, originalFor, putEntry, setByte}
-use Rattle.journal.specs.declared.Found.{Found}
-use Rattle.journal.specs.declared.Found.the-variants.{At, Nowhere}
-use Rattle.state.specs.declared.Request.{Request}
-use Rattle.state.specs.declared.Reason.{Reason}
-use Rattle.state.specs.declared.Reason.the-variants.{Silence, BadMac}
-use Rattle.state.specs.declared.Reversal.{Reversal}
+use Rattle.journal.specs.Journal.{entriesOf, entryAt}
 use Rattle.state.specs.declared.Awaited.{Awaited}
 use Rattle.state.specs.declared.Awaited.the-variants as awaited
 use Rattle.state.specs.declared.Phase.{Phase}
 use Rattle.state.specs.declared.Phase.the-variants.{Resting, Waiting, Pending, Settling, Uploading}
-use Rattle.state.specs.declared.Count.the-variants.{Approved, Declined, Reversed, GivenUp, Unanswered}
 use Rattle.state.specs.declared.State.{State}
-use Rattle.state.specs.State.{inPhase, counted, withEntries, signed, closed, isWaiting}
+use Rattle.state.specs.State.{signed, isWaiting}
 use Rattle.checks.specs.Checks.{Rule, rule, firstBroken}
 use Rattle.state.specs.Calls.{Result, judged, refused, quiet}
 use Rattle.rules.specs.Rules.{rules12}
-use Rattle.answer_match.specs.Match.{isAnswer, approves, goodMac, endsReversal, closesBatch}
-use Rattle.approval.specs.Approval.{approvedEntry}
-
--- state and journal after a change
-pub record Changed : Type 0 where
-  pub state : State
-  pub journal : List ℕ
-
-abbrev pub changed : State → List ℕ → Changed
-changed s j = record { state = s; journal = j }
-
--- silence or bad MAC: kind 25 is unanswered; other kinds make a pending reversal
-unfoldable pub pendingOrUnanswered : Reason → Request → State → State
-pendingOrUnanswered reason q s =
-    cond (isNeverReversed (q .kind))
-      (inPhase Resting (counted Unanswered s))
-      (inPhase (Pending (record { request = q; reason = reason; sendings = 0 })) s)
-
--- a failed sending: at L sendings the reversal is given up, else it is pending again
-unfoldable pub failed : Reversal → State → State
-failed v s =
-    cond (leb (s .settings .sendings) (v .sendings))
-      (inPhase Resting (counted GivenUp s))
-      (inPhase (Pending v) s)
-
--- silence marks an item 1; a silent resend leaves mark 1 while byte 3 is below L, and 4 when it is L
-unfoldable pub silentMark : ℕ → Entry → ℕ
-silentMark l e = cond (eqb (e .mark) 0) 1 (cond (leb l (e .resends)) 4 1)
-
-abbrev pub marked : ℕ → ℕ → List ℕ → List ℕ
-marked i mark j = setByte i markOffset mark j
-
--- no answer to what is awaited; silence leaves the phase settling, and lets the upload's end be sent again
-unfoldable pub silent : Awaited → State → List ℕ → Changed
-silent (awaited.Request q) s j = changed (pendingOrUnanswered Silence q s) j
-silent (awaited.Reversal v) s j = changed (failed v s) j
-silent (awaited.Settlement x) s j = changed (inPhase Settling s) j
-silent (awaited.Item i) s j =
-    changed (inPhase Uploading s) (marked i (silentMark (s .settings .sendings) (entryAt (entriesOf (s .entries) j) i)) j)
-silent (awaited.End x) s j = changed (inPhase Uploading s) j
+use Rattle.answer_match.specs.Match.{isAnswer}
+use Rattle.journal_effects.specs.JournalEffects.{Changed, changed, silentIn, answered}
 
 abbrev pub quietly : Changed → List ℕ → Result
 quietly c m = quiet (c .state) (c .journal) m
-
--- what is awaited is silent; in another phase all stays
-abbrev pub silentIn : Phase → State → List ℕ → Changed
-silentIn Resting s j = changed s j
-silentIn (Waiting a) s j = silent a s j
-silentIn (Pending v) s j = changed s j
-silentIn Settling s j = changed s j
-silentIn Uploading s j = changed s j
 
 abbrev pub noAnswerRules : State → List ℕ → List ℕ → List Rule
 noAnswerRules s j m = rules12 s j m ++ (rule 14 (not (isWaiting s)) ∷ [])
@@ -94,52 +37,6 @@ withoutPower c m = quiet (signed false (c .state)) (c .journal) m
 
 unfoldable pub powerReturned : State → List ℕ → List ℕ → Result
 powerReturned s j m = judged (firstBroken (rules12 s j m)) s j m (withoutPower (silentIn (s .phase) s j) m)
-
--- a 21 or 23 marks its original voided, an 11 marks nothing
-abbrev pub voidedAt : Found → List ℕ → List ℕ
-voidedAt (At i) j = setByte i voidedOffset 1 j
-voidedAt Nowhere j = j
-
-unfoldable pub originalVoided : Request → List Entry → List ℕ → List ℕ
-originalVoided q es j =
-    cond (takesOriginal (q .kind)) (voidedAt (originalFor (q .kind) (q .original .0) es) j) j
-
--- an approval: the entry is written, and the request counted
-abbrev pub oneMore : State → State
-oneMore s = inPhase Resting (counted Approved (withEntries (s .entries + 1) s))
-
-unfoldable pub approved : Request → Entry → State → List ℕ → Changed
-approved q e s j = changed (oneMore s) (putEntry (s .entries) e (originalVoided q (entriesOf (s .entries) j) j))
-
--- an answer to a card request: the MAC is read only for 00; other code: declined
-unfoldable pub onRequest : Bool → Message → Request → State → List ℕ → Changed
-onRequest good a q s j =
-    cond (approves a)
-      (cond (goodMac good a) (approved q (approvedEntry q a) s j) (changed (pendingOrUnanswered BadMac q s) j))
-      (changed (inPhase Resting (counted Declined s)) j)
-
--- to a reversal: ended as reversed, or a failed sending
-unfoldable pub onReversal : Bool → Message → Reversal → State → State
-onReversal good a v s = cond (endsReversal good a) (inPhase Resting (counted Reversed s)) (failed v s)
-
--- to a settlement: digit 1 closes; 2 or 3 starts the upload
-unfoldable pub onSettlement : Message → State → State
-onSettlement a s = cond (closesBatch a) (closed s) (inPhase Uploading s)
-
--- to an upload item: 00 accepts, another code rejects
-unfoldable pub onItem : Message → ℕ → List ℕ → List ℕ
-onItem a i j = marked i (cond (approves a) 2 3) j
-
--- to the upload's end: 00 closes, anything else lets it be sent again
-unfoldable pub onEnd : Message → State → State
-onEnd a s = cond (approves a) (closed s) (inPhase Uploading s)
-
-unfoldable pub answered : Bool → Message → Awaited → State → List ℕ → Changed
-answered good a (awaited.Request q) s j = onRequest good a q s j
-answered good a (awaited.Reversal v) s j = changed (onReversal good a v s) j
-answered good a (awaited.Settlement x) s j = changed (onSettlement a s) j
-answered good a (awaited.Item i) s j = changed (inPhase Uploading s) (onItem a i j)
-answered good a (awaited.End x) s j = changed (onEnd a s) j
 
 -- the trace that was sent; reversals and upload items reuse the original's
 abbrev pub traceSent : List Entry → Awaited → Trace

@@ -1,7 +1,7 @@
 -- Laws of the rules of send reversal, and of the reversal that leaves.
 use mathlib.Core.Path.{_≡_, refl, sym, ap, _∙_}
 use mathlib.Core.List.{List, [], _∷_}
-use mathlib.Core.Bool.{Bool, true, false, not}
+use mathlib.Core.Bool.{true, false, not}
 use Prim.Native.Nat.{ℕ, _≤_, _<_}
 use native.Mathlib.Omega.{arith}
 use lib.ListN.{length}
@@ -14,24 +14,26 @@ use Rattle.writing.specs.Writing.{writeMessage}
 use Rattle.state.specs.declared.Awaited.the-variants as awaited
 use Rattle.state.specs.declared.Called.{Called}
 use Rattle.state.specs.declared.Outcome.the-variants.{Send, Refused}
-use Rattle.state.specs.declared.Phase.{Phase}
 use Rattle.state.specs.declared.Phase.the-variants.{Waiting, Pending}
 use Rattle.state.specs.declared.Reversal.{Reversal}
 use Rattle.state.specs.declared.State.{State}
 use Rattle.state.specs.State.{inPhase, isPending}
-use Rattle.checks.specs.Checks.{Rule, rule, firstBroken}
-use Rattle.state.specs.Calls.{resultOf, refused}
+use Rattle.checks.specs.Checks.{rule, firstBroken}
+use Rattle.state.specs.Calls.{resultOf}
 use Rattle.checks.proofs.Choices.{first-stops, last-broken, last-kept}
 use Rattle.state.proofs.Judged.{refuses, goes}
-use Rattle.rules.specs.Rules.{idleRules, phaseInForm, phaseKept}
-use Rattle.rules.proofs.InOrder.{reversal-holds, Fit}
+use Rattle.rules.specs.Rules.{idleRules, phaseKept}
+use Rattle.state_rules.specs.StateRules.{phaseInForm}
+use Rattle.rules.proofs.InOrder.{Fit}
+use Rattle.state_rules.proofs.Holds.{reversal-holds}
 use Rattle.rules.proofs.Idle.{idle-fit}
 use Rattle.compose.specs.Compose.{withAll}
 use Rattle.outgoing.specs.Held.{CardHeld}
 use Rattle.outgoing.specs.Outgoing.{reversalFields, reversalMessage, lengthOf}
 use Rattle.outgoing.proofs.Leaving.{reversal-held, reversal-is, reversal-listed, written-is}
 use Rattle.journal.specs.Journal.{entriesOf}
-use Rattle.call_reversal.specs.SendReversal.{sendReversalRules, again, sendsReversal, sendFrom, sendReversal}
+use Rattle.call_reversal.specs.SendReversal.{sendReversalRules, sendsReversal, sendFrom, sendReversal}
+use Rattle.state_effects.specs.StateEffects.{again}
 
 module _ (s : State) (j m : List ℕ) (n : ℕ) (e : n ≡ firstBroken (idleRules s j m)) where
   pub turned-down : (r : Called) → (n ≡ 0 → ⊥) → r ≡ record { outcome = Refused n; state = s } → resultOf r j m ≡ sendReversal s j m

@@ -1,7 +1,7 @@
 -- Document 01, "Calls": send reversal.
 use mathlib.Core.List.{List, [], _∷_, _++_}
 use mathlib.Core.Bool.{not}
-use Prim.Native.Nat.{ℕ, _+_}
+use Prim.Native.Nat.{ℕ}
 use Rattle.writing.specs.Writing.{messageBytes}
 use Rattle.state.specs.declared.Reversal.{Reversal}
 use Rattle.state.specs.declared.Awaited.the-variants as awaited
@@ -13,13 +13,10 @@ use Rattle.checks.specs.Checks.{Rule, rule, firstBroken}
 use Rattle.state.specs.Calls.{Result, judged, quiet, sends}
 use Rattle.rules.specs.Rules.{idleRules}
 use Rattle.outgoing.specs.Outgoing.{reversalMessage}
+use Rattle.state_effects.specs.StateEffects.{again}
 
 abbrev pub sendReversalRules : State → List ℕ → List ℕ → List Rule
 sendReversalRules s j m = idleRules s j m ++ (rule 14 (not (isPending s)) ∷ [])
-
--- one sending more
-abbrev pub again : Reversal → Reversal
-again v = record { request = v .request; reason = v .reason; sendings = v .sendings + 1 }
 
 abbrev pub sendsReversal : Reversal → State → List ℕ → List ℕ → Result
 sendsReversal v s j m =

@@ -5,13 +5,12 @@ use state::Phase;
 use state::Reversal;
 use state::State;
 ghost use mathlib.Core.Path.{_≡_};
-ghost use Prim.Native.Nat.{_≤_, _<_};
+ghost use Prim.Native.Nat.{_≤_};
 ghost use lib.ListN.{length};
-ghost use Rattle.numbers.specs.Limits.{mostSendings};
 ghost use Rattle.message.specs.Message.{largest};
 ghost use Rattle.state.specs.Calls.{resultOf};
 ghost use Rattle.outgoing.specs.Held.{CardHeld};
-ghost use Rattle.call_reversal.specs.SendReversal.{again, sendsReversal, sendReversal};
+ghost use Rattle.call_reversal.specs.SendReversal.{sendsReversal, sendReversal};
 
 // Sends the pending reversal.
 pub fn send_reversal(s: State, journal: &mut [u8], message: &mut [u8]) -> Called
@@ -25,20 +24,7 @@ pub fn send_reversal(s: State, journal: &mut [u8], message: &mut [u8]) -> Called
     let Phase::Pending(v) = phase else {
         return Called::refused(s, 14);
     };
-    send(s, again(v), journal, message)
-}
-
-fn again(v: Reversal) -> Reversal
-    requires { ⌜ v .sendings < mostSendings ⌝ }
-    ensures { λ r. ⌜ r ≡ again v ⌝ }
-{
-    let request = v.request;
-    let reason = v.reason;
-    Reversal {
-        request: request,
-        reason: reason,
-        sendings: v.sendings + 1,
-    }
+    send(s, state_effects::again(v), journal, message)
 }
 
 // A reversal leaves and is awaited.

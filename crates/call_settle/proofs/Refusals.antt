@@ -1,7 +1,7 @@
 -- Laws of the rules of settle.
 use mathlib.Core.Path.{_≡_, refl, sym, _∙_}
 use mathlib.Core.List.{List, [], _∷_}
-use mathlib.Core.Bool.{Bool, true, false, not}
+use mathlib.Core.Bool.{Bool, true, false}
 use Prim.Native.Nat.{ℕ}
 use Rattle.state.specs.declared.State.{State}
 use Rattle.state.specs.State.{isPending, isUploading}

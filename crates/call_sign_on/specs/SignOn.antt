@@ -1,27 +1,19 @@
 -- Document 01, "Calls": signed on (batch).
 use mathlib.Core.List.{List, [], _∷_, _++_}
-use mathlib.Core.Bool.{Bool, true, cond, not, _&&_}
+use mathlib.Core.Bool.{cond, not}
 use Prim.Native.Nat.{ℕ}
-use lib.Dec.{eqb}
 use Rattle.numbers.specs.Numbers.{isNumber}
 use Rattle.numbers.specs.declared.Batch.{Batch}
 use Rattle.state.specs.declared.State.{State}
-use Rattle.state.specs.State.{isResting, isWaiting, signed, inBatch}
+use Rattle.state.specs.State.{isWaiting}
 use Rattle.checks.specs.Checks.{Rule, rule, firstBroken}
 use Rattle.state.specs.Calls.{Result, judged, quiet}
 use Rattle.rules.specs.Rules.{rules12}
+use Rattle.state_effects.specs.StateEffects.{adopts, on}
 
 abbrev pub signedOnRules : Batch → State → List ℕ → List ℕ → List Rule
 signedOnRules batch s j m =
     rules12 s j m ++ (rule 11 (isWaiting s) ∷ rule 16 (not (isNumber (batch .0))) ∷ [])
-
--- the batch number is adopted only if no card request has left in this batch and the phase is resting
-unfoldable pub adopts : State → Bool
-adopts s = eqb (s .counts .sent) 0 && isResting s
-
--- signed on, in this batch
-abbrev pub on : Batch → State → State
-on batch s = signed true (inBatch batch s)
 
 unfoldable pub signedOn : Batch → State → List ℕ → List ℕ → Result
 signedOn batch s j m =

@@ -5,7 +5,7 @@ use state::State;
 ghost use mathlib.Core.Path.{_≡_};
 ghost use Rattle.checks.specs.Checks.{firstBroken};
 ghost use Rattle.state.specs.Calls.{resultOf};
-ghost use Rattle.call_sign_on.specs.SignOn.{signedOnRules, adopts, on, signedOn};
+ghost use Rattle.call_sign_on.specs.SignOn.{signedOnRules, signedOn};
 
 // The outer program has signed on, and the centre has told the batch number.
 pub fn signed_on(s: State, batch: Batch, journal: &mut [u8], message: &mut [u8]) -> Called
@@ -16,10 +16,10 @@ pub fn signed_on(s: State, batch: Batch, journal: &mut [u8], message: &mut [u8])
         return Called::refused(s, number);
     }
     let old = s.batch;
-    if adopts(s) {
-        return Called::quiet(on(s, batch));
+    if state_effects::adopts(s) {
+        return Called::quiet(state_effects::on(s, batch));
     }
-    Called::quiet(on(s, old))
+    Called::quiet(state_effects::on(s, old))
 }
 
 // The number of the first rule that refuses, 0 for none.
@@ -39,17 +39,4 @@ fn refusal(s: State, batch: Batch, journal: &[u8], message: &[u8]) -> u8
         return 16;
     }
     0
-}
-
-fn adopts(s: State) -> bool
-    ensures { λ r. ⌜ r ≡ adopts s ⌝ }
-{
-    let counts = s.counts;
-    (counts.sent == 0) & s.is_resting()
-}
-
-fn on(s: State, batch: Batch) -> State
-    ensures { λ r. ⌜ r ≡ on batch s ⌝ }
-{
-    s.in_batch(batch).signed(true)
 }

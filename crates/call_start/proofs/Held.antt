@@ -1,5 +1,5 @@
 -- The fields of a request that no rule refuses are held: card and texts are the desk's, or those of an entry in form.
-use mathlib.Core.Path.{_≡_, refl, sym}
+use mathlib.Core.Path.{_≡_, refl, sym, ap, _∙_}
 use mathlib.Core.List.{List}
 use mathlib.Core.Bool.{Bool, true, false, cond, not, _||_, true≢false, and-eq-true-iff}
 use Prim.Native.Nat.{ℕ, _-_, _≤_}
@@ -13,33 +13,39 @@ use Rattle.entry.specs.Form.{inForm}
 use Rattle.entry.specs.Theorems.{Shaped}
 use Rattle.entry.specs.declared.Entry.{Entry}
 use Rattle.entry.proofs.Form.{InForm, in-form}
-use Rattle.journal.specs.Journal.{entriesOf, every, firstOf, isOriginal, nowhere}
+use Rattle.journal.specs.Journal.{entriesOf, every, isOriginal, originalFor, nowhere}
 use Rattle.journal.specs.declared.Found.{Found}
 use Rattle.journal.specs.declared.Found.the-variants.{At, Nowhere}
 use Rattle.journal.proofs.Entries.{entry-shaped}
 use Rattle.journal.proofs.Searches.{every-at, first-at}
 use Rattle.state.specs.declared.State.{State}
-use Rattle.rules.specs.Rules.{isCard}
-use Rattle.rules.proofs.InOrder.{card-holds}
+use Rattle.state_rules.specs.StateRules.{isCard}
+use Rattle.state_rules.proofs.Holds.{card-holds, room-for-one}
 use Rattle.outgoing.specs.Held.{OriginalHeld}
-use Rattle.call_start.specs.declared.Desk.{Desk}
-use Rattle.call_start.specs.Start.{deskInForm, originalOf, entryOf, requestOf, namedBy}
+use Rattle.desk.specs.declared.Desk.{Desk}
+use Rattle.call_start.specs.Start.{originalOf, entryOf, namedBy}
+use Rattle.desk.specs.DeskRules.{deskInForm, requestOf}
 use Rattle.approval.specs.Cards.{cardOf}
 use Rattle.call_start.specs.Sending.{MaySend}
 use Rattle.call_start.proofs.Refusals.{Unbroken}
 
--- the entry that a void is for is one of the journal's
-entry-in-form : (d : Desk) (es : List Entry) → every (λ i e. inForm e) 0 es ≡ true → nowhere (originalOf d es) ≡ false
-    → inForm (entryOf (originalOf d es) es) ≡ true
+-- what is found is found for a void, by kind and trace
+pub found-for : (d : Desk) (es : List Entry) (f : Found) → originalOf d es ≡ f → nowhere f ≡ false
+    → originalFor (d .kind) (d .original .0) es ≡ f
 unfolding originalOf
-entry-in-form d es a h = go (firstOf p 0 es) refl h
+found-for d es f e h = go (takesOriginal (d .kind)) e
   where
-    p : Entry → Bool
-    p = isOriginal (originalKind (d .kind)) (d .original .0)
+    go : (b : Bool) → cond b (originalFor (d .kind) (d .original .0) es) Nowhere ≡ f → originalFor (d .kind) (d .original .0) es ≡ f
+    go true e = e
+    go false e = absurd (true≢false (ap nowhere e ∙ h))
 
-    go : (f : Found) → firstOf (isOriginal (originalKind (d .kind)) (d .original .0)) 0 es ≡ f → nowhere f ≡ false → inForm (entryOf f es) ≡ true
-    go (At i) e h = every-at (λ i e. inForm e) 0 es a i (omega (arith, first-at p 0 es i e .below))
-    go Nowhere e h = absurd (true≢false h)
+-- the entry that a void is for is one of the journal's
+pub entry-in-form : (d : Desk) (es : List Entry) → every (λ i e. inForm e) 0 es ≡ true → (f : Found) → originalOf d es ≡ f
+    → nowhere f ≡ false → inForm (entryOf f es) ≡ true
+entry-in-form d es a Nowhere q h = absurd (true≢false h)
+entry-in-form d es a (At i) q h =
+    let o = first-at (isOriginal (originalKind (d .kind)) (d .original .0)) 0 es i (found-for d es (At i) q h) in
+    every-at (λ i e. inForm e) 0 es a i (omega (arith, o .below))
 
 entry-of-shaped : (f : Found) (n : ℕ) (j : List ℕ) → Shaped (entryOf f (entriesOf n j))
 entry-of-shaped (At i) n j = entry-shaped n i j
@@ -110,7 +116,7 @@ module _ (d : Desk) (s : State) (j m : List ℕ) (terminal : length (s .settings
       let e = entryOf (originalOf d es) es in
       let k = keyed d (u .keyed) in
       let x = u .fits .order .state .settings in
-      let f : takesOriginal (d .kind) ≡ true → InForm e = λ t. in-form e (entry-in-form d es (u .fits .order .journal .form) (u .found t)) in
+      let f : takesOriginal (d .kind) ≡ true → InForm e = λ t. in-form e (entry-in-form d es (u .fits .order .journal .form) (originalOf d es) refl (u .found t)) in
       let l = card-length d e k f in
       record {
         card = record {
@@ -123,5 +129,5 @@ module _ (d : Desk) (s : State) (j m : List ℕ) (terminal : length (s .settings
         };
         original = texts-held d e k f (s .batch) (entry-of-shaped (originalOf d es) (s .entries) j) reference authorisation;
         room = u .fits .message-room;
-        few = u .few;
+        counts = room-for-one s (u .fits .order .state) .counts;
       }

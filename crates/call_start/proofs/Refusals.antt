@@ -1,22 +1,20 @@
 -- The rules of start, asked in parts; what follows from none being broken.
 use mathlib.Core.Path.{_≡_, refl, sym, _∙_}
 use mathlib.Core.List.{List, _++_}
-use mathlib.Core.Bool.{Bool, true, false, not, _&&_, _||_, true≢false}
-use Prim.Native.Nat.{ℕ, _<_}
-use lib.Dec.{leb}
-use borrow.Author.Tests.{leb-false}
-use Rattle.numbers.specs.Limits.{mostRequests}
+use mathlib.Core.Bool.{Bool, true, false, not, _&&_, true≢false}
+use Prim.Native.Nat.{ℕ}
 use Rattle.kinds.specs.Kinds.{takesOriginal}
 use Rattle.entry.specs.declared.Entry.{Entry}
-use Rattle.journal.specs.Journal.{entriesOf, nowhere}
+use Rattle.journal.specs.Journal.{entriesOf, nowhere, totalsOf}
 use Rattle.journal.specs.declared.Found.{Found}
 use Rattle.state.specs.declared.State.{State}
 use Rattle.checks.specs.Checks.{Rule, firstBroken}
 use Rattle.checks.proofs.Choices.{numbered, first-stops, first-goes, passed}
 use Rattle.rules.specs.Rules.{rules12, tooShort, keepsRule2}
 use Rattle.rules.proofs.InOrder.{Fit, fit}
-use Rattle.call_start.specs.declared.Desk.{Desk}
-use Rattle.call_start.specs.Start.{deskInForm, originalOf, restRules, deskRules, journalRules, startRules}
+use Rattle.desk.specs.declared.Desk.{Desk}
+use Rattle.call_start.specs.Start.{originalOf, startRules}
+use Rattle.desk.specs.DeskRules.{deskInForm, restRules, deskRules, journalRules}
 
 -- none of the rules of one list is broken, and the next is asked
 later : (rs qs : List Rule) (n k : ℕ) → numbered rs ≡ true → n ≡ firstBroken rs → n ≡ 0 → k ≡ firstBroken qs → k ≡ firstBroken (rs ++ qs)
@@ -24,7 +22,7 @@ later rs qs n k w e z h = h ∙ sym (first-goes rs qs n w e z)
 
 module _ (d : Desk) (s : State) (es : List Entry) (place : Found) (e : Entry) (j m : List ℕ) where
   abbrev afterRest : List Rule
-  afterRest = deskRules d (s .settings .refund) ++ journalRules d s es (originalOf d es) e
+  afterRest = deskRules d (s .settings .refund) ++ journalRules d s (totalsOf es) (originalOf d es) e
 
   pub stops-first-refusal : (k : ℕ) → k ≡ firstBroken (rules12 s j m) → (k ≡ 0 → ⊥) → k ≡ firstBroken (startRules d s es e j m)
   stops-first-refusal k h n = first-stops (rules12 s j m) (restRules s ++ afterRest) k h n
@@ -38,20 +36,16 @@ module _ (d : Desk) (s : State) (es : List Entry) (place : Found) (e : Entry) (j
   stops-desk u r k f z g y h n =
       later (rules12 s j m) (restRules s ++ afterRest) u k refl f z
       (later (restRules s) afterRest r k refl g y
-      (first-stops (deskRules d (s .settings .refund)) (journalRules d s es (originalOf d es) e) k h n))
+      (first-stops (deskRules d (s .settings .refund)) (journalRules d s (totalsOf es) (originalOf d es) e) k h n))
 
   pub asks-journal : (u r t k : ℕ) → place ≡ originalOf d es → u ≡ firstBroken (rules12 s j m) → u ≡ 0 → r ≡ firstBroken (restRules s) → r ≡ 0
-      → t ≡ firstBroken (deskRules d (s .settings .refund)) → t ≡ 0 → k ≡ firstBroken (journalRules d s es place e)
+      → t ≡ firstBroken (deskRules d (s .settings .refund)) → t ≡ 0 → k ≡ firstBroken (journalRules d s (totalsOf es) place e)
       → k ≡ firstBroken (startRules d s es e j m)
   asks-journal u r t k p f z g y i x h =
       later (rules12 s j m) (restRules s ++ afterRest) u k refl f z
       (later (restRules s) afterRest r k refl g y
-      (later (deskRules d (s .settings .refund)) (journalRules d s es (originalOf d es) e) t k refl i x
+      (later (deskRules d (s .settings .refund)) (journalRules d s (totalsOf es) (originalOf d es) e) t k refl i x
       (rw p at h)))
-
-or-false : (a b : Bool) → (a || b) ≡ false → (a ≡ false) × (b ≡ false)
-or-false true b e = absurd (true≢false e)
-or-false false b e = (refl, e)
 
 and-not : (a b : Bool) → a ≡ true → (a && b) ≡ false → b ≡ false
 and-not true b e h = h
@@ -66,7 +60,6 @@ first-refusal-none s j m g h = rw (g, h)
 pub record Unbroken (d : Desk) (s : State) (es : List Entry) (j m : List ℕ) : Type 0 where
   pub fits : Fit s j m
   pub keyed : deskInForm d ≡ true
-  pub few : s .counts .sent < mostRequests
   pub found : takesOriginal (d .kind) ≡ true → nowhere (originalOf d es) ≡ false
 
 module _ (d : Desk) (s : State) (e : Entry) (j m : List ℕ) where
@@ -75,7 +68,6 @@ module _ (d : Desk) (s : State) (e : Entry) (j m : List ℕ) where
       record {
         fits = fit s j m (first-refusal-none s j m (passed 1 rs refl z) (passed 2 rs refl z));
         keyed = yes (deskInForm d) (passed 16 rs refl z);
-        few = leb-false mostRequests (s .counts .sent) (or-false (leb (s .settings .limit) (s .entries)) (leb mostRequests (s .counts .sent)) (passed 18 rs refl z) .1);
         found = λ t. and-not (takesOriginal (d .kind)) (nowhere (originalOf d es)) t (passed 19 rs refl z);
       }
     where

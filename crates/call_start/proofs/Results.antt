@@ -23,8 +23,10 @@ use Rattle.compose.specs.Compose.{withAll}
 use Rattle.outgoing.specs.Outgoing.{requestFields, requestMessage, lengthOf}
 use Rattle.outgoing.specs.declared.Original.{Original}
 use Rattle.outgoing.proofs.Leaving.{request-held, request-is, request-listed, written-is}
-use Rattle.call_start.specs.declared.Desk.{Desk}
-use Rattle.call_start.specs.Start.{originalOf, entryOf, requestOf, namedBy, startRules, requested, start}
+use Rattle.desk.specs.declared.Desk.{Desk}
+use Rattle.call_start.specs.Start.{originalOf, entryOf, namedBy, startRules, start}
+use Rattle.desk.specs.DeskRules.{requestOf}
+use Rattle.state_effects.specs.StateEffects.{requested}
 use Rattle.call_start.specs.Sending.{MaySend, requestBytes, HasSent}
 use Rattle.call_start.proofs.Refusals.{unbroken}
 use Rattle.call_start.proofs.Held.{may-send}

@@ -1,26 +1,26 @@
 -- A request that leaves: what a private function asks and promises.
 use mathlib.Core.Path.{_≡_}
 use mathlib.Core.List.{List, _++_}
-use Prim.Native.Nat.{ℕ, _+_, _≤_, _<_}
+use Prim.Native.Nat.{ℕ, _≤_}
 use lib.ListN.{length, drop}
-use Rattle.numbers.specs.Limits.{mostRequests}
 use Rattle.message.specs.Message.{largest}
 use Rattle.writing.specs.Writing.{messageBytes}
 use Rattle.state.specs.declared.Called.{Called}
 use Rattle.state.specs.declared.Outcome.the-variants.{Send}
 use Rattle.state.specs.declared.Request.{Request}
 use Rattle.state.specs.declared.State.{State}
+use Rattle.state.specs.State.{CountsSmall}
 use Rattle.outgoing.specs.Held.{CardHeld, OriginalHeld}
 use Rattle.outgoing.specs.Outgoing.{requestMessage}
 use Rattle.outgoing.specs.declared.Original.{Original}
-use Rattle.call_start.specs.Start.{requested}
+use Rattle.state_effects.specs.StateEffects.{requested}
 
 -- the request's fields are held, the buffer has room, and one more may be counted
 pub record MaySend (s : State) (q : Request) (o : Original) (m : List ℕ) : Type 0 where
   pub card : CardHeld (s .settings) q
   pub original : OriginalHeld (q .kind) o
   pub room : largest ≤ length m
-  pub few : s .counts .sent < mostRequests
+  pub counts : CountsSmall (s .counts)
 
 -- the bytes of the request
 unfoldable pub requestBytes : State → Request → Original → List ℕ

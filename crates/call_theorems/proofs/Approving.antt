@@ -22,10 +22,12 @@ use Rattle.state.specs.declared.Awaited.the-variants as awaited
 use Rattle.state.specs.declared.Phase.the-variants.{Waiting}
 use Rattle.state.specs.declared.State.{State}
 use Rattle.state.specs.State.{inPhase}
-use Rattle.rules.specs.Rules.{past, originalUnvoided, requestKept}
+use Rattle.rules.specs.Rules.{originalUnvoided, requestKept}
+use Rattle.state_rules.specs.StateRules.{past}
 use Rattle.rules.proofs.InOrder.{InOrder, Fit}
 use Rattle.approval.specs.Approval.{approvedEntry}
-use Rattle.call_answer.specs.Answer.{oneMore, originalVoided, approved}
+use Rattle.journal_effects.specs.JournalEffects.{originalVoided, approved}
+use Rattle.state_effects.specs.StateEffects.{oneMore}
 use Rattle.call_theorems.proofs.Growing.{Plain, KeepsPlain, original-kept, IsNew, plain-last, sums-last}
 
 -- what a journal has left for an awaited request

@@ -17,8 +17,10 @@ use Rattle.state.specs.declared.Request.{Request}
 use Rattle.state.specs.declared.Settings.{Settings}
 use Rattle.state.specs.declared.State.{State}
 use Rattle.checks.specs.Checks.{firstBroken}
-use Rattle.rules.specs.Rules.{tooShort, settingsInForm, isCard, requestInForm, stateInForm, sumsKept, balanced, keepsRule2, stateKept, journalKept}
-use Rattle.rules.proofs.InOrder.{SettingsHold, CardHolds, RequestHolds, StateHolds, JournalHolds, InOrder, Fit, fit}
+use Rattle.rules.specs.Rules.{tooShort, keepsRule2, journalKept}
+use Rattle.state_rules.specs.StateRules.{settingsInForm, isCard, requestInForm, stateInForm, sumsKept, balanced, stateKept}
+use Rattle.rules.proofs.InOrder.{JournalHolds, InOrder, Fit, fit}
+use Rattle.state_rules.proofs.Holds.{SettingsHold, CardHolds, RequestHolds, StateHolds}
 use Rattle.call_theorems.specs.Ready.{Ready}
 
 settings-back : (x : Settings) → SettingsHold x → settingsInForm x ≡ true
@@ -68,10 +70,10 @@ state-back s h =
       eq-eqb _ _ (h .approvals),
     )
 
-pub journal-back : (l : ℕ) (uploading : Bool) (item : Found) (es : List Entry) → JournalHolds l uploading item es
-    → journalKept l uploading item es ≡ true
+pub journal-back : (l : ℕ) (due : Entry → Bool) (uploading : Bool) (item : Found) (es : List Entry)
+    → JournalHolds l due uploading item es → journalKept l due uploading item es ≡ true
 unfolding journalKept sumsKept
-journal-back l uploading item es h =
+journal-back l due uploading item es h =
     rw (
       h .form,
       h .apart,
@@ -85,7 +87,7 @@ journal-back l uploading item es h =
 
 pub order-back : (s : State) (es : List Entry) → InOrder s es → keepsRule2 s es ≡ true
 unfolding keepsRule2
-order-back s es h = rw (state-back s (h .state), journal-back _ _ _ es (h .journal), h .phase-kept)
+order-back s es h = rw (state-back s (h .state), journal-back _ _ _ _ es (h .journal), h .phase-kept)
 
 pub ready-fits : (s : State) (j m : List ℕ) → Ready s j m → Fit s j m
 unfolding firstBroken

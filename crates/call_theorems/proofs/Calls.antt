@@ -21,17 +21,22 @@ use Rattle.state.specs.declared.State.{State}
 use Rattle.checks.specs.Checks.{firstBroken}
 use Rattle.state.specs.Calls.{refused, quiet}
 use Rattle.checks.proofs.Choices.{passed}
-use Rattle.rules.specs.Rules.{tooShort, keepsRule2, rules12}
-use Rattle.rules.proofs.InOrder.{Fit, reversal-holds}
+use Rattle.rules.specs.Rules.{tooShort, keepsRule2, rules12, due}
+use Rattle.rules.proofs.InOrder.{Fit}
+use Rattle.state_rules.proofs.Holds.{reversal-holds}
 use Rattle.outgoing.specs.Outgoing.{requestMessage, reversalMessage}
-use Rattle.call_sign_on.specs.SignOn.{signedOnRules, adopts, on, signedOn}
-use Rattle.call_start.specs.Start.{originalOf, entryOf, requestOf, namedBy, startRules, start}
-use Rattle.call_start.specs.declared.Desk.{Desk}
-use Rattle.call_reversal.specs.SendReversal.{again, sendFrom, sendReversalRules, sendReversal}
-use Rattle.call_settle.specs.Settle.{settlementMessage, settleRules, settle}
-use Rattle.call_upload.specs.SendNextUpload.{itemMessage, endMessage, sendsNext, uploadFrom, sendNextUploadRules, sendNextUpload}
+use Rattle.call_sign_on.specs.SignOn.{signedOnRules, signedOn}
+use Rattle.state_effects.specs.StateEffects.{adopts, on, again}
+use Rattle.call_start.specs.Start.{originalOf, entryOf, namedBy, startRules, start}
+use Rattle.desk.specs.DeskRules.{requestOf}
+use Rattle.desk.specs.declared.Desk.{Desk}
+use Rattle.call_reversal.specs.SendReversal.{sendFrom, sendReversalRules, sendReversal}
+use Rattle.call_settle.specs.Settle.{settleRules, settle}
+use Rattle.batch_messages.specs.BatchMessages.{settlementMessage, itemMessage, endMessage}
+use Rattle.call_upload.specs.SendNextUpload.{sendsNext, uploadFrom, sendNextUploadRules, sendNextUpload}
 use Rattle.answer_match.specs.Match.{isAnswer}
-use Rattle.call_answer.specs.Answer.{quietly, silentIn, noAnswerRules, noAnswer, withoutPower, powerReturned, answeredIn, answerRules, readIn, answer}
+use Rattle.call_answer.specs.Answer.{quietly, noAnswerRules, noAnswer, withoutPower, powerReturned, answeredIn, answerRules, readIn, answer}
+use Rattle.journal_effects.specs.JournalEffects.{silentIn}
 use Rattle.call_theorems.proofs.Back.{ready-fits}
 use Rattle.terminal.specs.Events.{Event, signed-on, starts, answers, no-answer, power-returned, send-reversal, settles, send-next-upload, call}
 use Rattle.terminal.specs.Shapes.{SettingsShaped, EventShaped}
@@ -121,7 +126,7 @@ settle-told s j m =
     (λ x. settlement-reads s j m (fits s j m (passed 1 rs refl z) (passed 2 rs refl z)) (x .0) trace (totalsOf es)))
 
 -- an item, or the end where none is left
-next-told : (s : State) (j m : List ℕ) → Fit s j m → (f : Found) → nextDue (entriesOf (s .entries) j) ≡ f
+next-told : (s : State) (j m : List ℕ) → Fit s j m → (f : Found) → nextDue (due Uploading) (entriesOf (s .entries) j) ≡ f
     → Told (Shapes send-next-upload s) s j m (sendsNext f s j m)
 next-told s j m h (At i) e =
     told-sent (messageBytes (itemMessage (s .settings) (s .batch) (entryAt (entriesOf (s .entries) j) i)))
@@ -135,7 +140,7 @@ upload-from s j m h Resting = told-quiet
 upload-from s j m h (Waiting a) = told-quiet
 upload-from s j m h (Pending v) = told-quiet
 upload-from s j m h Settling = told-quiet
-upload-from s j m h Uploading = next-told s j m h (nextDue (entriesOf (s .entries) j)) refl
+upload-from s j m h Uploading = next-told s j m h (nextDue (due Uploading) (entriesOf (s .entries) j)) refl
 
 send-next-upload-told : (s : State) (j m : List ℕ) → Told (Shapes send-next-upload s) s j m (sendNextUpload s j m)
 unfolding sendNextUpload

@@ -30,12 +30,16 @@ use Rattle.state.specs.declared.Count.the-variants.{Declined, Reversed}
 use Rattle.state.specs.State.{inPhase, counted, closed}
 use Rattle.checks.proofs.Choices.{passed}
 use Rattle.checks.specs.Checks.{firstBroken}
-use Rattle.rules.specs.Rules.{requestInForm, rules12}
-use Rattle.rules.proofs.InOrder.{Fit, request-holds}
+use Rattle.rules.specs.Rules.{rules12}
+use Rattle.state_rules.specs.StateRules.{requestInForm}
+use Rattle.rules.proofs.InOrder.{Fit}
+use Rattle.state_rules.proofs.Holds.{request-holds}
 use Rattle.answer_match.specs.Match.{isAnswer, matchesSent, holdsNamed, indicatorSent, approves, approvalHolds, goodMac, endsReversal, closesBatch}
 use Rattle.approval.specs.Approval.{approvedEntry}
 use Rattle.approval.proofs.Approval.{shaped, in-form}
-use Rattle.call_answer.specs.Answer.{Changed, changed, pendingOrUnanswered, failed, approved, silent, silentIn, noAnswerRules, noAnswer, withoutPower, powerReturned, onRequest, onReversal, onSettlement, onEnd, answered, answersIn, answeredIn, answerRules, answerIn, readIn, answer}
+use Rattle.call_answer.specs.Answer.{noAnswerRules, noAnswer, withoutPower, powerReturned, answersIn, answeredIn, answerRules, answerIn, readIn, answer}
+use Rattle.journal_effects.specs.JournalEffects.{Changed, changed, approved, silent, silentIn, onRequest, answered}
+use Rattle.state_effects.specs.StateEffects.{pendingOrUnanswered, failed, onReversal, onSettlement, onEnd}
 use Rattle.call_theorems.proofs.Refusing.{Fits, judged-fits}
 use Rattle.call_theorems.proofs.Phases.{pending-or-unanswered-fit, declined-fit, failed-fit, reversed-fit, settling-fit, uploading-fit, ending-fit, closed-fit, off-fit}
 use Rattle.call_theorems.proofs.Items.{silent-item, answered-item}

@@ -14,8 +14,10 @@ use Rattle.checks.specs.Checks.{firstBroken}
 use Rattle.state.specs.Calls.{quiet}
 use Rattle.state.proofs.Judged.{goes}
 use Rattle.rules.specs.Rules.{rules12}
-use Rattle.call_reversal.specs.SendReversal.{again, sendsReversal, sendFrom, sendReversalRules, sendReversal}
-use Rattle.call_answer.specs.Answer.{failed, silent, quietly, silentIn, noAnswerRules, noAnswer}
+use Rattle.call_reversal.specs.SendReversal.{sendsReversal, sendFrom, sendReversalRules, sendReversal}
+use Rattle.state_effects.specs.StateEffects.{again, failed}
+use Rattle.call_answer.specs.Answer.{quietly, noAnswerRules, noAnswer}
+use Rattle.journal_effects.specs.JournalEffects.{silent, silentIn}
 use Rattle.call_theorems.specs.Ready.{Ready, StaysReady}
 use Rattle.terminal.specs.Events.{no-answer, send-reversal}
 use Rattle.call_theorems.proofs.Keeping.{keeping}

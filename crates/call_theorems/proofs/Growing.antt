@@ -11,7 +11,7 @@ use Rattle.numbers.specs.Limits.{largestTotal}
 use Rattle.kinds.specs.Kinds.{sideOf, takesOriginal, originalKind, isVoidable}
 use Rattle.kinds.specs.declared.Side.{Side}
 use Rattle.kinds.specs.declared.Side.the-variants.{Debit, Credit, Neither}
-use Rattle.entry.specs.Form.{inForm, keepsVoided, keepsUnmarked, keepsResends, keepsSilent}
+use Rattle.entry.specs.Form.{inForm, keepsVoided, keepsUnmarked, keepsResends, keepsSilent, dueEntry}
 use Rattle.entry.specs.declared.Entry.{Entry}
 use Rattle.journal.specs.Journal.{entriesOf, entryAt, every, firstOf, hasTrace, isOriginal, totalsOf, absent, distinct, setByte, withVoided, changedAt}
 use Rattle.journal.specs.declared.Found.{Found}
@@ -24,14 +24,14 @@ use Rattle.journal.proofs.Searches.{first-at, every-at, every-after, every-chan
 use Rattle.journal.proofs.Sums.{voided-totals, totals-changed, totals-last, with-debit, with-credit, with-neither}
 use Rattle.journal.proofs.Traces.{voided-trace, absent-changed, distinct-changed, distinct-last}
 use Rattle.state.specs.declared.Request.{Request}
-use Rattle.rules.specs.Rules.{past, pastOn}
-use Rattle.call_answer.specs.Answer.{voidedAt, originalVoided}
+use Rattle.state_rules.specs.StateRules.{past, pastOn}
+use Rattle.journal_effects.specs.JournalEffects.{voidedAt, originalVoided}
 
 -- what rule 2 says of entries outside the upload, resent at most l times
 pub record Plain (l : ℕ) (es : List Entry) : Type 0 where
   pub form : every (λ i e. inForm e) 0 es ≡ true
   pub voided : every (λ i e. keepsVoided e) 0 es ≡ true
-  pub unmarked : every (λ i e. keepsUnmarked false e) 0 es ≡ true
+  pub unmarked : every (λ i e. keepsUnmarked dueEntry false e) 0 es ≡ true
   pub resends : every (λ i e. keepsResends l e) 0 es ≡ true
   pub silent : every (λ i e. keepsSilent l false e) 0 es ≡ true
   pub apart : distinct es ≡ true
@@ -42,7 +42,7 @@ module _ (x : ℕ) (e : Entry) where
   unfolding withVoided keepsVoided
   voided-voidable h = rw h (or-true (eqb x 0))
 
-  voided-unmarked : keepsUnmarked false (withVoided x e) ≡ keepsUnmarked false e
+  voided-unmarked : keepsUnmarked dueEntry false (withVoided x e) ≡ keepsUnmarked dueEntry false e
   unfolding withVoided keepsUnmarked
   voided-unmarked = refl
 
@@ -77,7 +77,7 @@ plain-voided l i es h v =
       voided =
           every-after (λ m e. keepsVoided e) (λ m e. keepsVoided e) (withVoided 1) 0 i es (h .voided) (λ m k o p. p)
           (λ k. voided-voidable 1 (entryAt es i) v);
-      unmarked = every-changed (λ m e. keepsUnmarked false e) (withVoided 1) (λ m e. voided-unmarked 1 e) i 0 es ∙ h .unmarked;
+      unmarked = every-changed (λ m e. keepsUnmarked dueEntry false e) (withVoided 1) (λ m e. voided-unmarked 1 e) i 0 es ∙ h .unmarked;
       resends = every-changed (λ m e. keepsResends l e) (withVoided 1) (λ m e. voided-resends 1 e l) i 0 es ∙ h .resends;
       silent = every-changed (λ m e. keepsSilent l false e) (withVoided 1) (λ m e. voided-silent 1 e l) i 0 es ∙ h .silent;
       apart = distinct-changed (withVoided 1) (voided-trace 1) i es ∙ h .apart;
@@ -132,7 +132,7 @@ module _ (e : Entry) (n : IsNew e) where
   unfolding keepsVoided
   new-voided = rw (n .unvoided)
 
-  new-unmarked : keepsUnmarked false e ≡ true
+  new-unmarked : keepsUnmarked dueEntry false e ≡ true
   unfolding keepsUnmarked
   new-unmarked = rw (n .unmarked, n .unsent)
 
@@ -154,7 +154,7 @@ plain-last l es e h n a =
     record {
       form = every-more inForm es e (h .form) (n .in-form);
       voided = every-more keepsVoided es e (h .voided) (new-voided e n);
-      unmarked = every-more (keepsUnmarked false) es e (h .unmarked) (new-unmarked e n);
+      unmarked = every-more (keepsUnmarked dueEntry false) es e (h .unmarked) (new-unmarked e n);
       resends = every-more (keepsResends l) es e (h .resends) (new-resends e n l);
       silent = every-more (keepsSilent l false) es e (h .silent) (new-silent e n l);
       apart = distinct-last es e ∙ rw (h .apart, a);

@@ -7,7 +7,7 @@ use native.Mathlib.Omega.{arith}
 use lib.Dec.{leb, eqb}
 use borrow.Author.Tests.{ne-eqb, eqb-true, leb-false}
 use Rattle.kinds.specs.Kinds.{isDue}
-use Rattle.entry.specs.Form.{inForm, keepsVoided, keepsUnmarked, keepsResends, keepsSilent}
+use Rattle.entry.specs.Form.{inForm, keepsVoided, keepsUnmarked, keepsResends, keepsSilent, dueEntry}
 use Rattle.entry.specs.declared.Entry.{Entry}
 use Rattle.journal.specs.Journal.{entriesOf, entryAt, isAt, nextDue, withMark, changedAt}
 use Rattle.journal.specs.declared.Found.{Found}
@@ -21,8 +21,9 @@ use Rattle.state.specs.declared.Awaited.the-variants as awaited
 use Rattle.state.specs.declared.Phase.the-variants.{Waiting, Uploading}
 use Rattle.state.specs.declared.State.{State}
 use Rattle.state.specs.State.{inPhase}
+use Rattle.rules.specs.Rules.{due}
 use Rattle.rules.proofs.InOrder.{InOrder, Fit}
-use Rattle.call_answer.specs.Answer.{silentMark, marked, onItem}
+use Rattle.journal_effects.specs.JournalEffects.{silentMark, marked, onItem}
 use Rattle.answer_match.specs.Match.{approves}
 use Rattle.message.specs.declared.Message.{Message}
 
@@ -32,7 +33,7 @@ module _ (x : ℕ) (e : Entry) where
   unfolding withMark keepsVoided
   mark-voided = refl
 
-  mark-unmarked : isDue (e .kind) ≡ true → keepsUnmarked true (withMark x e) ≡ true
+  mark-unmarked : isDue (e .kind) ≡ true → keepsUnmarked dueEntry true (withMark x e) ≡ true
   unfolding withMark keepsUnmarked
   mark-unmarked d = rw d
 
@@ -65,7 +66,7 @@ pub marked-order : (s : State) (es : List Entry) (i x : ℕ) → InOrder (inPhas
     → InOrder (inPhase Uploading s) (changedAt i (withMark x) es)
 marked-order s es i x h a b c =
     let l = s .settings .sendings in
-    let n = next-at es i (item-next (nextDue es) i (h .phase-kept)) in
+    let n = next-at es i (item-next (nextDue (due Uploading) es) i (h .phase-kept)) in
     let t = totals-changed (withMark x) (mark-totals x) i es in
     record {
       state =
@@ -91,7 +92,7 @@ marked-order s es i x h a b c =
             debit-most = rw t (h .journal .debit-most);
             credit-most = rw t (h .journal .credit-most);
             unmarked =
-                every-after (λ m e. keepsUnmarked true e) (λ m e. keepsUnmarked true e) (withMark x) 0 i es (h .journal .unmarked) (λ m k o p. p)
+                every-after (λ m e. keepsUnmarked dueEntry true e) (λ m e. keepsUnmarked dueEntry true e) (withMark x) 0 i es (h .journal .unmarked) (λ m k o p. p)
                 (λ k. mark-unmarked x (entryAt es i) (n .due));
             resends =
                 every-after (λ m e. keepsResends l e) (λ m e. keepsResends l e) (withMark x) 0 i es (h .journal .resends) (λ m k o p. p)
@@ -141,7 +142,7 @@ module _ (s : State) (j m : List ℕ) (i : ℕ) (h : Fit (inPhase (Waiting (awai
   silent-item =
       let l = s .settings .sendings in
       let es = entriesOf (s .entries) j in
-      let n = next-at es i (item-next (nextDue es) i (h .order .phase-kept)) in
+      let n = next-at es i (item-next (nextDue (due Uploading) es) i (h .order .phase-kept)) in
       let b = silent-bounds l (entryAt es i) in
       marked-fit (silentMark l (entryAt es i)) (b .0) (b .1)
       (silent-left l (entryAt es i) (h .order .state .settings .sendings-least)

@@ -3,7 +3,6 @@ use mathlib.Core.Path.{_≡_, refl}
 use mathlib.Core.List.{List}
 use mathlib.Core.Bool.{Bool, true, false, not, _&&_, _||_, and-eq-true-iff, true≢false}
 use Prim.Native.Nat.{ℕ, _≤_}
-use native.Mathlib.Omega.{arith}
 use lib.Dec.{eqb}
 use lib.ListN.{length, drop}
 use lib.Seq.{take-at}
@@ -17,37 +16,40 @@ use Rattle.reading.specs.declared.ReadOutcome.the-variants.{Read}
 use Rattle.writing.specs.Writing.{messageBytes}
 use Rattle.numbers.specs.declared.Trace.{Trace}
 use Rattle.numbers.specs.declared.Batch.{Batch}
-use Rattle.kinds.specs.Kinds.{indicatorOf, takesOriginal, originalKind}
+use Rattle.kinds.specs.Kinds.{indicatorOf, takesOriginal}
 use Rattle.entry.specs.Form.{inForm}
 use Rattle.entry.specs.Theorems.{Shaped}
 use Rattle.entry.specs.declared.Entry.{Entry}
 use Rattle.entry.proofs.Form.{in-form}
-use Rattle.journal.specs.Journal.{entriesOf, entryAt, every, isOriginal, nextDue, nowhere}
+use Rattle.journal.specs.Journal.{entriesOf, entryAt, nextDue, nowhere}
 use Rattle.journal.specs.declared.Found.{Found}
 use Rattle.journal.specs.declared.Found.the-variants.{At, Nowhere}
 use Rattle.kinds.specs.declared.Totals.{Totals}
 use Rattle.journal.proofs.Entries.{entry-shaped}
-use Rattle.journal.proofs.Searches.{first-at, every-at, next-at}
+use Rattle.journal.proofs.Searches.{every-at, next-at}
 use Rattle.state.specs.declared.Request.{Request}
 use Rattle.state.specs.declared.Reversal.{Reversal}
 use Rattle.state.specs.declared.Settings.{Settings}
+use Rattle.state.specs.declared.Phase.the-variants.{Uploading}
 use Rattle.state.specs.declared.State.{State}
 use Rattle.checks.specs.Checks.{firstBroken}
 use Rattle.checks.proofs.Choices.{passed}
-use Rattle.rules.specs.Rules.{isCard}
-use Rattle.rules.proofs.InOrder.{SettingsHold, Fit, card-holds}
+use Rattle.rules.specs.Rules.{due}
+use Rattle.state_rules.specs.StateRules.{isCard}
+use Rattle.rules.proofs.InOrder.{Fit}
+use Rattle.state_rules.proofs.Holds.{SettingsHold, card-holds}
 use Rattle.compose.specs.Compose.{allHeld}
 use Rattle.outgoing.specs.Held.{SettingsHeld, CardHeld, OriginalHeld}
 use Rattle.outgoing.specs.Outgoing.{requestFields, reversalFields, requestMessage, reversalMessage}
 use Rattle.outgoing.specs.declared.Original.{Original}
 use Rattle.outgoing.proofs.Leaving.{request-held, reversal-held, request-listed, reversal-listed, written-is}
 use Rattle.outgoing_theorems.proofs.Theorems.{sent-reads-back}
-use Rattle.call_start.specs.Start.{deskInForm, originalOf, entryOf, requestOf, namedBy, startRules}
-use Rattle.call_start.specs.declared.Desk.{Desk}
-use Rattle.call_settle.specs.Settle.{settlementFields, settlementMessage}
-use Rattle.call_settle.proofs.Held.{settlement-held, settlement-listed}
-use Rattle.call_upload.specs.SendNextUpload.{itemFields, itemMessage, endFields, endMessage}
-use Rattle.call_upload.proofs.Held.{EntryHeld, item-held, end-held, upload-listed}
+use Rattle.call_start.proofs.Held.{entry-in-form}
+use Rattle.call_start.specs.Start.{originalOf, entryOf, namedBy, startRules}
+use Rattle.desk.specs.DeskRules.{deskInForm, requestOf}
+use Rattle.desk.specs.declared.Desk.{Desk}
+use Rattle.batch_messages.specs.BatchMessages.{settlementFields, settlementMessage, itemFields, itemMessage, endFields, endMessage}
+use Rattle.batch_messages.proofs.Held.{settlement-held, settlement-listed, EntryHeld, item-held, end-held, upload-listed}
 use Rattle.terminal.specs.Shapes.{SettingsShaped}
 
 -- the bytes of a message of held fields read
@@ -81,15 +83,7 @@ card-held x q l h a b =
       merchant-printable = h .merchant-printable;
     }
 
--- the entry that was found is in form, and its arrays have their lengths
-original-form : (d : Desk) (es : List Entry) → every (λ i e. inForm e) 0 es ≡ true → (f : Found) → originalOf d es ≡ f
-    → nowhere f ≡ false → inForm (entryOf f es) ≡ true
-unfolding originalOf
-original-form d es h Nowhere q n = absurd (true≢false n)
-original-form d es h (At i) q n =
-    let f = first-at (isOriginal (originalKind (d .kind)) (d .original .0)) 0 es i q in
-    every-at (λ i e. inForm e) 0 es h i (omega (arith, f .below))
-
+-- the arrays of the entry that was found have their lengths
 original-shaped : (n : ℕ) (j : List ℕ) (f : Found) → nowhere f ≡ false → Shaped (entryOf f (entriesOf n j))
 original-shaped n j Nowhere e = absurd (true≢false e)
 original-shaped n j (At i) e = entry-shaped n i j
@@ -177,7 +171,7 @@ started-reads d s j m f n q h z x a r =
     let found : takesOriginal (d .kind) ≡ true → nowhere f ≡ false =
     λ t. rw q at (and-false (takesOriginal (d .kind)) (nowhere (originalOf d es)) (passed 19 rs refl z) t) in
     let w = request-sends d e (s .batch) n (desk-holds d (not-false (deskInForm d) (passed 16 rs refl z))) a r
-    (λ t. (original-form d es (h .order .journal .form) f q (found t), original-shaped (s .entries) j f (found t))) in
+    (λ t. (entry-in-form d es (h .order .journal .form) f q (found t), original-shaped (s .entries) j f (found t))) in
     request-reads (s .settings) (s .batch) (requestOf d e n) (namedBy d (s .batch) e) m
     (card-held (s .settings) (requestOf d e n) x (h .order .state .settings) (w .card-low) (w .card-high)) (w .original) (h .message-room)
 
@@ -213,7 +207,7 @@ module _ (s : State) (j m : List ℕ) (h : Fit s j m) (x : SettingsShaped (s .se
       (settlement-held (s .settings) (s .batch) (settings-held (s .settings) x (h .order .state .settings)) trace t) (h .message-room)
 
   -- the next due entry
-  pub item-reads : (i : ℕ) → nextDue (entriesOf (s .entries) j) ≡ At i
+  pub item-reads : (i : ℕ) → nextDue (due Uploading) (entriesOf (s .entries) j) ≡ At i
       → readMessage (messageBytes (itemMessage (s .settings) (s .batch) (entryAt (entriesOf (s .entries) j) i))) .outcome ≡ Read
   unfolding itemMessage
   item-reads i q =

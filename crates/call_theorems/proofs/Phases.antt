@@ -8,7 +8,7 @@ use lib.Dec.{leb, eqb}
 use borrow.Author.Tests.{leb-false, lt-ltb, ltb-true}
 use Rattle.numbers.specs.Limits.{lastNumber}
 use Rattle.kinds.specs.Kinds.{isDue, isNeverReversed}
-use Rattle.entry.specs.Form.{keepsUnmarked, keepsSilent}
+use Rattle.entry.specs.Form.{keepsUnmarked, keepsSilent, dueEntry}
 use Rattle.entry.specs.declared.Entry.{Entry}
 use Rattle.journal.specs.Journal.{entriesOf, every, isAt, totalsOf, sumsOf}
 use Rattle.journal.proofs.Searches.{every-implies}
@@ -25,10 +25,10 @@ use Rattle.state.specs.declared.Counts.{Counts}
 use Rattle.state.specs.declared.State.{State}
 use Rattle.state.specs.declared.Count.the-variants.{Declined, Reversed, GivenUp, Unanswered}
 use Rattle.state.specs.State.{plus, counted, inPhase, withCounts, withNext, inBatch, signed, closed}
-use Rattle.rules.specs.Rules.{requestInForm, reversalInForm, phaseInForm, inUpload, awaitedItem, waiting, phaseKept}
+use Rattle.rules.specs.Rules.{inUpload, awaitedItem, phaseKept, due}
+use Rattle.state_rules.specs.StateRules.{requestInForm, reversalInForm, phaseInForm, waiting}
 use Rattle.rules.proofs.InOrder.{JournalHolds, Fit}
-use Rattle.call_reversal.specs.SendReversal.{again}
-use Rattle.call_answer.specs.Answer.{pendingOrUnanswered, failed}
+use Rattle.state_effects.specs.StateEffects.{again, pendingOrUnanswered, failed}
 use Rattle.numbers.proofs.Bounds.{within-yes}
 
 -- what a new phase and new counts must keep
@@ -37,7 +37,7 @@ pub record Moves (p : Phase) (c : Counts) (s : State) (es : List Entry) : Type 0
   pub approved-same : c .approved ≡ s .counts .approved
   pub phase-form : phaseInForm p ≡ true
   pub balance : c .sent ≡ c .approved + c .declined + c .reversed + c .«given_up» + c .unanswered + waiting p
-  pub journal : JournalHolds (s .settings .sendings) (inUpload p) (awaitedItem p) es
+  pub journal : JournalHolds (s .settings .sendings) (due p) (inUpload p) (awaitedItem p) es
   pub phase-kept : phaseKept (s .settings) (s .entries) es p ≡ true
 
 pub moved : (p : Phase) (c : Counts) (s : State) (j m : List ℕ) → Fit s j m → Moves p c s (entriesOf (s .entries) j)
@@ -68,7 +68,7 @@ moved p c s j m f w =
     }
 
 -- no mark stands as the upload begins
-upload-begins : (e : Entry) → keepsUnmarked false e ≡ true → keepsUnmarked true e ≡ true
+upload-begins : (e : Entry) → keepsUnmarked dueEntry false e ≡ true → keepsUnmarked dueEntry true e ≡ true
 unfolding keepsUnmarked
 upload-begins e h = rw h (or-true (isDue (e .kind)))
 
@@ -208,7 +208,7 @@ module _ (s : State) (j m : List ℕ) where
               debit-most = h .order .journal .debit-most;
               credit-most = h .order .journal .credit-most;
               unmarked =
-                  every-implies (λ i e. keepsUnmarked false e) (λ i e. keepsUnmarked true e) (λ i e. upload-begins e)
+                  every-implies (λ i e. keepsUnmarked dueEntry false e) (λ i e. keepsUnmarked dueEntry true e) (λ i e. upload-begins e)
                   0 (entriesOf (s .entries) j) (h .order .journal .unmarked);
               resends = h .order .journal .resends;
               silent = h .order .journal .silent;

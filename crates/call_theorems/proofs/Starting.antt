@@ -14,12 +14,12 @@ use Rattle.kinds.specs.Kinds.{isKind, takesOriginal, originalKind}
 use Rattle.entry.specs.Form.{inForm}
 use Rattle.entry.specs.declared.Entry.{Entry}
 use Rattle.entry.proofs.Form.{in-form}
-use Rattle.numbers.proofs.Bounds.{within-bounds}
+use Rattle.numbers.proofs.Bounds.{within-bounds, within-yes}
 use Rattle.journal.specs.Journal.{entriesOf, entryAt, every, hasTrace, isOriginal, totalsOf, absent, taken, nowhere}
 use Rattle.journal.specs.declared.Found.{Found}
 use Rattle.journal.specs.declared.Found.the-variants.{At, Nowhere}
 use Rattle.journal.proofs.Entries.{length-entries-le}
-use Rattle.journal.proofs.Searches.{first-at, every-at}
+use Rattle.journal.proofs.Searches.{first-at}
 use Rattle.traces.proofs.Free.{taken-free, taken-range, following-range}
 use Rattle.state.specs.declared.Request.{Request}
 use Rattle.state.specs.declared.Phase.{Phase}
@@ -27,15 +27,18 @@ use Rattle.state.specs.declared.Phase.the-variants.{Resting, Waiting, Pending, 
 use Rattle.state.specs.declared.State.{State}
 use Rattle.state.specs.State.{inPhase, waits, pends, closes}
 use Rattle.checks.specs.Checks.{firstBroken}
-use Rattle.state.specs.Calls.{sends}
 use Rattle.checks.proofs.Choices.{passed}
-use Rattle.rules.specs.Rules.{isCard, requestInForm, past, unvoidedAt, originalUnvoided, requestKept}
-use Rattle.rules.proofs.InOrder.{RequestHolds, card-holds, Fit}
+use Rattle.rules.specs.Rules.{unvoidedAt, originalUnvoided, requestKept}
+use Rattle.state_rules.specs.StateRules.{isCard, requestInForm, past}
+use Rattle.rules.proofs.InOrder.{Fit}
+use Rattle.state_rules.proofs.Holds.{RequestHolds, card-holds}
 use Rattle.outgoing.specs.Outgoing.{requestMessage}
-use Rattle.call_start.specs.Start.{deskInForm, originalOf, entryOf, requestOf, namedBy, startRules, requested, start}
-use Rattle.call_start.specs.declared.Desk.{Desk}
+use Rattle.call_start.proofs.Held.{found-for, entry-in-form}
+use Rattle.call_start.specs.Start.{originalOf, entryOf, namedBy, startRules, start}
+use Rattle.desk.specs.DeskRules.{deskInForm, requestOf}
+use Rattle.state_effects.specs.StateEffects.{requested}
+use Rattle.desk.specs.declared.Desk.{Desk}
 use Rattle.call_theorems.proofs.Back.{request-back}
-use Rattle.numbers.proofs.Bounds.{within-yes}
 use Rattle.call_theorems.proofs.Refusing.{Fits, judged-fits, sent-fits}
 
 -- a request leaves a resting terminal
@@ -88,14 +91,13 @@ original-trace k x e h = eqb-true (e .trace .0) x (and-eq-true-iff (eqb (e .kind
 
 original-found : (d : Desk) (es : List Entry) → every (λ i e. inForm e) 0 es ≡ true → (f : Found) → originalOf d es ≡ f
     → nowhere f ≡ false → not (eqb (entryOf f es .voided) 0) ≡ false → IsOriginal d es (entryOf f es)
-unfolding originalOf
 original-found d es h Nowhere q n v = absurd (true≢false n)
 original-found d es h (At i) q n v =
     let o = isOriginal (originalKind (d .kind)) (d .original .0) in
-    let f = first-at o 0 es i q in
+    let f = first-at o 0 es i (found-for d es (At i) q n) in
     let z : i - 0 ≡ i = omega arith in
     record {
-      is-form = every-at (λ i e. inForm e) 0 es h i (omega (arith, f .below));
+      is-form = entry-in-form d es h (At i) q n;
       trace = original-trace (originalKind (d .kind)) (d .original .0) (entryAt es i) (rw z at (f .holds));
       left = rw q (not-false _ v);
     }
@@ -160,7 +162,7 @@ unfolding originalUnvoided originalOf
 original-is-left d es e n o = go (takesOriginal (d .kind)) refl
   where
     go : (b : Bool) → takesOriginal (d .kind) ≡ b → originalUnvoided (d .kind) (requestOf d e n .original .0) es ≡ true
-    go true t = rw t (o t .left)
+    go true t = rw t (rw t at (o t .left))
     go false t = rw t
 
 kept : (limit n : ℕ) (es : List Entry) (q : Request) → n < limit → past (q .kind) (q .amount) (totalsOf es) ≡ false

@@ -11,7 +11,7 @@ use Rattle.numbers.specs.Numbers.{following}
 use Rattle.kinds.specs.Kinds.{isDue}
 use Rattle.writing.specs.Writing.{messageBytes}
 use Rattle.numbers.specs.declared.Trace.{Trace}
-use Rattle.entry.specs.Form.{inForm, keepsVoided, keepsUnmarked, keepsResends, keepsSilent}
+use Rattle.entry.specs.Form.{inForm, keepsVoided, keepsUnmarked, keepsResends, keepsSilent, dueEntry}
 use Rattle.entry.specs.declared.Entry.{Entry}
 use Rattle.journal.specs.Journal.{entriesOf, entryAt, isAt, dueWith, nextDue, setByte, withResends, changedAt, taken}
 use Rattle.journal.specs.declared.Found.{Found}
@@ -28,8 +28,12 @@ use Rattle.state.specs.declared.Phase.the-variants.{Resting, Waiting, Pending, 
 use Rattle.state.specs.declared.State.{State}
 use Rattle.state.specs.State.{inPhase}
 use Rattle.checks.specs.Checks.{firstBroken}
+use Rattle.rules.specs.Rules.{due}
 use Rattle.rules.proofs.InOrder.{InOrder, Fit}
-use Rattle.call_upload.specs.SendNextUpload.{itemMessage, endMessage, resent, ending, sendsNext, uploadFrom, sendNextUploadRules, sendNextUpload}
+use Rattle.call_upload.specs.SendNextUpload.{sendsNext, uploadFrom, sendNextUploadRules, sendNextUpload}
+use Rattle.batch_messages.specs.BatchMessages.{itemMessage, endMessage}
+use Rattle.journal_effects.specs.JournalEffects.{resent}
+use Rattle.state_effects.specs.StateEffects.{ending}
 use Rattle.numbers.proofs.Bounds.{within-yes}
 use Rattle.call_theorems.proofs.Refusing.{Fits, judged-fits, sent-fits}
 use Rattle.call_theorems.proofs.Phases.{moved, next-fit}
@@ -51,7 +55,7 @@ module _ (x : ℕ) (e : Entry) where
   unfolding withResends keepsVoided
   resends-voided = refl
 
-  resends-unmarked : isDue (e .kind) ≡ true → keepsUnmarked true (withResends x e) ≡ true
+  resends-unmarked : isDue (e .kind) ≡ true → keepsUnmarked dueEntry true (withResends x e) ≡ true
   unfolding withResends keepsUnmarked
   resends-unmarked d = rw d
 
@@ -59,17 +63,17 @@ module _ (x : ℕ) (e : Entry) where
   unfolding withResends keepsResends
   resends-resends l h k = rw (le-leb x l h, k)
 
-  resends-due : (mark : ℕ) → dueWith mark (withResends x e) ≡ dueWith mark e
+  resends-due : (mark : ℕ) → dueWith dueEntry mark (withResends x e) ≡ dueWith dueEntry mark e
   unfolding withResends dueWith
   resends-due mark = refl
 
 -- a resend does not change which entry is next
-next-resent : (x i : ℕ) (es : List Entry) → nextDue (changedAt i (withResends x) es) ≡ nextDue es
+next-resent : (x i : ℕ) (es : List Entry) → nextDue (due Uploading) (changedAt i (withResends x) es) ≡ nextDue (due Uploading) es
 unfolding nextDue
 next-resent x i es =
     rw (
-      first-changed (dueWith 0) (withResends x) (λ e. resends-due x e 0) i 0 es,
-      first-changed (dueWith 1) (withResends x) (λ e. resends-due x e 1) i 0 es,
+      first-changed (dueWith dueEntry 0) (withResends x) (λ e. resends-due x e 0) i 0 es,
+      first-changed (dueWith dueEntry 1) (withResends x) (λ e. resends-due x e 1) i 0 es,
     )
 
 -- a mark 1 that is not awaited has a resend left
@@ -84,7 +88,7 @@ resend-left l e k r h =
     go false q m h = let n = eqb-false (e .resends) l q in omega arith
 
 -- the next item leaves
-module _ (s : State) (j m : List ℕ) (i : ℕ) (h : Fit (inPhase Uploading s) j m) (n : nextDue (entriesOf (s .entries) j) ≡ At i) where
+module _ (s : State) (j m : List ℕ) (i : ℕ) (h : Fit (inPhase Uploading s) j m) (n : nextDue (due Uploading) (entriesOf (s .entries) j) ≡ At i) where
   -- the first time
   first-fit : Fit (inPhase (Waiting (awaited.Item i)) s) j m
   first-fit =
@@ -147,7 +151,7 @@ module _ (s : State) (j m : List ℕ) (i : ℕ) (h : Fit (inPhase Uploading s) j
               debit-most = rw t (o .journal .debit-most);
               credit-most = rw t (o .journal .credit-most);
               unmarked =
-                  every-after (λ k e. keepsUnmarked true e) (λ k e. keepsUnmarked true e) (withResends x) 0 i es (o .journal .unmarked) (λ k b d p. p)
+                  every-after (λ k e. keepsUnmarked dueEntry true e) (λ k e. keepsUnmarked dueEntry true e) (withResends x) 0 i es (o .journal .unmarked) (λ k b d p. p)
                   (λ b. resends-unmarked x e (r .due));
               resends =
                   every-after (λ k e. keepsResends l e) (λ k e. keepsResends l e) (withResends x) 0 i es (o .journal .resends) (λ k b d p. p)
@@ -184,7 +188,7 @@ module _ (s : State) (j m : List ℕ) (i : ℕ) (h : Fit (inPhase Uploading s) j
 
 -- the end leaves: no due entry is 0 or 1
 end-fit : (s : State) (j m : List ℕ) (x : Trace) → 1 ≤ x .0 → x .0 ≤ lastNumber → Fit (inPhase Uploading s) j m
-    → nextDue (entriesOf (s .entries) j) ≡ Nowhere → Fit (ending s x) j m
+    → nextDue (due Uploading) (entriesOf (s .entries) j) ≡ Nowhere → Fit (ending s x) j m
 end-fit s j m x a b h n =
     let r = following-range (x .0) in
     next-fit (inPhase (Waiting (awaited.End x)) s) j m (record { 0 = following (x .0) }) (r .0) (r .1)
@@ -198,7 +202,7 @@ end-fit s j m x a b h n =
       phase-kept = rw n;
     }))
 
-next-fits : (s : State) (j m : List ℕ) → Fit (inPhase Uploading s) j m → (f : Found) → nextDue (entriesOf (s .entries) j) ≡ f
+next-fits : (s : State) (j m : List ℕ) → Fit (inPhase Uploading s) j m → (f : Found) → nextDue (due Uploading) (entriesOf (s .entries) j) ≡ f
     → Fits (sendsNext f (inPhase Uploading s) j m)
 next-fits s j m h (At i) n =
     sent-fits (messageBytes (itemMessage (s .settings) (s .batch) (entryAt (entriesOf (s .entries) j) i))) _ _ m
@@ -214,7 +218,7 @@ upload-from Resting s j m h = h
 upload-from (Waiting a) s j m h = h
 upload-from (Pending v) s j m h = h
 upload-from Settling s j m h = h
-upload-from Uploading s j m h = next-fits s j m h (nextDue (entriesOf (s .entries) j)) refl
+upload-from Uploading s j m h = next-fits s j m h (nextDue (due Uploading) (entriesOf (s .entries) j)) refl
 
 pub upload-fits : (s : State) (j m : List ℕ) → Fit s j m → Fits (sendNextUpload s j m)
 unfolding sendNextUpload

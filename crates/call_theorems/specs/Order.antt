@@ -11,7 +11,7 @@ use Rattle.state.specs.declared.State.{State}
 use Rattle.rules.specs.Rules.{rules12}
 use Rattle.call_sign_on.specs.SignOn.{signedOnRules}
 use Rattle.call_start.specs.Start.{startRules}
-use Rattle.call_start.specs.declared.Desk.{Desk}
+use Rattle.desk.specs.declared.Desk.{Desk}
 use Rattle.call_answer.specs.Answer.{answerRules, noAnswerRules}
 use Rattle.call_reversal.specs.SendReversal.{sendReversalRules}
 use Rattle.call_settle.specs.Settle.{settleRules}

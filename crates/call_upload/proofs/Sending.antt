@@ -1,7 +1,7 @@
 -- Laws of the rules of send next upload, and of the item or the end that leaves.
 use mathlib.Core.Path.{_≡_, refl, sym, ap, _∙_}
 use mathlib.Core.List.{List, [], _∷_}
-use mathlib.Core.Bool.{Bool, true, false, not, _||_, and-eq-true-iff}
+use mathlib.Core.Bool.{true, false, not, _||_, and-eq-true-iff}
 use Prim.Native.Nat.{ℕ, _≤_, _<_}
 use native.Mathlib.Omega.{arith}
 use lib.Dec.{leb, eqb}
@@ -27,19 +27,22 @@ use Rattle.state.specs.declared.Phase.{Phase}
 use Rattle.state.specs.declared.Phase.the-variants.{Waiting, Uploading}
 use Rattle.state.specs.declared.State.{State}
 use Rattle.state.specs.State.{inPhase, isUploading}
-use Rattle.checks.specs.Checks.{Rule, rule, firstBroken}
-use Rattle.state.specs.Calls.{resultOf, refused}
+use Rattle.checks.specs.Checks.{rule, firstBroken}
+use Rattle.state.specs.Calls.{resultOf}
 use Rattle.checks.proofs.Choices.{first-stops, last-broken, last-kept}
 use Rattle.state.proofs.Judged.{refuses, goes}
-use Rattle.rules.specs.Rules.{idleRules}
+use Rattle.rules.specs.Rules.{idleRules, due}
 use Rattle.rules.proofs.InOrder.{Fit}
 use Rattle.rules.proofs.Idle.{idle-fit}
 use Rattle.compose.specs.Compose.{allHeld, withAll}
 use Rattle.compose.proofs.Composed.{all-composed}
 use Rattle.outgoing.specs.Outgoing.{lengthOf}
 use Rattle.outgoing.proofs.Leaving.{written-is}
-use Rattle.call_upload.specs.SendNextUpload.{itemFields, itemMessage, endFields, endMessage, sendNextUploadRules, resent, sendsItem, ending, sendsEnd, sendsNext, uploadFrom, sendNextUpload}
-use Rattle.call_upload.proofs.Held.{EntryHeld, item-held, end-held, upload-listed}
+use Rattle.call_upload.specs.SendNextUpload.{sendNextUploadRules, sendsItem, sendsEnd, sendsNext, uploadFrom, sendNextUpload}
+use Rattle.batch_messages.specs.BatchMessages.{itemFields, itemMessage, endFields, endMessage}
+use Rattle.journal_effects.specs.JournalEffects.{resent}
+use Rattle.state_effects.specs.StateEffects.{ending}
+use Rattle.batch_messages.proofs.Held.{EntryHeld, item-held, end-held, upload-listed}
 use Rattle.outgoing.specs.Held.{SettingsHeld}
 
 module _ (s : State) (j m : List ℕ) (n : ℕ) (e : n ≡ firstBroken (idleRules s j m)) where
@@ -58,7 +61,7 @@ module _ (s : State) (j m : List ℕ) (n : ℕ) (e : n ≡ firstBroken (idleRule
       (last-broken (idleRules s j m) n refl e z 14 (not (isUploading s)) (rw f)) (λ x. omega arith))
 
   pub goes-out : (r : Called) (k o : List ℕ) → n ≡ 0 → s .phase ≡ Uploading
-      → resultOf r k o ≡ sendsNext (nextDue (entriesOf (s .entries) j)) s j m → resultOf r k o ≡ sendNextUpload s j m
+      → resultOf r k o ≡ sendsNext (nextDue (due Uploading) (entriesOf (s .entries) j)) s j m → resultOf r k o ≡ sendNextUpload s j m
   unfolding sendNextUpload
   goes-out r k o z f h =
       goes 0 (firstBroken (sendNextUploadRules s j m)) s j m (resultOf r k o) (uploadFrom (s .phase) s j m)
@@ -91,7 +94,7 @@ module _ (s : State) (j m : List ℕ) (z : firstBroken (idleRules s j m) ≡ 0) 
     pub end-fields : (trace : Trace) → allHeld (endFields (s .settings) (s .batch) trace) ≡ true
     end-fields trace = end-held (s .settings) (s .batch) settings-held trace
 
-    pub item-fields : (p : Found) (i : ℕ) (e : Entry) → p ≡ nextDue (entriesOf (s .entries) j) → p ≡ At i → e ≡ entryAt (entriesOf (s .entries) j) i
+    pub item-fields : (p : Found) (i : ℕ) (e : Entry) → p ≡ nextDue (due Uploading) (entriesOf (s .entries) j) → p ≡ At i → e ≡ entryAt (entriesOf (s .entries) j) i
         → allHeld (itemFields (s .settings) (s .batch) e) ≡ true
     item-fields p i e f a q = rw q (item-held (s .settings) (s .batch) settings-held _ held)
       where
@@ -110,7 +113,7 @@ module _ (s : State) (j m : List ℕ) (z : firstBroken (idleRules s j m) ≡ 0) 
               authorisation-printable = w .authorisation-printable;
             }
 
-  pub resends-low : (p : Found) (i : ℕ) (e : Entry) → p ≡ nextDue (entriesOf (s .entries) j) → p ≡ At i → e ≡ entryAt (entriesOf (s .entries) j) i → e .resends < 255
+  pub resends-low : (p : Found) (i : ℕ) (e : Entry) → p ≡ nextDue (due Uploading) (entriesOf (s .entries) j) → p ≡ At i → e ≡ entryAt (entriesOf (s .entries) j) i → e .resends < 255
   resends-low p i e f a q =
       let es = entriesOf (s .entries) j in
       let x = next-at es i (sym f ∙ a) in
@@ -148,14 +151,14 @@ end-left s t trace j m b k o h r p q w u =
     rw (q, w, u, wr)
 
 -- the item or the end, as what is due says
-pub item-next : (s : State) (j d m o : List ℕ) (p : Found) (i : ℕ) (e : Entry) (r : Called) → p ≡ nextDue (entriesOf (s .entries) j) → p ≡ At i
+pub item-next : (s : State) (j d m o : List ℕ) (p : Found) (i : ℕ) (e : Entry) (r : Called) → p ≡ nextDue (due Uploading) (entriesOf (s .entries) j) → p ≡ At i
     → e ≡ entryAt (entriesOf (s .entries) j) i → resultOf r d o ≡ sendsItem i e s j m
-    → resultOf r d o ≡ sendsNext (nextDue (entriesOf (s .entries) j)) s j m
+    → resultOf r d o ≡ sendsNext (nextDue (due Uploading) (entriesOf (s .entries) j)) s j m
 item-next s j d m o p i e r f a q h =
     h ∙ ap (λ (x : Entry). sendsItem i x s j m) q ∙ sym (ap (λ (x : Found). sendsNext x s j m) (sym f ∙ a))
 
-pub end-next : (s : State) (j m o : List ℕ) (p : Found) (trace : Trace) (r : Called) → p ≡ nextDue (entriesOf (s .entries) j) → p ≡ Nowhere
+pub end-next : (s : State) (j m o : List ℕ) (p : Found) (trace : Trace) (r : Called) → p ≡ nextDue (due Uploading) (entriesOf (s .entries) j) → p ≡ Nowhere
     → trace ≡ record { 0 = taken (entriesOf (s .entries) j) (s .next .0) } → resultOf r j o ≡ sendsEnd trace s j m
-    → resultOf r j o ≡ sendsNext (nextDue (entriesOf (s .entries) j)) s j m
+    → resultOf r j o ≡ sendsNext (nextDue (due Uploading) (entriesOf (s .entries) j)) s j m
 end-next s j m o p trace r f a q h =
     h ∙ ap (λ (x : Trace). sendsEnd x s j m) q ∙ sym (ap (λ (x : Found). sendsNext x s j m) (sym f ∙ a))

@@ -21,8 +21,10 @@ use Rattle.rules.proofs.InOrder.{Fit}
 use Rattle.answer_match.specs.Match as terminal
 use Rattle.answer_match.specs.Match.{isAnswer, matchesSent, holdsNamed, indicatorSent, approves, approvalHolds, goodMac, endsReversal}
 use Rattle.approval.specs.Approval.{approvedEntry}
-use Rattle.call_answer.specs.Answer as answering
-use Rattle.call_answer.specs.Answer.{changed, pendingOrUnanswered, failed, onRequest, onReversal, onSettlement, onItem, onEnd, answered, traceSent}
+use Rattle.journal_effects.specs.JournalEffects as effects
+use Rattle.call_answer.specs.Answer.{traceSent}
+use Rattle.journal_effects.specs.JournalEffects.{changed, onRequest, onItem, answered}
+use Rattle.state_effects.specs.StateEffects.{pendingOrUnanswered, failed, onReversal, onSettlement, onEnd}
 use Rattle.history.specs.Words.{messageIn, amountIn, isMatching, closesBatch}
 use Rattle.history.specs.History as history
 use Rattle.history.specs.History.{declined, reversed, deciding, out, ended, Request, Account, becomes, approvedFor, byFate, whenHeard, decided, afterAnswer}
@@ -58,8 +60,8 @@ module _ (l : ℕ) (good : Bool) (b : List ℕ) (read : readMessage b .outcome �
   head = latest .head
 
   approved-tied : approvalHolds (q .amount) (messageIn b) ≡ true → approves (messageIn b) ≡ true
-      → TiedAfter l (answering.approved q (approvedEntry q (messageIn b)) s j) (accountOf (approvedFor (amountIn (head .message)) head ∷ latest .rest) (a .last))
-  unfolding answering.approved
+      → TiedAfter l (effects.approved q (approvedEntry q (messageIn b)) s j) (accountOf (approvedFor (amountIn (head .message)) head ∷ latest .rest) (a .last))
+  unfolding effects.approved
   approved-tied n e =
       let r = messageIn b in
       let t = approved-totals b q s j m read fits n e in
@@ -87,7 +89,7 @@ module _ (l : ℕ) (good : Bool) (b : List ℕ) (read : readMessage b .outcome �
     where
       go : (x y : Bool) → approves (messageIn b) ≡ x
           → TiedAfter l
-          (cond x (cond y (answering.approved q (approvedEntry q (messageIn b)) s j) (changed (pendingOrUnanswered BadMac q s) j))
+          (cond x (cond y (effects.approved q (approvedEntry q (messageIn b)) s j) (changed (pendingOrUnanswered BadMac q s) j))
           (changed (inPhase Resting (counted Declined s)) j))
           (accountOf
           (cond x (cond y (approvedFor (amountIn (head .message)) head) (history.pendingOrUnanswered head)) (becomes (ended declined) head)

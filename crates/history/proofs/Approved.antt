@@ -30,12 +30,14 @@ use Rattle.state.specs.declared.Awaited.the-variants as awaited
 use Rattle.state.specs.declared.Phase.the-variants.{Waiting}
 use Rattle.state.specs.declared.State.{State}
 use Rattle.state.specs.State.{inPhase}
-use Rattle.rules.specs.Rules.{requestInForm, requestKept}
-use Rattle.rules.proofs.InOrder.{Fit, request-holds}
+use Rattle.rules.specs.Rules.{requestKept}
+use Rattle.state_rules.specs.StateRules.{requestInForm}
+use Rattle.rules.proofs.InOrder.{Fit}
+use Rattle.state_rules.proofs.Holds.{request-holds}
 use Rattle.answer_match.specs.Match.{approves, approvalHolds}
 use Rattle.approval.specs.Approval.{approvedEntry}
 use Rattle.approval.proofs.Approval.{shaped, in-form}
-use Rattle.call_answer.specs.Answer.{voidedAt, originalVoided, approved}
+use Rattle.journal_effects.specs.JournalEffects.{voidedAt, originalVoided, approved}
 use Rattle.history.specs.Words.{messageIn}
 
 -- the journal in which an original is voided: as long, and of the same totals

@@ -19,9 +19,11 @@ use Rattle.state.specs.Calls.{refused}
 use Rattle.checks.proofs.Choices.{passed}
 use Rattle.rules.specs.Rules.{rules12}
 use Rattle.rules.proofs.InOrder.{Fit, fit}
-use Rattle.call_sign_on.specs.SignOn.{signedOnRules, adopts, signedOn}
+use Rattle.call_sign_on.specs.SignOn.{signedOnRules, signedOn}
+use Rattle.state_effects.specs.StateEffects.{adopts}
 use Rattle.answer_match.specs.Match.{isAnswer}
-use Rattle.call_answer.specs.Answer.{quietly, silentIn, noAnswerRules, noAnswer, withoutPower, powerReturned, answersIn, answeredIn, answerRules, answerIn, readIn, answer}
+use Rattle.call_answer.specs.Answer.{quietly, noAnswerRules, noAnswer, withoutPower, powerReturned, answersIn, answeredIn, answerRules, answerIn, readIn, answer}
+use Rattle.journal_effects.specs.JournalEffects.{silentIn}
 use Rattle.terminal.specs.Events.{Event, signed-on, starts, answers, no-answer, power-returned, send-reversal, settles, send-next-upload, call}
 use Rattle.terminal.specs.Shapes.{EventShaped}
 use Rattle.history.specs.Words.{messageIn}

@@ -38,8 +38,10 @@ use Rattle.state.specs.declared.Phase.{Phase}
 use Rattle.state.specs.declared.Phase.the-variants.{Resting, Waiting, Pending, Settling, Uploading}
 use Rattle.state.specs.declared.Settings.{Settings}
 use Rattle.state.specs.declared.State.{State}
-use Rattle.rules.specs.Rules.{settingsInForm, rules12}
-use Rattle.rules.proofs.InOrder.{Fit, settings-hold}
+use Rattle.rules.specs.Rules.{rules12, due}
+use Rattle.state_rules.specs.StateRules.{settingsInForm}
+use Rattle.rules.proofs.InOrder.{Fit}
+use Rattle.state_rules.proofs.Holds.{settings-hold}
 use Rattle.answer_match.specs.Match.{isAnswer}
 use Rattle.call_sign_on.specs.SignOn.{signedOnRules, signedOn}
 use Rattle.call_start.specs.Start.{originalOf, entryOf, startRules, start}
@@ -217,7 +219,7 @@ upload-above Resting s j m = tt
 upload-above (Waiting a) s j m = tt
 upload-above (Pending v) s j m = tt
 upload-above Settling s j m = tt
-upload-above Uploading s j m = next-above (nextDue (entriesOf (s .entries) j)) s j m
+upload-above Uploading s j m = next-above (nextDue (due Uploading) (entriesOf (s .entries) j)) s j m
 
 answer-above : (good : Bool) (a : Message) (s : State) (j m : List ℕ) → Above (answerIn good a s j m .outcome)
 unfolding judged

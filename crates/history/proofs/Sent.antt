@@ -27,17 +27,14 @@ use Rattle.kinds.specs.declared.Totals.{Totals}
 use Rattle.state.specs.declared.Request.{Request}
 use Rattle.state.specs.declared.Reversal.{Reversal}
 use Rattle.state.specs.declared.Settings.{Settings}
-use Rattle.rules.proofs.InOrder.{RequestHolds}
+use Rattle.state_rules.proofs.Holds.{RequestHolds}
 use Rattle.outgoing.specs.declared.Original.{Original}
 use Rattle.outgoing.specs.Outgoing.{requestFields, reversalFields, requestMessage, reversalMessage}
-use Rattle.outgoing.specs.Held.{CardHeld, OriginalHeld}
+use Rattle.outgoing.specs.Held.{CardHeld, OriginalHeld, SettingsHeld}
 use Rattle.outgoing.proofs.Leaving.{request-held, reversal-held, request-listed, reversal-listed}
-use Rattle.call_settle.specs.Settle.{field48, settlementFields, settlementMessage}
-use Rattle.call_upload.specs.SendNextUpload.{itemFields, itemMessage, endFields, endMessage}
+use Rattle.batch_messages.specs.BatchMessages.{field48, settlementFields, settlementMessage, itemFields, itemMessage, endFields, endMessage}
 use Rattle.history.specs.Words.{messageIn, kindIn, amountIn, isRequest, isReversal, isSettlement, isEnd}
-use Rattle.outgoing.specs.Held.{SettingsHeld}
-use Rattle.call_settle.proofs.Held.{field48-digits, settlement-held, settlement-listed}
-use Rattle.call_upload.proofs.Held.{EntryHeld, item-held, end-held, upload-listed}
+use Rattle.batch_messages.proofs.Held.{field48-digits, settlement-held, settlement-listed, EntryHeld, item-held, end-held, upload-listed}
 use Rattle.history.proofs.Said.{handedOut, sent-reads, Says, number-read, says}
 
 -- which of its words the history uses for a message

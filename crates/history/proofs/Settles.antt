@@ -27,16 +27,19 @@ use Rattle.state.specs.declared.State.{State}
 use Rattle.state.specs.State.{inPhase}
 use Rattle.checks.specs.Checks.{firstBroken}
 use Rattle.checks.proofs.Choices.{passed}
+use Rattle.rules.specs.Rules.{due}
 use Rattle.rules.proofs.InOrder.{Fit}
-use Rattle.call_settle.specs.Settle.{settlementMessage, settleRules, settle}
-use Rattle.call_settle.specs.Settle as settling
-use Rattle.call_upload.specs.SendNextUpload.{itemMessage, endMessage, resent, sendsNext, uploadFrom, sendNextUploadRules, sendNextUpload}
+use Rattle.call_settle.specs.Settle.{settleRules, settle}
+use Rattle.batch_messages.specs.BatchMessages.{settlementMessage, itemMessage, endMessage}
+use Rattle.state_effects.specs.StateEffects as effects
+use Rattle.call_upload.specs.SendNextUpload.{sendsNext, uploadFrom, sendNextUploadRules, sendNextUpload}
+use Rattle.journal_effects.specs.JournalEffects.{resent}
 use Rattle.terminal.specs.Events.{settles, send-next-upload}
 use Rattle.history.specs.Words.{messageIn}
 use Rattle.history.specs.History.{sent, Request, Account, whenGiven}
 use Rattle.history.specs.Demand.{Carries}
 use Rattle.outgoing.specs.Held.{SettingsHeld}
-use Rattle.call_upload.proofs.Held.{EntryHeld}
+use Rattle.batch_messages.proofs.Held.{EntryHeld}
 use Rattle.history.proofs.Said.{handedOut, Says}
 use Rattle.history.proofs.Sent.{Typed, settlement-typed, item-typed, end-typed, Settles, Sayable, settlement-settles, item-says, end-says}
 use Rattle.history.proofs.Matching.{other-closes}
@@ -84,7 +87,7 @@ carries w h =
 module _ (l : ℕ) (s : State) (j : List ℕ) (a : Account) (h : Tied l s j a) (done : AllDone l (a .requests)) (b : List ℕ) where
   -- a settlement leaves
   settlement-tied : (trace : Trace) → Says (s .settings) (s .batch) trace 0x0500 0 201 (messageIn b)
-      → Tied l (settling.settles s trace) j (whenGiven l (sent b) settles a)
+      → Tied l (effects.settles s trace) j (whenGiven l (sent b) settles a)
   settlement-tied trace said =
       rw (sent-other settles (messageIn b) (a .requests) true false (settlement-typed (messageIn b) (said .indicator)))
       (record { kept = h .kept; shape = record { done = done; said = said } })
@@ -157,7 +160,7 @@ module _ (l : ℕ) (s : State) (j m : List ℕ) (a : Account) (h : Tied l (inPha
   held : SettingsHeld (s .settings)
   held = settings-held l (inPhase Uploading s) j m a h f
 
-  item-after : (i : ℕ) → nextDue (entriesOf (s .entries) j) ≡ At i → After l send-next-upload a (sendsNext (At i) (inPhase Uploading s) j m)
+  item-after : (i : ℕ) → nextDue (due Uploading) (entriesOf (s .entries) j) ≡ At i → After l send-next-upload a (sendsNext (At i) (inPhase Uploading s) j m)
   item-after i e =
       let es = entriesOf (s .entries) j in
       let x = entryAt es i in
@@ -193,7 +196,7 @@ module _ (l : ℕ) (s : State) (j m : List ℕ) (a : Account) (h : Tied l (inPha
         lawful = upload-lawful l (inPhase Uploading s) j a h (h .shape) b true t;
       }
 
-  next-after : (n : Found) → nextDue (entriesOf (s .entries) j) ≡ n → After l send-next-upload a (sendsNext n (inPhase Uploading s) j m)
+  next-after : (n : Found) → nextDue (due Uploading) (entriesOf (s .entries) j) ≡ n → After l send-next-upload a (sendsNext n (inPhase Uploading s) j m)
   next-after (At i) e = item-after i e
   next-after Nowhere e = end-after
 
@@ -203,7 +206,7 @@ upload-from Resting l s j m a h f = record { tied = h; lawful = tt }
 upload-from (Waiting w) l s j m a h f = record { tied = h; lawful = tt }
 upload-from (Pending v) l s j m a h f = record { tied = h; lawful = tt }
 upload-from Settling l s j m a h f = record { tied = h; lawful = tt }
-upload-from Uploading l s j m a h f = next-after l s j m a h f (nextDue (entriesOf (s .entries) j)) refl
+upload-from Uploading l s j m a h f = next-after l s j m a h f (nextDue (due Uploading) (entriesOf (s .entries) j)) refl
 
 pub upload-after : (l : ℕ) (s : State) (j m : List ℕ) (a : Account) → Tied l s j a → After l send-next-upload a (sendNextUpload s j m)
 unfolding sendNextUpload

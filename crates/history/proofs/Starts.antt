@@ -18,15 +18,19 @@ use Rattle.state.specs.State.{inPhase}
 use Rattle.checks.specs.Checks.{Rule, firstBroken}
 use Rattle.state.specs.Calls.{judged}
 use Rattle.checks.proofs.Choices.{numbered, passed}
-use Rattle.rules.specs.Rules.{tooShort, keepsRule2, requestInForm, rules12}
-use Rattle.rules.proofs.InOrder.{Fit, fit, request-holds, reversal-holds}
+use Rattle.rules.specs.Rules.{tooShort, keepsRule2, rules12}
+use Rattle.state_rules.specs.StateRules.{requestInForm}
+use Rattle.rules.proofs.InOrder.{Fit, fit}
+use Rattle.state_rules.proofs.Holds.{request-holds, reversal-holds}
 use Rattle.outgoing.specs.Held.{CardHeld}
 use Rattle.outgoing.specs.Outgoing.{requestMessage, reversalMessage}
-use Rattle.call_start.specs.Start.{originalOf, entryOf, requestOf, namedBy, startRules, requested, start}
-use Rattle.call_start.specs.declared.Desk.{Desk}
+use Rattle.call_start.specs.Start.{originalOf, entryOf, namedBy, startRules, start}
+use Rattle.desk.specs.DeskRules.{requestOf}
+use Rattle.state_effects.specs.StateEffects.{requested, again}
+use Rattle.desk.specs.declared.Desk.{Desk}
 use Rattle.call_start.proofs.Refusals.{unbroken}
 use Rattle.call_start.proofs.Held.{may-send}
-use Rattle.call_reversal.specs.SendReversal.{again, sendFrom, sendReversalRules, sendReversal}
+use Rattle.call_reversal.specs.SendReversal.{sendFrom, sendReversalRules, sendReversal}
 use Rattle.call_theorems.proofs.Starting.{start-fits}
 use Rattle.terminal.specs.Events.{Event, starts, send-reversal}
 use Rattle.history.specs.Words.{messageIn}

@@ -7,7 +7,7 @@ use lib.ListN.{length}
 use Rattle.message.specs.Message.{largest}
 use Rattle.entry.specs.Entry.{entrySize}
 use Rattle.state.specs.declared.Settings.{Settings}
-use Rattle.rules.specs.Rules.{settingsInForm}
+use Rattle.state_rules.specs.StateRules.{settingsInForm}
 use Rattle.history.specs.History.{refused}
 use Rattle.history.specs.Demand.{Invocation, runs, begun, Each}
 

@@ -7,7 +7,7 @@ use Rattle.state.specs.declared.State.{State}
 use Rattle.state.specs.Calls.{Result}
 use Rattle.call_sign_on.specs.SignOn.{signedOn}
 use Rattle.call_start.specs.Start.{start}
-use Rattle.call_start.specs.declared.Desk.{Desk}
+use Rattle.desk.specs.declared.Desk.{Desk}
 use Rattle.call_reversal.specs.SendReversal.{sendReversal}
 use Rattle.call_settle.specs.Settle.{settle}
 use Rattle.call_upload.specs.SendNextUpload.{sendNextUpload}

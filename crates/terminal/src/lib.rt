@@ -1,8 +1,8 @@
 // The card terminal: its state, and the calls of document 01 as methods.
+use desk::Desk;
 use entry::Entry;
 use message::Message;
 use numbers::Batch;
-use call_start::Desk;
 use state::Called;
 use state::Outcome;
 use state::Settings;

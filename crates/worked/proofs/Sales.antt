@@ -31,14 +31,16 @@ use Rattle.state.specs.declared.Outcome.the-variants.{Send, Refused}
 use Rattle.state.specs.State.{fresh}
 use Rattle.checks.specs.Checks.{firstBroken}
 use Rattle.state.specs.Calls.{Result, judged, quiet, sends}
-use Rattle.rules.specs.Rules.{tooShort, settingsInForm, stateInForm, past, sumsKept, balanced, keepsRule2, stateKept, journalKept}
+use Rattle.rules.specs.Rules.{tooShort, keepsRule2, journalKept}
+use Rattle.state_rules.specs.StateRules.{settingsInForm, stateInForm, past, sumsKept, balanced, stateKept}
 use Rattle.rules.proofs.InOrder.{Fit}
 use Rattle.outgoing.specs.Outgoing.{requestMessage}
-use Rattle.call_sign_on.specs.SignOn.{adopts, signedOn}
-use Rattle.call_start.specs.Start.{requested}
+use Rattle.call_sign_on.specs.SignOn.{signedOn}
+use Rattle.state_effects.specs.StateEffects.{adopts, requested, oneMore}
 use Rattle.approval.specs.Approval.{approvedEntry}
 use Rattle.approval.proofs.Approval.{shaped}
-use Rattle.call_answer.specs.Answer.{oneMore, originalVoided, approved, onRequest, answered as answeredBy, answer}
+use Rattle.call_answer.specs.Answer.{answer}
+use Rattle.journal_effects.specs.JournalEffects.{originalVoided, approved, onRequest, answered as answeredBy}
 use Rattle.call_theorems.proofs.Back.{ready-fits, fit-ready}
 use Rattle.call_theorems.proofs.Refusing.{Fits}
 use Rattle.call_theorems.proofs.Signing.{signed-on-fits}

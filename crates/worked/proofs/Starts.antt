@@ -15,11 +15,13 @@ use Rattle.state.specs.declared.State.{State}
 use Rattle.state.specs.declared.Phase.the-variants.{Resting}
 use Rattle.checks.specs.Checks.{firstBroken}
 use Rattle.state.specs.Calls.{judged, refused, sends}
-use Rattle.rules.specs.Rules.{isCard, past}
+use Rattle.state_rules.specs.StateRules.{isCard, past}
 use Rattle.rules.proofs.InOrder.{Fit}
 use Rattle.outgoing.specs.Outgoing.{requestMessage}
-use Rattle.call_start.specs.Start.{deskInForm, requested, start}
-use Rattle.call_start.specs.declared.Desk.{Desk}
+use Rattle.call_start.specs.Start.{start}
+use Rattle.desk.specs.DeskRules.{deskInForm}
+use Rattle.state_effects.specs.StateEffects.{requested}
+use Rattle.desk.specs.declared.Desk.{Desk}
 use Rattle.call_theorems.proofs.Back.{fit-ready}
 use Rattle.worked.specs.Desk.{settings}
 use Rattle.worked.proofs.Approvals.{asked}

@@ -13,7 +13,7 @@ use Rattle.kinds.specs.declared.Totals.{Totals}
 use Rattle.state.specs.State.{fresh}
 use Rattle.state.specs.Calls.{Result, quiet}
 use Rattle.state.specs.declared.Settings.{Settings}
-use Rattle.call_start.specs.declared.Desk.{Desk}
+use Rattle.desk.specs.declared.Desk.{Desk}
 use Rattle.outgoing.specs.Outgoing.{field60}
 use Rattle.terminal.specs.Events.{Event, signed-on, starts, answers, no-answer, send-reversal, run}
 

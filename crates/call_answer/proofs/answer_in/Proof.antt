@@ -43,7 +43,8 @@ returns-2 c =
     let at-if1 = c .before .before .before .before .before .if1 in
     let at-answered = c .before .before .before .answered in
     answer-changes _ _ _ _ _ _ (at-phase .given .1) _ (rw (at-batch-sent .ensures, at-trace-sent .ensures) at (at-is-answer .ensures)) _ _
-    (at-if1 .taken) (at-answered .ensures) (c .quiet .ensures)
+    (at-if1 .taken) (at-answered .ensures (c .before .before .before .before .before .before .before .before .before .before .before
+    .before .before .before .before .pre)) (c .quiet .ensures)
 
 refused-requires-2 : tie.Need-refused-requires-2
 refused-requires-2 c κs = search needs

@@ -1,7 +1,7 @@
 -- `call_answer::no_answer` meets its contract.
 use borrow.Author.Needs.{needs}
 use Rattle.state.proofs.Phases.{not-waiting}
-use Rattle.call_answer.proofs.Steps.{room-for-one, no-answer-first-refusal, no-answer-unawaited, no-answer-changes}
+use Rattle.call_answer.proofs.Steps.{bounded, no-answer-first-refusal, no-answer-unawaited, no-answer-changes}
 use Rattle.call_answer.proofs.no_answer.Statement.{statement}
 use Rattle.call_answer.proofs.no_answer.Tie as tie
 
@@ -43,10 +43,7 @@ returns-2 c =
     (not-waiting (at-args .s .phase) (c .before .match .keys2)) (c .refused2 .ensures)
 
 silent-requires : tie.Need-silent-requires
-silent-requires c κs =
-    let at-first-refusal = c .before .before .before .before .before .first-refusal in
-    let at-if1 = c .before .before .before .before .if1 in
-    room-for-one _ _ _ _ (at-first-refusal .ensures) (at-if1 .left)
+silent-requires c κs = search needs
 
 quiet-requires : tie.Need-quiet-requires
 quiet-requires c κs = search needs
@@ -63,7 +60,7 @@ returns-3 c =
     let at-if1 = c .before .before .before .before .before .before .before .before .if1 in
     let at-phase = c .before .before .before .before .before .before .phase in
     let at-silent = c .before .before .before .silent in
-    no-answer-changes _ _ _ _ (at-first-refusal .ensures) _ _ _ _ (at-if1 .left) (at-phase .given .1) (at-silent .ensures)
+    no-answer-changes _ _ _ _ (at-first-refusal .ensures) _ _ _ _ (at-if1 .left) (at-phase .given .1) (at-silent .ensures (bounded _ _ _ _ (at-first-refusal .ensures) (at-if1 .left)))
     (c .quiet .ensures)
 
 pub no-answer-spec : {M : Type 1} → statement M

@@ -1,6 +1,6 @@
 -- `call_answer::power_returned` meets its contract.
 use borrow.Author.Needs.{needs}
-use Rattle.call_answer.proofs.Steps.{room-for-one, power-first-refusal, power-changes}
+use Rattle.call_answer.proofs.Steps.{bounded, power-first-refusal, power-changes}
 use Rattle.call_answer.proofs.power_returned.Statement.{statement}
 use Rattle.call_answer.proofs.power_returned.Tie as tie
 
@@ -22,9 +22,7 @@ returns c =
     power-first-refusal _ _ _ _ (at-first-refusal .ensures) _ (c .before .if1 .taken) (c .refused .ensures)
 
 silent-in-requires : tie.Need-silent-in-requires
-silent-in-requires c κs =
-    let at-first-refusal = c .before .before .first-refusal in
-    room-for-one _ _ _ _ (at-first-refusal .ensures) (c .before .if1 .left)
+silent-in-requires c κs = search needs
 
 signed-requires : tie.Need-signed-requires
 signed-requires c κs = search needs
@@ -43,7 +41,7 @@ returns-2 c =
     let at-first-refusal = c .before .before .before .before .before .before .before .first-refusal in
     let at-if1 = c .before .before .before .before .before .before .if1 in
     let at-silent-in = c .before .before .before .before .silent-in in
-    power-changes _ _ _ _ (at-first-refusal .ensures) _ _ _ _ (at-if1 .left) (at-silent-in .ensures) (c .before .signed .ensures)
+    power-changes _ _ _ _ (at-first-refusal .ensures) _ _ _ _ (at-if1 .left) (at-silent-in .ensures (bounded _ _ _ _ (at-first-refusal .ensures) (at-if1 .left))) (c .before .signed .ensures)
     (c .quiet .ensures)
 
 pub power-returned-spec : {M : Type 1} → statement M

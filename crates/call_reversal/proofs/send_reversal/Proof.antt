@@ -47,11 +47,7 @@ returns-2 c =
     (c .refused2 .ensures)
 
 again-requires : tie.Need-again-requires
-again-requires c κs =
-    let at-args = c .before .before .before .before .before .before .before .before .before .args in
-    let at-idle-refusal = c .before .before .before .before .idle-refusal in
-    let at-if1 = c .before .before .before .if1 in
-    few (at-args .s) _ _ _ (at-idle-refusal .ensures) _ (at-if1 .left) (c .before .phase .given .1)
+again-requires c κs = search needs
 
 send-requires : tie.Need-send-requires
 send-requires c κs =
@@ -63,7 +59,7 @@ send-requires c κs =
     let at-if1 = c .before .before .before .before .before .before .if1 in
     let at-phase = c .before .before .before .before .phase in
     let at-again = c .before .before .again in (
-      held (at-args .s) _ _ _ (at-idle-refusal .ensures) _ _ (at-if1 .left) (at-phase .given .1) (at-again .ensures) l k,
+      held (at-args .s) _ _ _ (at-idle-refusal .ensures) _ _ (at-if1 .left) (at-phase .given .1) (at-again .ensures (few (at-args .s) _ _ _ (at-idle-refusal .ensures) _ (at-if1 .left) (at-phase .given .1))) l k,
       room (at-args .s) _ _ _ (at-idle-refusal .ensures) (at-if1 .left),
     )
 
@@ -82,7 +78,7 @@ returns-3 c =
     let at-phase = c .before .before .before .before .before .before .before .phase in
     let at-again = c .before .before .before .before .before .again in
     let at-send = c .before .before .send in
-    goes-out (at-args .s) _ _ _ (at-idle-refusal .ensures) _ _ _ _ (at-if1 .left) (at-phase .given .1) (at-again .ensures)
+    goes-out (at-args .s) _ _ _ (at-idle-refusal .ensures) _ _ _ _ (at-if1 .left) (at-phase .given .1) (at-again .ensures (few (at-args .s) _ _ _ (at-idle-refusal .ensures) _ (at-if1 .left) (at-phase .given .1)))
     (at-send .ensures)
 
 pub send-reversal-spec : {M : Type 1} → statement M

@@ -41,21 +41,25 @@ returns-3 c =
     (now (at-args .journal)) (now (at-args .message)) _ _ _ (at-first-refusal .ensures) (at-if1 .left) (at-rest-refusal .ensures)
     (at-if2 .left) (c .before .desk-refusal .ensures) (c .if3 .taken)
 
+totals-of-requires : tie.Need-totals-of-requires
+totals-of-requires c κs = search needs
+
 journal-refusal-requires : tie.Need-journal-refusal-requires
 journal-refusal-requires c κs = search needs
 
 returns-4 : tie.Need-returns-4
 returns-4 c =
-    let at-args = c .before .before .before .before .before .before .before .before .before .before .args in
-    let at-pre = c .before .before .before .before .before .before .before .before .before .before .pre in
-    let at-first-refusal = c .before .before .before .before .before .before .first-refusal in
-    let at-if1 = c .before .before .before .before .before .if1 in
-    let at-rest-refusal = c .before .before .before .before .rest-refusal in
-    let at-if2 = c .before .before .before .if2 in
-    let at-desk-refusal = c .before .before .desk-refusal in
+    let at-args = c .before .before .before .before .before .before .before .before .before .before .before .args in
+    let at-pre = c .before .before .before .before .before .before .before .before .before .before .before .pre in
+    let at-first-refusal = c .before .before .before .before .before .before .before .first-refusal in
+    let at-if1 = c .before .before .before .before .before .before .if1 in
+    let at-rest-refusal = c .before .before .before .before .before .rest-refusal in
+    let at-if2 = c .before .before .before .before .if2 in
+    let at-desk-refusal = c .before .before .before .desk-refusal in
     asks-journal (at-args .d) (at-args .s) (entriesOf (at-args .s .entries) (now (at-args .journal))) (at-args .place) (at-args .e)
     (now (at-args .journal)) (now (at-args .message)) _ _ _ _ at-pre (at-first-refusal .ensures) (at-if1 .left) (at-rest-refusal .ensures)
-    (at-if2 .left) (at-desk-refusal .ensures) (c .before .if3 .left) (c .journal-refusal .ensures)
+    (at-if2 .left) (at-desk-refusal .ensures) (c .before .before .if3 .left)
+    (rw (c .before .totals-of .ensures) at (c .journal-refusal .ensures))
 
 pub refusal-spec : {M : Type 1} → statement M
 refusal-spec =
@@ -67,5 +71,6 @@ refusal-spec =
     returns-2
     desk-refusal-requires
     returns-3
+    totals-of-requires
     journal-refusal-requires
     returns-4)

@@ -1,4 +1,4 @@
--- `call_upload::leave_item` meets its contract.
+-- `call_upload::send_item` meets its contract.
 use borrow.Author.Needs.{needs}
 use Rattle.call_upload.proofs.Sending.{item-left}
 use Rattle.call_upload.proofs.send_item.Statement.{statement}
@@ -37,7 +37,7 @@ returns c =
     let at-in-phase = c .before .in-phase in
     rw (c .sends .ensures)
     (item-left (at-args .s) _ _ (at-args .e) _ _ _ _ _ _ (at-pre .1 .0) (at-pre .1 .1) (at-item-message .ensures)
-    (at-write-outgoing .ensures .0) (at-write-outgoing .ensures .1) (at-resend .ensures) (at-in-phase .ensures))
+    (at-write-outgoing .ensures .0) (at-write-outgoing .ensures .1) (at-resend .ensures (at-pre .0)) (at-in-phase .ensures))
 
 pub send-item-spec : {M : Type 1} → statement M
 send-item-spec =

@@ -24,8 +24,7 @@ send-item-requires c κs =
     let at-entry-at-ensures = c .before .before .entry-at .ensures in
     let g = c .before .before .before .before .before .before .before .before .before .before .before .good .0 .1 .1 .0 in
     let l : length (at-args-s .settings .terminal) ≡ 8 = search needs in
-    let k : length (at-args-s .settings .merchant) ≡ 15 = search needs in
-    (
+    let k : length (at-args-s .settings .merchant) ≡ 15 = search needs in (
       resends-low at-args-s _ _ at-pre _ _ _ at-next-due-ensures (at-i-given .1) at-entry-at-ensures,
       (item-fields at-args-s _ _ at-pre l k _ _ _ at-next-due-ensures (at-i-given .1) at-entry-at-ensures, room at-args-s _ _ at-pre),
     )

@@ -30,7 +30,10 @@ returns c =
     let at-with-field61 = c .before .before .before .before .with-field61 in
     let at-with-bytes = c .before .before .with-bytes in
     rw (
-      sym (at-takes-original .ensures) ∙ at-if1 .taken, c .with-bytes2 .ensures, at-with-bytes .ensures, at-with-field61 .ensures,
+      sym (at-takes-original .ensures) ∙ at-if1 .taken,
+      c .with-bytes2 .ensures,
+      at-with-bytes .ensures,
+      at-with-field61 .ensures,
     )
 
 keys-reference-requires : tie.Need-keys-reference-requires
@@ -53,7 +56,9 @@ returns-2 c =
     let at-if2 = c .before .before .before .if2 in
     let at-with-field612 = c .before .before .with-field612 in
     rw (
-      sym (at-takes-original .ensures) ∙ at-if1 .left, sym (at-keys-reference .ensures) ∙ at-if2 .taken, c .with-bytes3 .ensures,
+      sym (at-takes-original .ensures) ∙ at-if1 .left,
+      sym (at-keys-reference .ensures) ∙ at-if2 .taken,
+      c .with-bytes3 .ensures,
       at-with-field612 .ensures,
     )
 
@@ -79,8 +84,11 @@ returns-3 c =
     let at-if3 = c .before .before .before .if3 in
     let at-with-field613 = c .before .before .with-field613 in
     rw (
-      sym (at-takes-original .ensures) ∙ at-if1 .left, sym (at-keys-reference .ensures) ∙ at-if2 .left,
-      sym (at-keys-authorisation .ensures) ∙ at-if3 .taken, c .with-bytes4 .ensures, at-with-field613 .ensures,
+      sym (at-takes-original .ensures) ∙ at-if1 .left,
+      sym (at-keys-reference .ensures) ∙ at-if2 .left,
+      sym (at-keys-authorisation .ensures) ∙ at-if3 .taken,
+      c .with-bytes4 .ensures,
+      at-with-field613 .ensures,
     )
 
 returns-4 : tie.Need-returns-4
@@ -90,7 +98,8 @@ returns-4 c =
     let at-keys-reference = c .before .before .before .keys-reference in
     let at-if2 = c .before .before .if2 in
     rw (
-      sym (at-takes-original .ensures) ∙ at-if1 .left, sym (at-keys-reference .ensures) ∙ at-if2 .left,
+      sym (at-takes-original .ensures) ∙ at-if1 .left,
+      sym (at-keys-reference .ensures) ∙ at-if2 .left,
       sym (c .before .keys-authorisation .ensures) ∙ c .if3 .left,
     )
 

@@ -1,0 +1,2 @@
+-- Fields that are held, for other crates to cite.
+pub mod Held

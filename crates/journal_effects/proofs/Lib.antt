@@ -1,0 +1,2 @@
+-- Laws of silence, for other crates to cite.
+pub mod Silence

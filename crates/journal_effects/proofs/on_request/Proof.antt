@@ -1,0 +1,66 @@
+-- `journal_effects::on_request` meets its contract.
+use borrow.Author.Needs.{needs}
+use Rattle.journal_effects.specs.JournalEffects.{onRequest}
+use Rattle.journal_effects.proofs.on_request.Statement.{statement}
+use Rattle.journal_effects.proofs.on_request.Tie as tie
+
+approves-requires : tie.Need-approves-requires
+approves-requires c κs = search needs
+
+is-good-requires : tie.Need-is-good-requires
+is-good-requires c κs = search needs
+
+approved-entry-requires : tie.Need-approved-entry-requires
+approved-entry-requires c κs = search needs
+
+approved-requires : tie.Need-approved-requires
+approved-requires c κs = search needs
+
+same-length : tie.Need-same-length
+same-length c = search needs
+
+returns : tie.Need-returns
+unfolding onRequest
+returns c room =
+    let at-approves = c .before .before .before .before .before .before .before .before .approves in
+    let at-if1 = c .before .before .before .before .before .before .before .if1 in
+    let at-is-good = c .before .before .before .before .before .before .is-good in
+    let at-if2 = c .before .before .before .before .before .if2 in
+    let at-approved-entry = c .before .before .before .before .approved-entry in
+    let at-approved = c .before .before .approved in
+    rw (← at-approves .ensures, at-if1 .taken, ← at-is-good .ensures, at-if2 .taken, ← at-approved-entry .ensures) (at-approved .ensures room)
+
+pending-or-unanswered-requires : tie.Need-pending-or-unanswered-requires
+pending-or-unanswered-requires c κs = search needs
+
+returns-2 : tie.Need-returns-2
+unfolding onRequest
+returns-2 c room =
+    let at-approves = c .before .before .before .before .approves in
+    let at-if1 = c .before .before .before .if1 in
+    let at-is-good = c .before .before .is-good in
+    rw (c .pending-or-unanswered .ensures room, ← at-approves .ensures, at-if1 .taken, ← at-is-good .ensures, c .before .if2 .left)
+
+ended-requires : tie.Need-ended-requires
+ended-requires c κs = search needs
+
+returns-3 : tie.Need-returns-3
+unfolding onRequest
+returns-3 c room =
+    let at-approves = c .before .before .approves in
+    rw (c .ended .ensures room, ← at-approves .ensures, c .before .if1 .left)
+
+pub on-request-spec : {M : Type 1} → statement M
+on-request-spec =
+    tie.close
+    (tie.spec
+    approves-requires
+    is-good-requires
+    approved-entry-requires
+    approved-requires
+    same-length
+    returns
+    pending-or-unanswered-requires
+    returns-2
+    ended-requires
+    returns-3)

@@ -1,0 +1,31 @@
+-- `journal_effects::silent_in` meets its contract.
+use mathlib.Core.Path.{sym}
+use borrow.Author.Needs.{needs}
+use Rattle.state.proofs.Phases.{not-waiting}
+use Rattle.journal_effects.proofs.Silence.{nothing-silent, awaited-silent}
+use Rattle.journal_effects.proofs.silent_in.Statement.{statement}
+use Rattle.journal_effects.proofs.silent_in.Tie as tie
+
+enum-known-phase : tie.Need-enum-known-phase
+enum-known-phase c = search needs
+
+returns : tie.Need-returns
+returns c room =
+    let at-args = c .before .before .args in
+    sym (nothing-silent (at-args .s .phase) _ _ (not-waiting (at-args .s .phase) (c .match .keys2)))
+
+silent-requires : tie.Need-silent-requires
+silent-requires c κs = search needs
+
+same-length : tie.Need-same-length
+same-length c = search needs
+
+returns-2 : tie.Need-returns-2
+returns-2 c room =
+    let at-phase = c .before .before .before .before .before .phase in
+    let at-silent = c .before .before .silent in
+    awaited-silent _ _ _ _ (at-phase .given .1) (at-silent .ensures room)
+
+pub silent-in-spec : {M : Type 1} → statement M
+silent-in-spec =
+    tie.close (tie.spec enum-known-phase returns silent-requires same-length returns-2)

@@ -1,0 +1,71 @@
+-- Document 01, "Calls": how a call changes the state.
+use mathlib.Core.Bool.{Bool, cond, _&&_, true}
+use Prim.Native.Nat.{_+_}
+use lib.Dec.{eqb, leb}
+use Rattle.answer_match.specs.Match.{approves, endsReversal, closesBatch}
+use Rattle.kinds.specs.Kinds.{isNeverReversed}
+use Rattle.message.specs.declared.Message.{Message}
+use Rattle.numbers.specs.declared.Batch.{Batch}
+use Rattle.numbers.specs.declared.Trace.{Trace}
+use Rattle.state.specs.State.{inPhase, counted, withEntries, signed, closed, took, isResting, inBatch}
+use Rattle.state.specs.declared.Count.the-variants.{Approved, Reversed, GivenUp, Unanswered, Sent}
+use Rattle.state.specs.declared.Phase.the-variants.{Resting, Waiting, Pending, Uploading}
+use Rattle.state.specs.declared.Reason.{Reason}
+use Rattle.state.specs.declared.Request.{Request}
+use Rattle.state.specs.declared.Reversal.{Reversal}
+use Rattle.state.specs.declared.State.{State}
+use Rattle.state.specs.declared.Awaited.the-variants as awaited
+
+-- the batch number is adopted only if no card request has left in this batch and the phase is resting
+unfoldable pub adopts : State → Bool
+adopts s = eqb (s .counts .sent) 0 && isResting s
+
+-- signed on, in this batch
+abbrev pub on : Batch → State → State
+on batch s = signed true (inBatch batch s)
+
+-- the state once the request has left with a trace
+abbrev pub requested : State → Request → State
+requested s q = inPhase (Waiting (awaited.Request q)) (took (q .trace) (counted Sent s))
+
+-- silence or bad MAC: kind 25 is unanswered; other kinds make a pending reversal
+unfoldable pub pendingOrUnanswered : Reason → Request → State → State
+pendingOrUnanswered reason q s =
+    cond (isNeverReversed (q .kind))
+      (inPhase Resting (counted Unanswered s))
+      (inPhase (Pending (record { request = q; reason = reason; sendings = 0 })) s)
+
+-- a failed sending: at L sendings the reversal is given up, else it is pending again
+unfoldable pub failed : Reversal → State → State
+failed v s =
+    cond (leb (s .settings .sendings) (v .sendings))
+      (inPhase Resting (counted GivenUp s))
+      (inPhase (Pending v) s)
+
+-- an approval: the entry is written, and the request counted
+abbrev pub oneMore : State → State
+oneMore s = inPhase Resting (counted Approved (withEntries (s .entries + 1) s))
+
+-- to a reversal: ended as reversed, or a failed sending
+unfoldable pub onReversal : Bool → Message → Reversal → State → State
+onReversal good a v s = cond (endsReversal good a) (inPhase Resting (counted Reversed s)) (failed v s)
+
+-- to a settlement: digit 1 closes; 2 or 3 starts the upload
+unfoldable pub onSettlement : Message → State → State
+onSettlement a s = cond (closesBatch a) (closed s) (inPhase Uploading s)
+
+-- to the upload's end: 00 closes, anything else lets it be sent again
+unfoldable pub onEnd : Message → State → State
+onEnd a s = cond (approves a) (closed s) (inPhase Uploading s)
+
+-- one sending more
+abbrev pub again : Reversal → Reversal
+again v = record { request = v .request; reason = v .reason; sendings = v .sendings + 1 }
+
+-- a settle called again takes a new trace
+abbrev pub settles : State → Trace → State
+settles s trace = inPhase (Waiting (awaited.Settlement trace)) (took trace s)
+
+-- each sending of the upload's end takes a new trace
+abbrev pub ending : State → Trace → State
+ending s trace = inPhase (Waiting (awaited.End trace)) (took trace s)

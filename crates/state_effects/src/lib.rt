@@ -1,0 +1,155 @@
+// How a call changes the state (document 01, "Calls"): by value, without a buffer.
+use message::Message;
+use numbers::Batch;
+use numbers::Trace;
+use state::Awaited;
+use state::Count;
+use state::Phase;
+use state::Reason;
+use state::Request;
+use state::Reversal;
+use state::State;
+ghost use mathlib.Core.Path.{_≡_};
+ghost use Prim.Native.Nat.{_+_, _<_, _≤_};
+ghost use Rattle.numbers.specs.Limits.{mostEntries, mostSendings};
+ghost use Rattle.state.specs.State.{CountsSmall, CountsBounded, counted, inPhase};
+ghost use Rattle.state_effects.specs.StateEffects.{adopts, on, requested, pendingOrUnanswered, failed, oneMore, onReversal, onSettlement, onEnd, again, settles, ending};
+
+// Whether signing on adopts the batch number: no card request has left in this batch, and the terminal rests.
+pub fn adopts(s: State) -> bool
+    ensures { λ r. ⌜ r ≡ adopts s ⌝ }
+{
+    let counts = s.counts;
+    (counts.sent == 0) & s.is_resting()
+}
+
+// The state signed on in a batch.
+pub fn on(s: State, batch: Batch) -> State
+    ensures { λ r. ⌜ r ≡ on batch s ⌝ }
+{
+    s.in_batch(batch).signed(true)
+}
+
+// The state in which the request is awaited.
+pub fn requested(s: State, q: Request) -> State
+    ensures { λ r. ⌜ (CountsSmall (s .counts) → r ≡ requested s q) ⌝ }
+{
+    let counts = s.counts;
+    let trace = q.trace;
+    let counted = s.with_counts(counts.plus(Count::Sent));
+    counted
+        .took(trace)
+        .in_phase(Phase::Waiting(Awaited::Request(q)))
+}
+
+// The state with one card request more that has ended so; the terminal rests.
+pub fn ended(s: State, count: Count) -> State
+    ensures { λ r. ⌜ (CountsBounded s → r ≡ inPhase Phase.Resting (counted count s)) ⌝ }
+{
+    let counts = s.counts;
+    s.with_counts(counts.plus(count)).in_phase(Phase::Resting)
+}
+
+// Silence or a bad MAC after a card request.
+pub fn pending_or_unanswered(s: State, q: Request, reason: Reason) -> State
+    ensures { λ r. ⌜ (CountsBounded s → r ≡ pendingOrUnanswered reason q s) ⌝ }
+{
+    if kinds::is_never_reversed(q.kind) {
+        return ended(s, Count::Unanswered);
+    }
+    let reversal = Reversal {
+        request: q,
+        reason: reason,
+        sendings: 0,
+    };
+    s.in_phase(Phase::Pending(reversal))
+}
+
+// A reversal's sending has failed.
+pub fn failed(s: State, v: Reversal) -> State
+    ensures { λ r. ⌜ (CountsBounded s → r ≡ failed v s) ⌝ }
+{
+    let settings = s.settings;
+    if settings.sendings <= v.sendings {
+        return ended(s, Count::GivenUp);
+    }
+    s.in_phase(Phase::Pending(v))
+}
+
+// An approval: one entry more, and the request counted.
+pub fn one_more(s: State) -> State
+    ensures { λ r. ⌜ (CountsBounded s → r ≡ oneMore s) ⌝ }
+{
+    let n = s.entries;
+    ended(s, Count::Approved).with_entries(one_entry_more(n))
+}
+
+// An answer to a reversal.
+pub fn on_reversal(s: State, v: Reversal, m: Message, good: bool) -> State
+    ensures { λ r. ⌜ (CountsBounded s → r ≡ onReversal good m v s) ⌝ }
+{
+    if answer_match::ends_reversal(good, m) {
+        return ended(s, Count::Reversed);
+    }
+    failed(s, v)
+}
+
+// An answer to a settlement.
+pub fn on_settlement(s: State, m: Message) -> State
+    ensures { λ r. ⌜ r ≡ onSettlement m s ⌝ }
+{
+    if answer_match::closes_batch(m) {
+        return s.closed();
+    }
+    s.in_phase(Phase::Uploading)
+}
+
+// An answer to the upload's end.
+pub fn on_end(s: State, m: Message) -> State
+    ensures { λ r. ⌜ r ≡ onEnd m s ⌝ }
+{
+    if answer_match::approves(m) {
+        return s.closed();
+    }
+    s.in_phase(Phase::Uploading)
+}
+
+// A reversal with one sending more, where there is room for it.
+pub fn again(v: Reversal) -> Reversal
+    ensures { λ r. ⌜ (v .sendings < mostSendings → r ≡ again v) ⌝ }
+{
+    let request = v.request;
+    let reason = v.reason;
+    Reversal {
+        request: request,
+        reason: reason,
+        sendings: one_sending_more(v.sendings),
+    }
+}
+
+// The state in which the settlement is awaited.
+pub fn settles(s: State, trace: Trace) -> State
+    ensures { λ r. ⌜ r ≡ settles s trace ⌝ }
+{
+    s.took(trace)
+        .in_phase(Phase::Waiting(Awaited::Settlement(trace)))
+}
+
+// The state in which the upload's end is awaited.
+pub fn ending(s: State, trace: Trace) -> State
+    ensures { λ r. ⌜ r ≡ ending s trace ⌝ }
+{
+    s.took(trace).in_phase(Phase::Waiting(Awaited::End(trace)))
+}
+
+fn one_entry_more(n: u16) -> u16
+    ensures { λ r. ⌜ (n ≤ mostEntries → r ≡ n + 1) ⌝ }
+{
+    std::num::wrapping_add_u16(n, 1)
+}
+
+fn one_sending_more(n: u8) -> u8
+    ensures { λ r. ⌜ (n < mostSendings → r ≡ n + 1) ⌝ }
+{
+    std::num::wrapping_add_u8(n, 1)
+}
