@@ -35,17 +35,14 @@ pub fn add_contents(class: Class, card: bool, n: u8, b: &[u8], at: usize, out: &
 fn add_quoted(b: &[u8], at: usize, out: &mut [u8]) -> usize
     ensures { λ r. ⌜ Adds (text "\"" ++ now (b .entry) ++ text "\"") at (now (out .entry)) r (now (out .exit)) ⌝ }
 {
-    let mut end = texts::add(b"\"", at, out);
-    end = texts::add(b, end, out);
-    texts::add(b"\"", end, out)
+    templates::add_filled(b"\"$\"", &[], b, at, out)
 }
 
 fn add_line(f: Format, n: u8, b: &[u8], at: usize, out: &mut [u8]) -> usize
     ensures { λ r. ⌜ Adds (fieldLine f n (now (b .entry))) at (now (out .entry)) r (now (out .exit)) ⌝ }
 {
     let class = f.class;
-    let mut end = texts::add_decimal(f.number as u64, at, out);
-    end = texts::add(b" ", end, out);
+    let mut end = templates::add_filled(b"# ", &[f.number as u64], b"", at, out);
     end = add_contents(class, f.number == 2, n, b, end, out);
     texts::add(b"\n", end, out)
 }
@@ -87,15 +84,11 @@ fn add_type(indicator: u16, at: usize, out: &mut [u8]) -> usize
     ensures { λ r. ⌜ Adds (typeLine indicator) at (now (out .entry)) r (now (out .exit)) ⌝ }
 {
     let digits = [(indicator / 256) as u8, (indicator % 256) as u8];
-    let mut end = texts::add(b"type ", at, out);
-    end = texts::add_hex(&digits, end, out);
-    texts::add(b"\n", end, out)
+    templates::add_filled(b"type @\n", &[], &digits, at, out)
 }
 
 fn add_end(n: u64, at: usize, out: &mut [u8]) -> usize
     ensures { λ r. ⌜ Adds (endLine n) at (now (out .entry)) r (now (out .exit)) ⌝ }
 {
-    let mut end = texts::add(b"end ", at, out);
-    end = texts::add_decimal(n, end, out);
-    texts::add(b"\n", end, out)
+    templates::add_filled(b"end #\n", &[n], b"", at, out)
 }

@@ -4,8 +4,7 @@ ghost use mathlib.Core.Bool.{false};
 ghost use Prim.Native.Nat.{_≤_};
 ghost use lib.Dec.{ltb};
 ghost use lib.ListN.{length};
-ghost use Rattle.texts.specs.Text.{Adds};
-ghost use Rattle.input.specs.Input.{beforeFeed, hasFeed, used, withoutReturn, lineOf, inHand, wordsIn};
+ghost use Rattle.input.specs.Input.{inHand, wordsIn};
 
 // Where the bytes of a chunk that are still to be taken begin and end.
 pub struct Left {
@@ -22,13 +21,6 @@ pub struct Input {
     whole: bool,
     pub ended: bool,
     left: Left,
-}
-
-// What a line takes of some bytes.
-struct Taken {
-    len: usize,
-    used: usize,
-    whole: bool,
 }
 
 impl Input {
@@ -118,27 +110,7 @@ pub fn words_of(at: Input, line: &[u8]) -> &[u8]
 fn in_hand(at: Input, line: &[u8]) -> &[u8]
     ensures { λ r. ⌜ now r ≡ inHand (at .whole) (at .len) (now (line .entry)) ⌝ }
 {
-    line_of(at.whole, texts::front(line, at.len))
-}
-
-// Takes the bytes of s up to its first line feed into a line of len bytes, as far as there is room for them.
-fn take_in(s: &[u8], len: usize, line: &mut [u8]) -> Taken
-    ensures { λ r. ⌜ Adds (beforeFeed (now (s .entry))) len (now (line .entry)) (r .len) (now (line .exit)) × (r .used ≡ used (now (s .entry))) × (r .whole ≡ hasFeed (now (s .entry))) ⌝ }
-{
-    let end = bytes::scan::find(s, 0, s.len(), b'\n');
-    let kept = texts::add(&s[..end], len, line);
-    if end < s.len() {
-        return Taken {
-            len: kept,
-            used: end + 1,
-            whole: true,
-        };
-    }
-    Taken {
-        len: kept,
-        used: end,
-        whole: false,
-    }
+    line_ends::line_of(at.whole, texts::front(line, at.len))
 }
 
 // What is left of the chunk, or what a read brings where that is nothing.
@@ -166,7 +138,7 @@ fn more(at: Input, chunk: &mut [u8], line: &mut [u8]) -> Input
     if from == end {
         return at.at_end();
     }
-    let taken = take_in(&chunk[from..end], at.len, line);
+    let taken = line_ends::take_in(&chunk[from..end], at.len, line);
     Input {
         file: at.file,
         number: at.number,
@@ -178,28 +150,4 @@ fn more(at: Input, chunk: &mut [u8], line: &mut [u8]) -> Input
             end: end,
         },
     }
-}
-
-// A line without its line end.
-fn line_of(whole: bool, s: &[u8]) -> &[u8]
-    ensures { λ r. ⌜ now r ≡ lineOf whole (now (s .entry)) ⌝ }
-{
-    if whole {
-        return without_return(s);
-    }
-    s
-}
-
-// A line without a carriage return at its end.
-fn without_return(s: &[u8]) -> &[u8]
-    ensures { λ r. ⌜ now r ≡ withoutReturn (now (s .entry)) ⌝ }
-{
-    let n = s.len();
-    if n == 0 {
-        return s;
-    }
-    if s[n - 1] == 0x0D {
-        return &s[..n - 1];
-    }
-    s
 }

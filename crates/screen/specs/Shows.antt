@@ -3,14 +3,14 @@ use mathlib.Core.List.{List, [], _∷_, _++_}
 use mathlib.Core.Bool.{Bool, true, false, cond}
 use Prim.Native.Nat.{ℕ, zero, suc}
 use lib.Dec.{eqb}
-use lib.ListN.{length, getD}
-use Rattle.field.specs.declared.Class.the-variants.{Digits, Printable}
+use lib.ListN.{length}
 use Rattle.hexadecimal.specs.Hexadecimal.{toHex}
-use Rattle.dump.specs.Shown.{contentsText}
 use Rattle.texts.specs.Decimal.{decimal}
 use Rattle.texts.specs.Text.{text, space, feed, sixDigits}
 use Rattle.words.specs.Rows.{row}
 use Rattle.entry.specs.declared.Entry.{Entry}
+use Rattle.entry_text.specs.Values.{valueText, valuesText}
+use Rattle.entry_text.specs.Entries.{entryLine}
 use Rattle.journal.specs.Journal.{entryAt}
 use Rattle.kinds.specs.declared.Totals.{Totals}
 use Rattle.state.specs.declared.Awaited.{Awaited}
@@ -19,14 +19,6 @@ use Rattle.state.specs.declared.Counts.{Counts}
 use Rattle.state.specs.declared.Phase.{Phase}
 use Rattle.state.specs.declared.Phase.the-variants.{Resting, Waiting, Pending, Settling, Uploading}
 use Rattle.state.specs.declared.State.{State}
-
--- a value after its name; the first k values, each after its name, which is a row of a table
-unfoldable pub valueText : List ℕ → ℕ → List ℕ
-valueText name x = space ++ name ++ space ++ decimal x
-
-abbrev pub valuesText : List ℕ → List ℕ → ℕ → List ℕ
-valuesText names vs zero = []
-valuesText names vs (suc k) = valuesText names vs k ++ valueText (row k names) (getD vs k 0)
 
 -- counts sent 3 approved 2 declined 0 reversed 1 given-up 0 unanswered 0 waiting 0
 abbrev pub countNames : List ℕ
@@ -93,27 +85,6 @@ stateLine s =
     ++ text " phase " ++ phaseName (s .phase)
     ++ valueText (text "entries") (s .entries)
     ++ feed
-
--- entry 1 kind 22 voided 1 mark 0 resends 0 trace 000001 amount 12000 card 622202******0123 date 1115
--- authorisation "000001" reference "000000000001", on one line
-abbrev pub markNames : List ℕ
-markNames = text "kind\nvoided\nmark\nresends\n"
-
-unfoldable pub entryMarks : Entry → List ℕ
-entryMarks e =
-    valuesText markNames (e .kind ∷ e .voided ∷ e .mark ∷ e .resends ∷ []) 4
-    ++ text " trace " ++ sixDigits (e .trace .0)
-    ++ valueText (text "amount") (e .amount)
-
-unfoldable pub entryApproval : Entry → List ℕ
-entryApproval e =
-    text " card " ++ contentsText Digits true (e .digits) (e .card)
-    ++ text " date " ++ contentsText Digits false 4 (e .date)
-    ++ text " authorisation " ++ contentsText Printable false 6 (e .authorisation)
-    ++ text " reference " ++ contentsText Printable false 12 (e .reference)
-
-unfoldable pub entryLine : ℕ → Entry → List ℕ
-entryLine i e = text "entry " ++ decimal i ++ entryMarks e ++ entryApproval e ++ feed
 
 -- a line for each of the first k entries
 abbrev pub entryLines : ℕ → List Entry → List ℕ

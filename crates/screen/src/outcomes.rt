@@ -3,7 +3,7 @@ use state::Outcome;
 ghost use mathlib.Core.List.{_++_};
 ghost use Rattle.texts.specs.Decimal.{decimal};
 ghost use Rattle.texts.specs.Text.{Adds};
-ghost use Rattle.screen.specs.Outcomes.{reason, outcomeLine, errorLine};
+ghost use Rattle.screen.specs.Outcomes.{outcomeLine, errorLine};
 
 // Why a call is turned down: row k is number k of document 01.
 const REASONS: [u8; 638] = *b"
@@ -35,10 +35,23 @@ the answer does not match
 pub fn add_outcome(outcome: Outcome, message: &[u8], n: usize, out: &mut [u8]) -> usize
     ensures { λ r. ⌜ Adds (outcomeLine outcome (now (message .entry))) n (now (out .entry)) r (now (out .exit)) ⌝ }
 {
+    let reasons = REASONS;
     match outcome {
-        Outcome::Send(length) => add_sent(length, message, n, out),
+        Outcome::Send(length) => templates::add_filled(
+            b"sent @ #\n",
+            &[length as u64],
+            texts::front(message, 2),
+            n,
+            out,
+        ),
         Outcome::Quiet => texts::add(b"quiet\n", n, out),
-        Outcome::Refused(number) => add_refused(number, message, n, out),
+        Outcome::Refused(number) => templates::add_filled(
+            b"refused # $\n",
+            &[number as u64],
+            words::row(&reasons, number as usize),
+            n,
+            out,
+        ),
     }
 }
 
@@ -46,10 +59,7 @@ pub fn add_outcome(outcome: Outcome, message: &[u8], n: usize, out: &mut [u8]) -
 pub fn add_error(number: u64, why: &[u8], n: usize, out: &mut [u8]) -> usize
     ensures { λ r. ⌜ Adds (errorLine number (now (why .entry))) n (now (out .entry)) r (now (out .exit)) ⌝ }
 {
-    let mut at = add_named(b"error line ", number, n, out);
-    at = texts::add(b" ", at, out);
-    at = texts::add(why, at, out);
-    texts::add(b"\n", at, out)
+    templates::add_filled(b"error line # $\n", &[number], why, n, out)
 }
 
 // Adds a name and a number.
@@ -58,23 +68,4 @@ pub fn add_named(name: &[u8], x: u64, n: usize, out: &mut [u8]) -> usize
 {
     let at = texts::add(name, n, out);
     texts::add_decimal(x, at, out)
-}
-
-fn add_sent(length: usize, message: &[u8], n: usize, out: &mut [u8]) -> usize
-    ensures { λ r. ⌜ Adds (outcomeLine (Outcome.Send length) (now (message .entry))) n (now (out .entry)) r (now (out .exit)) ⌝ }
-{
-    let mut at = texts::add(b"sent ", n, out);
-    at = texts::add_hex(texts::front(message, 2), at, out);
-    at = add_named(b" ", length as u64, at, out);
-    texts::add(b"\n", at, out)
-}
-
-fn add_refused(number: u8, message: &[u8], n: usize, out: &mut [u8]) -> usize
-    ensures { λ r. ⌜ Adds (outcomeLine (Outcome.Refused number) (now (message .entry))) n (now (out .entry)) r (now (out .exit)) ⌝ }
-{
-    let reasons = REASONS;
-    let mut at = add_named(b"refused ", number as u64, n, out);
-    at = texts::add(b" ", at, out);
-    at = texts::add(words::row(&reasons, number as usize), at, out);
-    texts::add(b"\n", at, out)
 }

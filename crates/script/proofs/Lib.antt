@@ -1,3 +1,3 @@
 -- Laws of a script's lines, for the proofs of this crate.
-pub mod Faults
+pub mod Starts
 pub mod Says

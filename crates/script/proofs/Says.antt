@@ -16,7 +16,7 @@ use Rattle.digits.specs.declared.Number.the-variants.{Is, Not}
 use Rattle.digits.proofs.Lists.{length-tabulate}
 use Rattle.digits.proofs.Numbers.{value-below}
 use Rattle.digits.specs.Packed.{numeral}
-use Rattle.words.specs.Words.{digitOf, numberIn, upTo, numberUpTo, isText, textIn}
+use Rattle.word_values.specs.Values.{digitOf, numberIn, upTo, numberUpTo, isText, textIn}
 use Rattle.script.specs.Script.{textOr}
 
 at-most : (most : ℕ) (x : Number) → numeral (upTo most x) ≤ most

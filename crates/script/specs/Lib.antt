@@ -1,3 +1,2 @@
-pub mod Table
-pub mod Shapes
+pub mod Names
 pub mod Script

@@ -8,21 +8,22 @@ use Rattle.digits.specs.declared.Number.the-variants.{Is, Not}
 use Rattle.digits.specs.Packed.{numeral}
 use Rattle.state.specs.declared.Card.{Card}
 use Rattle.state.specs.declared.Settings.{Settings}
-use Rattle.call_start.specs.declared.Desk.{Desk}
+use Rattle.desk.specs.declared.Desk.{Desk}
 use Rattle.calls.specs.declared.Call.the-variants as call
-use Rattle.texts.specs.Text.{text}
-use Rattle.words.specs.Words.{wordAt, sameWord, numberIn, numberUpTo, isText, textIn}
+use Rattle.words.specs.Words.{wordAt}
+use Rattle.word_values.specs.Values.{numberIn, numberUpTo, isText, textIn, isGood}
 use Rattle.script.specs.declared.Name.{Name}
 use Rattle.script.specs.declared.Name.the-variants as name
-use Rattle.script.specs.declared.Fault.the-variants as fault
-use Rattle.script.specs.declared.Verdict.{Verdict}
-use Rattle.script.specs.declared.Verdict.the-variants.{Fine, Wrong}
+use Rattle.grammar.specs.declared.Fault.the-variants as fault
+use Rattle.grammar.specs.declared.Verdict.{Verdict}
+use Rattle.grammar.specs.declared.Verdict.the-variants.{Fine, Wrong}
+use Rattle.grammar.specs.Table.{commands}
+use Rattle.grammar.specs.Shapes.{isEmpty, lineFault}
 use Rattle.script.specs.declared.Command.{Command}
 use Rattle.script.specs.declared.Command.the-variants as command
 use Rattle.script.specs.declared.Line.{Line}
 use Rattle.words.specs.Rows.{rowNamed}
-use Rattle.script.specs.Table.{commands, names}
-use Rattle.script.specs.Shapes.{isEmpty, lineFault}
+use Rattle.script.specs.Names.{names}
 
 -- numbers of 8, 32 and 64 bits, and a date MMDD; 0 where a word is none
 unfoldable pub number8 : List ℕ → ℕ
@@ -97,7 +98,7 @@ commandOf (name.Void kind) s = command.Call call.Start
 commandOf (name.Authorised kind) s = command.Call call.Start
 commandOf name.Refund s = command.Call call.Start
 commandOf name.Start s = command.Call call.Start
-commandOf name.Answer s = command.Call (call.Answer (sameWord (wordAt 2 s) (text "good")))
+commandOf name.Answer s = command.Call (call.Answer (isGood (wordAt 2 s)))
 commandOf name.Reply s = command.Reply (getD (wordAt 1 s) 0 0) (getD (wordAt 1 s) 1 0) (isEmpty (wordAt 2 s))
 commandOf name.Reconcile s = command.Reconcile (number8 (wordAt 1 s))
 commandOf name.Date s = command.Date (monthDay (wordAt 1 s))

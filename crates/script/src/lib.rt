@@ -1,10 +1,11 @@
 // A line of a script as a command.
-mod shapes;
-mod table;
+mod names;
 mod values;
 
-use call_start::Desk;
 use calls::Call;
+use desk::Desk;
+use grammar::Fault;
+use grammar::Verdict;
 use numbers::Batch;
 use state::Settings;
 ghost use mathlib.Core.Path.{_≡_};
@@ -38,34 +39,6 @@ pub enum Name {
     Unknown,
 }
 
-// What a word must be.
-pub enum Shape {
-    Number(u64),
-    Card,
-    CardOrNone,
-    Text(u8),
-    TextOrNone(u8),
-    Date,
-    Code,
-    Bytes,
-    Mac,
-    Bad,
-    Any,
-    End,
-}
-
-// What is wrong with a line: its first word, the number of its words, or word k, the first being 1.
-pub enum Fault {
-    Unknown,
-    Count,
-    Word(u8),
-}
-
-pub enum Verdict {
-    Fine,
-    Wrong(Fault),
-}
-
 // What a line asks for; settings and desk data stand beside it, and the bytes of an answer are its second word.
 pub enum Command {
     Terminal,
@@ -87,9 +60,9 @@ pub struct Line {
 pub fn parse(s: &[u8]) -> Line
     ensures { λ r. ⌜ r ≡ parsed (now (s .entry)) ⌝ }
 {
-    let k = table::row_of(words::word(s, 0));
-    let name = table::name_at(k);
-    let verdict = shapes::line_fault(k, s);
+    let k = grammar::row_of(words::word(s, 0));
+    let name = names::name_at(k);
+    let verdict = grammar::line_fault(k, s);
     Line {
         command: judged_command(verdict, name, s),
         settings: values::settings_in(s),
@@ -116,18 +89,14 @@ fn command_of(name: Name, s: &[u8]) -> Command
     match name {
         Name::Terminal => Command::Terminal,
         Name::SignedOn => Command::Call(Call::SignedOn(Batch(values::number32(words::word(s, 1))))),
-        Name::Request(_) => Command::Call(Call::Start),
-        Name::Void(_) => Command::Call(Call::Start),
-        Name::Authorised(_) => Command::Call(Call::Start),
-        Name::Refund => Command::Call(Call::Start),
-        Name::Start => Command::Call(Call::Start),
-        Name::Answer => Command::Call(Call::Answer(words::same(words::word(s, 2), b"good"))),
+        Name::Answer => Command::Call(Call::Answer(word_values::is_good(words::word(s, 2)))),
         Name::Reply => replied(s),
         Name::Reconcile => Command::Reconcile(values::number8(words::word(s, 1))),
         Name::Date => Command::Date(values::month_day(words::word(s, 1))),
         Name::Call(c) => Command::Call(c),
         Name::Show(x) => Command::Show(x),
         Name::Unknown => Command::Wrong(Fault::Unknown),
+        _ => Command::Call(Call::Start),
     }
 }
 

@@ -1,8 +1,8 @@
 // What words say: numbers, cards, a desk's data and settings.
 use crate::Name;
+use desk::Desk;
 use digits::Number;
 use numbers::Trace;
-use call_start::Desk;
 use state::Card;
 use state::Settings;
 ghost use mathlib.Core.Path.{_≡_};
@@ -13,32 +13,32 @@ ghost use Rattle.script.specs.Script.{number8, number32, number64, month
 pub fn number8(w: &[u8]) -> u8
     ensures { λ r. ⌜ r ≡ number8 (now (w .entry)) ⌝ }
 {
-    digits::numeral(words::number_up_to(255, w)) as u8
+    digits::numeral(word_values::number_up_to(255, w)) as u8
 }
 
 pub fn number32(w: &[u8]) -> u32
     ensures { λ r. ⌜ r ≡ number32 (now (w .entry)) ⌝ }
 {
-    digits::numeral(words::number_up_to(4294967295, w)) as u32
+    digits::numeral(word_values::number_up_to(4294967295, w)) as u32
 }
 
 fn number64(w: &[u8]) -> u64
     ensures { λ r. ⌜ r ≡ number64 (now (w .entry)) ⌝ }
 {
-    digits::numeral(words::number_up_to(999999999999999999, w))
+    digits::numeral(word_values::number_up_to(999999999999999999, w))
 }
 
 // A date MMDD as a number.
 pub fn month_day(w: &[u8]) -> u16
     ensures { λ r. ⌜ (r ≡ monthDay (now (w .entry))) × (r < 10000) ⌝ }
 {
-    digits::numeral(words::decimal_in(4, w)) as u16
+    digits::numeral(word_values::decimal_in(4, w)) as u16
 }
 
 fn card_in(w: &[u8]) -> Card
     ensures { λ r. ⌜ r ≡ cardIn (now (w .entry)) ⌝ }
 {
-    match words::decimal_in(19, w) {
+    match word_values::decimal_in(19, w) {
         Number::Is(x) => Card {
             number: x,
             length: w.len() as u8,
@@ -65,8 +65,8 @@ fn keyed(
 {
     let mut field37 = [0u8; 12];
     let mut field38 = [0u8; 6];
-    words::text_into(reference, &mut field37);
-    words::text_into(authorisation, &mut field38);
+    word_values::text_into(reference, &mut field37);
+    word_values::text_into(authorisation, &mut field38);
     let original = Trace(number32(trace));
     Desk {
         kind: kind,
@@ -169,16 +169,7 @@ pub fn desk_of(name: Name, s: &[u8]) -> Desk
         Name::Void(kind) => voiding(kind, s),
         Name::Authorised(kind) => authorised(kind, s),
         Name::Refund => refunded(s),
-        Name::Start => given(s),
-        Name::Terminal => given(s),
-        Name::SignedOn => given(s),
-        Name::Answer => given(s),
-        Name::Reply => given(s),
-        Name::Reconcile => given(s),
-        Name::Date => given(s),
-        Name::Call(_) => given(s),
-        Name::Show(_) => given(s),
-        Name::Unknown => given(s),
+        _ => given(s),
     }
 }
 
@@ -188,8 +179,8 @@ pub fn settings_in(s: &[u8]) -> Settings
 {
     let mut terminal = [0u8; 8];
     let mut merchant = [0u8; 15];
-    words::text_into(words::word(s, 4), &mut terminal);
-    words::text_into(words::word(s, 5), &mut merchant);
+    word_values::text_into(words::word(s, 4), &mut terminal);
+    word_values::text_into(words::word(s, 5), &mut merchant);
     Settings {
         limit: number32(words::word(s, 1)),
         sendings: number8(words::word(s, 2)),

@@ -31,11 +31,11 @@ pub fn add_decimal(x: u64, n: usize, out: &mut [u8]) -> usize
 }
 
 // Adds the last six digits of a number.
-pub fn add_six(x: u32, n: usize, out: &mut [u8]) -> usize
+pub fn add_six(x: u64, n: usize, out: &mut [u8]) -> usize
     ensures { λ r. ⌜ Adds (sixDigits x) n (now (out .entry)) r (now (out .exit)) ⌝ }
 {
     let mut digits = [0u8; 3];
-    digits::put_number(x as u64, &mut digits);
+    digits::put_number(x, &mut digits);
     add_hex(&digits, n, out)
 }
 

@@ -17,10 +17,17 @@ enum-known-h : tie.Need-enum-known-h
 enum-known-h c = search needs
 
 array-share-prefix-bytes : tie.Need-array-share-prefix-bytes
-array-share-prefix-bytes c = omega (arith, outcome-fits _ _ (sym (c .before .before .before .before .hex-into .ensures .0) ∙ c .before .h .given .1), c .before .before .before .before .hex-into .kept .1 .0)
+array-share-prefix-bytes c =
+    let at-hex-into-ensures = c .before .before .before .before .hex-into .ensures in
+    let at-hex-into-kept = c .before .before .before .before .hex-into .kept in
+    omega (arith, outcome-fits _ _ (sym (at-hex-into-ensures .0) ∙ c .before .h .given .1), at-hex-into-kept .1 .0)
 
 slice-aggregate-show : tie.Need-slice-aggregate-show
-slice-aggregate-show c = sym (length-take-le _ _ (omega (arith, outcome-fits _ _ (sym (c .before .before .before .before .before .hex-into .ensures .0) ∙ c .before .before .h .given .1), c .before .before .before .before .before .hex-into .kept .1 .0)))
+slice-aggregate-show c =
+    let at-hex-into-ensures = c .before .before .before .before .before .hex-into .ensures in
+    let at-hex-into-kept = c .before .before .before .before .before .hex-into .kept in
+    let at-h-given = c .before .before .h .given in
+    sym (length-take-le _ _ (omega (arith, outcome-fits _ _ (sym (at-hex-into-ensures .0) ∙ at-h-given .1), at-hex-into-kept .1 .0)))
 
 show-requires : tie.Need-show-requires
 show-requires c κs = search needs

@@ -26,10 +26,17 @@ add-requires-2 : tie.Need-add-requires-2
 add-requires-2 c κs = search needs
 
 array-share-prefix-text : tie.Need-array-share-prefix-text
-array-share-prefix-text c = omega (arith, within (c .before .add2 .ensures _ (c .before .before .before .before .add-decimal .ensures _ (c .before .before .before .before .before .before .before .add .ensures _ (start _)))))
+array-share-prefix-text c =
+    let at-add-ensures = c .before .before .before .before .before .before .before .add .ensures in
+    let at-add-decimal-ensures = c .before .before .before .before .add-decimal .ensures in
+    omega (arith, within (c .before .add2 .ensures _ (at-add-decimal-ensures _ (at-add-ensures _ (start _)))))
 
 slice-aggregate-write-all : tie.Need-slice-aggregate-write-all
-slice-aggregate-write-all c = sym (length-take-le _ _ (omega (arith, within (c .before .before .add2 .ensures _ (c .before .before .before .before .before .add-decimal .ensures _ (c .before .before .before .before .before .before .before .before .add .ensures _ (start _)))))))
+slice-aggregate-write-all c =
+    let at-add-ensures = c .before .before .before .before .before .before .before .before .add .ensures in
+    let at-add-decimal-ensures = c .before .before .before .before .before .add-decimal .ensures in
+    let at-add2-ensures = c .before .before .add2 .ensures in
+    sym (length-take-le _ _ (omega (arith, within (at-add2-ensures _ (at-add-decimal-ensures _ (at-add-ensures _ (start _)))))))
 
 write-all-requires : tie.Need-write-all-requires
 write-all-requires c κs = search needs

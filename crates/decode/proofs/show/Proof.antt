@@ -41,7 +41,9 @@ array-share-prefix-text : tie.Need-array-share-prefix-text
 array-share-prefix-text c = omega (arith, within (c .before .add-message .ensures _ (start _)))
 
 slice-aggregate-write-all : tie.Need-slice-aggregate-write-all
-slice-aggregate-write-all c = sym (length-take-le _ _ (omega (arith, within (c .before .before .add-message .ensures _ (start _)))))
+slice-aggregate-write-all c =
+    let at-add-message-ensures = c .before .before .add-message .ensures in
+    sym (length-take-le _ _ (omega (arith, within (at-add-message-ensures _ (start _)))))
 
 write-all-requires : tie.Need-write-all-requires
 write-all-requires c κs = search needs

@@ -25,19 +25,28 @@ same-length : tie.Need-same-length
 same-length c = search needs
 
 returns : tie.Need-returns
-returns c = rw (c .before .before .before .before .enum-told .given .1) (c .before .before .add-digits .ensures)
+returns c =
+    let at-enum-told = c .before .before .before .before .enum-told in
+    let at-add-digits = c .before .before .add-digits in
+    rw (at-enum-told .given .1) (at-add-digits .ensures)
 
 same-length-2 : tie.Need-same-length-2
 same-length-2 c = search needs
 
 returns-2 : tie.Need-returns-2
-returns-2 c = rw (c .before .before .before .before .enum-told2 .given .1) (c .before .before .add-quoted .ensures)
+returns-2 c =
+    let at-enum-told2 = c .before .before .before .before .enum-told2 in
+    let at-add-quoted = c .before .before .add-quoted in
+    rw (at-enum-told2 .given .1) (at-add-quoted .ensures)
 
 same-length-3 : tie.Need-same-length-3
 same-length-3 c = search needs
 
 returns-3 : tie.Need-returns-3
-returns-3 c = rw (c .before .before .before .before .enum-told3 .given .1) (c .before .before .add-hex .ensures)
+returns-3 c =
+    let at-enum-told3 = c .before .before .before .before .enum-told3 in
+    let at-add-hex = c .before .before .add-hex in
+    rw (at-enum-told3 .given .1) (at-add-hex .ensures)
 
 pub add-contents-spec : {M : Type 1} → statement M
 add-contents-spec =

@@ -45,7 +45,16 @@ size-of-requires : tie.Need-size-of-requires Inv-loop μ-loop
 size-of-requires c κs = search needs
 
 add-from : tie.Need-add-from Inv-loop μ-loop
-add-from c = omega (arith, place-fits (c .before .before .before .before .before .before .before .before .before .loop .inv .place) (at-place (c .before .before .before .before .before .before .before .before .before .before .table .ensures) (c .before .before .before .before .before .before .before .before .loop-test .taken)) (c .size-of .ensures))
+add-from c =
+    let at-table-ensures = c .before .before .before .before .before .before .before .before .before .before .table .ensures in
+    let at-loop-inv = c .before .before .before .before .before .before .before .before .before .loop .inv in
+    let at-loop-test-taken = c .before .before .before .before .before .before .before .before .loop-test .taken in
+    omega (
+      arith,
+      place-fits (at-loop-inv .place)
+          (at-place at-table-ensures
+          at-loop-test-taken) (c .size-of .ensures),
+    )
 
 add-k : tie.Need-add-k Inv-loop μ-loop
 add-k c = search needs
@@ -54,7 +63,15 @@ loop-less : tie.Need-loop-less Inv-loop μ-loop
 loop-less c = search needs
 
 loop-again : tie.Need-loop-again Inv-loop μ-loop
-loop-again c = shown-more (c .before .before .before .before .before .before .before .before .before .loop .inv) (at-place (c .before .before .before .before .before .before .before .before .before .before .table .ensures) (c .before .before .before .before .before .before .before .before .loop-test .taken)) (c .size-of .ensures) (search needs) (c .before .before .before .add-named .ensures)
+loop-again c =
+    let at-table-ensures = c .before .before .before .before .before .before .before .before .before .before .table .ensures in
+    let at-loop-inv = c .before .before .before .before .before .before .before .before .before .loop .inv in
+    let at-loop-test-taken = c .before .before .before .before .before .before .before .before .loop-test .taken in
+    let at-add-named-ensures = c .before .before .before .add-named .ensures in
+    shown-more at-loop-inv
+    (at-place at-table-ensures
+    at-loop-test-taken) (c .size-of .ensures) (search needs)
+    at-add-named-ensures
 
 same-length : tie.Need-same-length Inv-loop μ-loop
 same-length c = c .before .loop .inv .len

@@ -19,7 +19,12 @@ same-length c = search needs
 
 returns : tie.Need-returns
 unfolding messageText
-returns c = and-then (and-then (c .before .before .before .before .before .before .before .before .before .before .add-type .ensures) (c .before .before .before .before .before .before .add-lines .ensures)) (c .before .before .add-end .ensures)
+returns c =
+    let at-add-type = c .before .before .before .before .before .before .before .before .before .before .add-type in
+    let at-add-lines = c .before .before .before .before .before .before .add-lines in
+    let at-add-end = c .before .before .add-end in
+    and-then (and-then (at-add-type .ensures)
+    (at-add-lines .ensures)) (at-add-end .ensures)
 
 pub add-message-spec : {M : Type 1} → statement M
 add-message-spec =

@@ -22,10 +22,23 @@ same-length : tie.Need-same-length
 same-length c = search needs
 
 returns : tie.Need-returns
-returns c = named-adds (c .before .before .before .before .before .before .before .before .before .before .before .args .f) (c .before .before .before .before .before .before .before .before .before .before .before .args .t2) (c .before .before .before .before .before .before .before .before .before .before .before .args .n) (now (c .before .before .before .before .before .before .before .before .before .before .before .args .bs)) (sym (c .before .before .before .before .before .before .before .named .ensures) ∙ c .before .before .before .before .before .before .if1 .taken) (rw (c .before .before .before .before .front .ensures, c .before .before .before .before .before .size-of .ensures) at (c .before .before .add-line .ensures))
+returns c =
+    let at-args = c .before .before .before .before .before .before .before .before .before .before .before .args in
+    let at-named = c .before .before .before .before .before .before .before .named in
+    let at-if1 = c .before .before .before .before .before .before .if1 in
+    let at-size-of = c .before .before .before .before .before .size-of in
+    let at-front = c .before .before .before .before .front in
+    let at-add-line = c .before .before .add-line in
+    named-adds (at-args .f) (at-args .t2) (at-args .n) (now (at-args .bs))
+    (sym (at-named .ensures) ∙
+    at-if1 .taken) (rw
+    (at-front .ensures, at-size-of .ensures) at
+    (at-add-line .ensures))
 
 returns-2 : tie.Need-returns-2
-returns-2 c = unnamed-adds (c .before .before .before .before .before .args .f) (c .before .before .before .before .before .args .t2) (c .before .before .before .before .before .args .n) (now (c .before .before .before .before .before .args .bs)) (sym (c .before .named .ensures) ∙ c .if1 .left)
+returns-2 c =
+    let at-args = c .before .before .before .before .before .args in
+    unnamed-adds (at-args .f) (at-args .t2) (at-args .n) (now (at-args .bs)) (sym (c .before .named .ensures) ∙ c .if1 .left)
 
 pub add-named-spec : {M : Type 1} → statement M
 add-named-spec =

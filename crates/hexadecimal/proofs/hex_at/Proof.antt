@@ -11,7 +11,10 @@ shared-slice-read-b : tie.Need-shared-slice-read-b
 shared-slice-read-b c = search needs
 
 hex-digit-requires : tie.Need-hex-digit-requires
-hex-digit-requires c κs = omega (arith, c .before .before .shared-slice-known .given (c .before .before .before .args .i / 2))
+hex-digit-requires c κs =
+    let at-args-i = c .before .before .before .args .i in
+    let at-shared-slice-known-given = c .before .before .shared-slice-known .given in
+    omega (arith, at-shared-slice-known-given (at-args-i / 2))
 
 returns : tie.Need-returns
 unfolding hexAt

@@ -16,7 +16,12 @@ hex-value-requires : tie.Need-hex-value-requires
 hex-value-requires c κs = search needs
 
 mul-result : tie.Need-mul-result
-mul-result c = omega (arith, hex-pair (now (c .before .before .before .args .s)) (c .before .before .before .pre .1) (c .before .before .before .args .j) (c .before .before .before .pre .0))
+mul-result c =
+    let at-args-j = c .before .before .before .args .j in
+    let at-args-s = c .before .before .before .args .s in
+    let at-pre-0 = c .before .before .before .pre .0 in
+    let at-pre-1 = c .before .before .before .pre .1 in
+    omega (arith, hex-pair (now at-args-s) at-pre-1 at-args-j at-pre-0)
 
 add-hex-value : tie.Need-add-hex-value
 add-hex-value c = search needs
@@ -28,7 +33,12 @@ hex-value-requires-2 : tie.Need-hex-value-requires-2
 hex-value-requires-2 c κs = search needs
 
 add-result : tie.Need-add-result
-add-result c = omega (arith, hex-pair (now (c .before .before .before .before .before .args .s)) (c .before .before .before .before .before .pre .1) (c .before .before .before .before .before .args .j) (c .before .before .before .before .before .pre .0))
+add-result c =
+    let at-args-j = c .before .before .before .before .before .args .j in
+    let at-args-s = c .before .before .before .before .before .args .s in
+    let at-pre-0 = c .before .before .before .before .before .pre .0 in
+    let at-pre-1 = c .before .before .before .before .before .pre .1 in
+    omega (arith, hex-pair (now at-args-s) at-pre-1 at-args-j at-pre-0)
 
 returns : tie.Need-returns
 returns c = search needs

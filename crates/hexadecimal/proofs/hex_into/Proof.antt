@@ -10,7 +10,9 @@ is-hex-requires : tie.Need-is-hex-requires
 is-hex-requires c κs = search needs
 
 returns : tie.Need-returns
-returns c = (outcome-long _ _ (sym (c .before .before .is-hex .ensures) ∙ c .before .if1 .taken) (c .if2 .taken), refl)
+returns c =
+    let at-is-hex = c .before .before .is-hex in
+    (outcome-long _ _ (sym (at-is-hex .ensures) ∙ c .before .if1 .taken) (c .if2 .taken), refl)
 
 slice-relend-prefix-put-bytes : tie.Need-slice-relend-prefix-put-bytes
 slice-relend-prefix-put-bytes c = search needs
@@ -19,13 +21,21 @@ slice-aggregate-put-bytes : tie.Need-slice-aggregate-put-bytes
 slice-aggregate-put-bytes c = sym (length-take-le _ _ (c .before .if2 .left))
 
 put-bytes-requires : tie.Need-put-bytes-requires
-put-bytes-requires c κs = (length-take-le _ _ (c .before .if2 .left), sym (c .before .before .before .is-hex .ensures) ∙ c .before .before .if1 .taken)
+put-bytes-requires c κs =
+    let at-is-hex = c .before .before .before .is-hex in
+    let at-if1 = c .before .before .if1 in
+    (length-take-le _ _ (c .before .if2 .left), sym (at-is-hex .ensures) ∙ at-if1 .taken)
 
 same-length : tie.Need-same-length
 same-length c = search needs
 
 returns-2 : tie.Need-returns-2
-returns-2 c = (outcome-bytes _ _ (sym (c .before .before .before .before .before .before .is-hex .ensures) ∙ c .before .before .before .before .before .if1 .taken) (c .before .before .before .before .if2 .left), rw (length-from-hex, c .before .before .put-bytes .ensures))
+returns-2 c =
+    let at-is-hex = c .before .before .before .before .before .before .is-hex in
+    let at-if1 = c .before .before .before .before .before .if1 in
+    let at-if2 = c .before .before .before .before .if2 in
+    let at-put-bytes = c .before .before .put-bytes in
+    (outcome-bytes _ _ (sym (at-is-hex .ensures) ∙ at-if1 .taken) (at-if2 .left), rw (length-from-hex, at-put-bytes .ensures))
 
 returns-3 : tie.Need-returns-3
 returns-3 c = (outcome-not _ _ (sym (c .before .is-hex .ensures) ∙ c .if1 .left), refl)

@@ -31,7 +31,9 @@ hex-value-requires : tie.Need-hex-value-requires Inv-loop μ-loop
 hex-value-requires c κs = search needs
 
 returns-2 : tie.Need-returns-2 Inv-loop μ-loop
-returns-2 c = sym (hex-fails _ (c .before .before .before .before .loop .i) (search needs) (rw (c .before .hex-value .ensures) at (c .if2 .taken)))
+returns-2 c =
+    let at-loop-i = c .before .before .before .before .loop .i in
+    sym (hex-fails _ at-loop-i (search needs) (rw (c .before .hex-value .ensures) at (c .if2 .taken)))
 
 add-i : tie.Need-add-i Inv-loop μ-loop
 add-i c = search needs
@@ -40,11 +42,18 @@ loop-less : tie.Need-loop-less Inv-loop μ-loop
 loop-less c = search needs
 
 loop-again : tie.Need-loop-again Inv-loop μ-loop
-loop-again c = let h : c .before .hex-value .result < 16 = search needs in (search needs, passed-more (c .before .before .before .before .loop .inv .1) (lt-ltb _ _ (rw (c .before .hex-value .ensures) at h)))
+loop-again c =
+    let at-loop-inv = c .before .before .before .before .loop .inv in
+    let h : c .before .hex-value .result < 16 = search needs in
+    (search needs, passed-more (at-loop-inv .1) (lt-ltb _ _ (rw (c .before .hex-value .ensures) at h)))
 
 returns-3 : tie.Need-returns-3 Inv-loop μ-loop
 unfolding isHex
-returns-3 c = let e : c .before .loop .i ≡ length (now (c .before .before .before .before .args .s)) = search needs in rw (eq-eqb _ _ (c .before .before .if1 .left)) (sym (rw e at (c .before .loop .inv .1 .holds)))
+returns-3 c =
+    let at-args-s = c .before .before .before .before .args .s in
+    let at-if1-left = c .before .before .if1 .left in
+    let e : c .before .loop .i ≡ length (now at-args-s) = search needs in
+    rw (eq-eqb _ _ at-if1-left) (sym (rw e at (c .before .loop .inv .1 .holds)))
 
 pub is-hex-spec : {M : Type 1} → statement M
 is-hex-spec =

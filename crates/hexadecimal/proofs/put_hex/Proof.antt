@@ -18,7 +18,10 @@ same-length : tie.Need-same-length
 same-length c = search needs
 
 returns-2 : tie.Need-returns-2
-returns-2 c = (rw (eq-eqb _ _ (c .before .before .before .before .if1 .left)), c .before .before .put-digits .ensures)
+returns-2 c =
+    let at-if1 = c .before .before .before .before .if1 in
+    let at-put-digits = c .before .before .put-digits in
+    (rw (eq-eqb _ _ (at-if1 .left)), at-put-digits .ensures)
 
 pub put-hex-spec : {M : Type 1} → statement M
 put-hex-spec = tie.close (tie.spec mul-if1 returns put-digits-requires same-length returns-2)

@@ -2,7 +2,8 @@
 use borrow.Author.Needs.{needs}
 use native.Mathlib.Omega.{arith}
 use Prim.Native.Nat.{_-_, _≤_}
-use Rattle.input.proofs.Feeds.{used-part, grown-within}
+use Rattle.line_ends.proofs.Feeds.{used-part}
+use Rattle.input.proofs.Feeds.{grown-within}
 use Rattle.input.proofs.more.Statement.{statement}
 use Rattle.input.proofs.more.Tie as tie
 
@@ -32,9 +33,9 @@ take-in-requires c κs = search needs
 
 add-t12 : tie.Need-add-t12
 add-t12 c =
+    let at-take-in = c .before .before .before .take-in in
     let r = c .before .before .before .before .before .before .before .before .before .before .refilled .result in
-    let t = c .before .before .before .take-in in
-    let h : t .result .used ≤ r .end - r .from = rw (t .ensures .1) (used-part _ _) in
+    let h : at-take-in .result .used ≤ r .end - r .from = rw (at-take-in .ensures .1) (used-part _ _) in
     omega arith
 
 same-length-2 : tie.Need-same-length-2
@@ -44,7 +45,11 @@ same-length-3 : tie.Need-same-length-3
 same-length-3 c = search needs
 
 returns-2 : tie.Need-returns-2
-returns-2 c = omega (arith, grown-within (c .before .before .before .before .take-in .ensures .0) (c .before .before .before .before .before .before .before .before .before .before .before .before .before .before .before .before .pre))
+returns-2 c =
+    let at-pre = c .before .before .before .before .before .before .before .before .before .before .before .before .before .before .before
+    .before .pre in
+    let at-take-in-ensures = c .before .before .before .before .take-in .ensures in
+    omega (arith, grown-within (at-take-in-ensures .0) at-pre)
 
 pub more-spec : {M : Type 1} → statement M
 more-spec =

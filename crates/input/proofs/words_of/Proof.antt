@@ -18,11 +18,18 @@ slice-aggregate-result c = search needs
 
 returns : tie.Need-returns
 unfolding wordsIn
-returns c = rw (← c .before .before .before .before .in-hand .ensures, ← c .before .before .before .trim .ensures, ← c .before .before .is-skipped .ensures, c .before .if1 .taken)
+returns c =
+    let at-in-hand = c .before .before .before .before .in-hand in
+    let at-trim = c .before .before .before .trim in
+    let at-is-skipped = c .before .before .is-skipped in
+    rw (← at-in-hand .ensures, ← at-trim .ensures, ← at-is-skipped .ensures, c .before .if1 .taken)
 
 returns-2 : tie.Need-returns-2
 unfolding wordsIn
-returns-2 c = rw (← c .before .before .before .in-hand .ensures, ← c .before .before .trim .ensures, ← c .before .is-skipped .ensures, c .if1 .left)
+returns-2 c =
+    let at-in-hand = c .before .before .before .in-hand in
+    let at-trim = c .before .before .trim in
+    rw (← at-in-hand .ensures, ← at-trim .ensures, ← c .before .is-skipped .ensures, c .if1 .left)
 
 pub words-of-spec : {M : Type 1} → statement M
 words-of-spec =

@@ -1,4 +1,6 @@
 -- `script::command_of` meets its contract.
+use denote.Ref.{now}
+use Rattle.script.proofs.Starts.{starting}
 use borrow.Author.Needs.{needs}
 use Rattle.script.proofs.command_of.Statement.{statement}
 use Rattle.script.proofs.command_of.Tie as tie
@@ -18,38 +20,20 @@ number32-requires c κs = search needs
 enum-told-3 : tie.Need-enum-told-3
 enum-told-3 c = search needs
 
-enum-told-4 : tie.Need-enum-told-4
-enum-told-4 c = search needs
-
-enum-told-5 : tie.Need-enum-told-5
-enum-told-5 c = search needs
-
-enum-told-6 : tie.Need-enum-told-6
-enum-told-6 c = search needs
-
-enum-told-7 : tie.Need-enum-told-7
-enum-told-7 c = search needs
-
-enum-told-8 : tie.Need-enum-told-8
-enum-told-8 c = search needs
-
 word-requires-2 : tie.Need-word-requires-2
 word-requires-2 c κs = search needs
 
-slice-aggregate-same : tie.Need-slice-aggregate-same
-slice-aggregate-same c = search needs
+is-good-requires : tie.Need-is-good-requires
+is-good-requires c κs = search needs
 
-same-requires : tie.Need-same-requires
-same-requires c κs = search needs
-
-enum-told-9 : tie.Need-enum-told-9
-enum-told-9 c = search needs
+enum-told-4 : tie.Need-enum-told-4
+enum-told-4 c = search needs
 
 replied-requires : tie.Need-replied-requires
 replied-requires c κs = search needs
 
-enum-told-10 : tie.Need-enum-told-10
-enum-told-10 c = search needs
+enum-told-5 : tie.Need-enum-told-5
+enum-told-5 c = search needs
 
 word-requires-3 : tie.Need-word-requires-3
 word-requires-3 c κs = search needs
@@ -57,8 +41,8 @@ word-requires-3 c κs = search needs
 number8-requires : tie.Need-number8-requires
 number8-requires c κs = search needs
 
-enum-told-11 : tie.Need-enum-told-11
-enum-told-11 c = search needs
+enum-told-6 : tie.Need-enum-told-6
+enum-told-6 c = search needs
 
 word-requires-4 : tie.Need-word-requires-4
 word-requires-4 c κs = search needs
@@ -72,50 +56,48 @@ enum-known-name c = search needs
 enum-known-name-2 : tie.Need-enum-known-name-2
 enum-known-name-2 c = search needs
 
-enum-told-12 : tie.Need-enum-told-12
-enum-told-12 c = search needs
+enum-told-7 : tie.Need-enum-told-7
+enum-told-7 c = search needs
 
 returns : tie.Need-returns
 returns c = search needs
 
 returns-2 : tie.Need-returns-2
-returns-2 c = rw (c .before .before .enum-told2 .given .1, c .number32 .ensures, c .before .word .ensures)
+returns-2 c =
+    let at-enum-told2 = c .before .before .enum-told2 in
+    rw (at-enum-told2 .given .1, c .number32 .ensures, c .before .word .ensures)
 
 returns-3 : tie.Need-returns-3
-returns-3 c = rw (c .enum-told3 .given .1)
+returns-3 c =
+    let at-enum-told3 = c .before .before .enum-told3 in
+    rw (at-enum-told3 .given .1, c .is-good .ensures, c .before .word2 .ensures)
 
 returns-4 : tie.Need-returns-4
-returns-4 c = rw (c .enum-told4 .given .1)
+returns-4 c = rw (c .before .enum-told4 .given .1) (c .replied .ensures)
 
 returns-5 : tie.Need-returns-5
-returns-5 c = rw (c .enum-told5 .given .1)
+returns-5 c =
+    let at-enum-told5 = c .before .before .enum-told5 in
+    rw (at-enum-told5 .given .1, c .number8 .ensures, c .before .word3 .ensures)
 
 returns-6 : tie.Need-returns-6
-returns-6 c = rw (c .enum-told6 .given .1)
+returns-6 c =
+    let at-enum-told6 = c .before .before .enum-told6 in
+    rw (at-enum-told6 .given .1, c .month-day .ensures .0, c .before .word4 .ensures)
 
 returns-7 : tie.Need-returns-7
-returns-7 c = rw (c .enum-told7 .given .1)
+returns-7 c = rw (c .before .name .given .1)
 
 returns-8 : tie.Need-returns-8
-returns-8 c = rw (c .before .before .before .enum-told8 .given .1, c .same .ensures, c .before .before .word2 .ensures)
+returns-8 c = rw (c .before .name2 .given .1)
 
 returns-9 : tie.Need-returns-9
-returns-9 c = rw (c .before .enum-told9 .given .1) (c .replied .ensures)
+returns-9 c = rw (c .enum-told7 .given .1)
 
 returns-10 : tie.Need-returns-10
-returns-10 c = rw (c .before .before .enum-told10 .given .1, c .number8 .ensures, c .before .word3 .ensures)
-
-returns-11 : tie.Need-returns-11
-returns-11 c = rw (c .before .before .enum-told11 .given .1, c .month-day .ensures .0, c .before .word4 .ensures)
-
-returns-12 : tie.Need-returns-12
-returns-12 c = rw (c .before .name .given .1)
-
-returns-13 : tie.Need-returns-13
-returns-13 c = rw (c .before .name2 .given .1)
-
-returns-14 : tie.Need-returns-14
-returns-14 c = rw (c .enum-told12 .given .1)
+returns-10 c =
+    let at-args = c .before .before .args in
+    starting (at-args .name) (now (at-args .s)) (c .match .keys10)
 
 pub command-of-spec : {M : Type 1} → statement M
 command-of-spec =
@@ -126,25 +108,19 @@ command-of-spec =
     word-requires
     number32-requires
     enum-told-3
-    enum-told-4
-    enum-told-5
-    enum-told-6
-    enum-told-7
-    enum-told-8
     word-requires-2
-    slice-aggregate-same
-    same-requires
-    enum-told-9
+    is-good-requires
+    enum-told-4
     replied-requires
-    enum-told-10
+    enum-told-5
     word-requires-3
     number8-requires
-    enum-told-11
+    enum-told-6
     word-requires-4
     month-day-requires
     enum-known-name
     enum-known-name-2
-    enum-told-12
+    enum-told-7
     returns
     returns-2
     returns-3
@@ -154,8 +130,4 @@ command-of-spec =
     returns-7
     returns-8
     returns-9
-    returns-10
-    returns-11
-    returns-12
-    returns-13
-    returns-14)
+    returns-10)

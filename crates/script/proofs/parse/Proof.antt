@@ -27,7 +27,21 @@ desk-of-requires c κs = search needs
 
 returns : tie.Need-returns
 unfolding parsed
-returns c = rw (c .desk-of .ensures, c .before .settings-in .ensures, c .before .before .judged-command .ensures, c .before .before .before .line-fault .ensures, c .before .before .before .before .name-at .ensures, c .before .before .before .before .before .row-of .ensures, c .before .before .before .before .before .before .word .ensures)
+returns c =
+    let at-word = c .before .before .before .before .before .before .word in
+    let at-row-of = c .before .before .before .before .before .row-of in
+    let at-name-at = c .before .before .before .before .name-at in
+    let at-line-fault = c .before .before .before .line-fault in
+    let at-judged-command = c .before .before .judged-command in
+    rw (
+      c .desk-of .ensures,
+      c .before .settings-in .ensures,
+      at-judged-command .ensures,
+      at-line-fault .ensures,
+      at-name-at .ensures,
+      at-row-of .ensures,
+      at-word .ensures,
+    )
 
 pub parse-spec : {M : Type 1} → statement M
 parse-spec =

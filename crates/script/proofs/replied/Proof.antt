@@ -16,7 +16,10 @@ byte-at-requires-2 : tie.Need-byte-at-requires-2
 byte-at-requires-2 c κs = search needs
 
 returns : tie.Need-returns
-returns c = rw (c .byte-at2 .ensures, c .before .byte-at .ensures, c .before .before .word2 .ensures, c .before .before .before .word .ensures)
+returns c =
+    let at-word = c .before .before .before .word in
+    let at-word2 = c .before .before .word2 in
+    rw (c .byte-at2 .ensures, c .before .byte-at .ensures, at-word2 .ensures, at-word .ensures)
 
 pub replied-spec : {M : Type 1} → statement M
 replied-spec =

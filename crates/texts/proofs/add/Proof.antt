@@ -32,13 +32,22 @@ part-copy-end : tie.Need-part-copy-end
 part-copy-end c = search needs
 
 copy-requires : tie.Need-copy-requires
-copy-requires c κs = rw (part-length (c .before .before .before .before .before .before .args .x .now) (c .before .before .before .before .before .before .args .out .now) _ _ (c .before .before .before .if1 .left) (c .before .before .least .ensures)) (omega arith)
+copy-requires c κs =
+    let at-args-out = c .before .before .before .before .before .before .args .out in
+    let at-args-x = c .before .before .before .before .before .before .args .x in
+    let at-if1-left = c .before .before .before .if1 .left in
+    let at-least-ensures = c .before .before .least .ensures in
+    rw (part-length (at-args-x .now) (at-args-out .now) _ _ at-if1-left at-least-ensures) (omega arith)
 
 same-length : tie.Need-same-length
 same-length c = search needs
 
 returns-2 : tie.Need-returns-2
-returns-2 c = adds-copied _ _ _ _ (c .before .before .before .before .before .before .if1 .left) (c .before .before .before .before .before .least .ensures) _ (c .before .before .copy .ensures .1)
+returns-2 c =
+    let at-if1 = c .before .before .before .before .before .before .if1 in
+    let at-least = c .before .before .before .before .before .least in
+    let at-copy = c .before .before .copy in
+    adds-copied _ _ _ _ (at-if1 .left) (at-least .ensures) _ (at-copy .ensures .1)
 
 pub add-spec : {M : Type 1} → statement M
 add-spec =

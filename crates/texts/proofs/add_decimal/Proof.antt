@@ -21,7 +21,12 @@ same-length : tie.Need-same-length
 same-length c = search needs
 
 returns : tie.Need-returns
-returns c = rw (← decimal-is (c .before .before .before .before .before .decimal .result) (c .before .before .before .before .before .before .before .before .args .x) (omega arith) (c .before .before .before .before .before .decimal .ensures .1 .0), ← c .before .before .before .before .before .decimal .ensures .1 .1) (c .before .before .add .ensures)
+returns c =
+    let at-args-x = c .before .before .before .before .before .before .before .before .args .x in
+    let at-decimal-ensures = c .before .before .before .before .before .decimal .ensures in
+    let at-decimal-result = c .before .before .before .before .before .decimal .result in
+    let at-add-ensures = c .before .before .add .ensures in
+    rw (← decimal-is at-decimal-result at-args-x (omega arith) (at-decimal-ensures .1 .0), ← at-decimal-ensures .1 .1) at-add-ensures
 
 pub add-decimal-spec : {M : Type 1} → statement M
 add-decimal-spec =

@@ -32,13 +32,20 @@ loop-less : tie.Need-loop-less Inv-loop μ-loop
 loop-less c = search needs
 
 loop-again : tie.Need-loop-again Inv-loop μ-loop
-loop-again c = (search needs, hex-next (c .before .before .before .before .before .before .before .before .before .args .s .now) (c .before .before .before .before .before .before .loop .i) (search needs) (c .before .before .before .before .before .before .loop .inv .1) (c .before .before .add-hex-byte .ensures))
+loop-again c =
+    let at-args-s = c .before .before .before .before .before .before .before .before .before .args .s in
+    let at-loop-i = c .before .before .before .before .before .before .loop .i in
+    let at-loop-inv = c .before .before .before .before .before .before .loop .inv in
+    let at-add-hex-byte-ensures = c .before .before .add-hex-byte .ensures in
+    (search needs, hex-next (at-args-s .now) at-loop-i (search needs) (at-loop-inv .1) at-add-hex-byte-ensures)
 
 same-length : tie.Need-same-length Inv-loop μ-loop
 same-length c = search needs
 
 returns : tie.Need-returns Inv-loop μ-loop
-returns c = rw (take-all (c .before .loop .i) (c .before .before .before .before .args .s .now) (search needs)) at (c .before .loop .inv .1)
+returns c =
+    let at-args-s = c .before .before .before .before .args .s in
+    rw (take-all (c .before .loop .i) (at-args-s .now) (search needs)) at (c .before .loop .inv .1)
 
 pub add-hex-spec : {M : Type 1} → statement M
 add-hex-spec =

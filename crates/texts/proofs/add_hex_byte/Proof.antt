@@ -22,7 +22,10 @@ same-length : tie.Need-same-length
 same-length c = search needs
 
 returns : tie.Need-returns
-returns c = rw (c .before .before .before .before .before .before .put-hex .ensures .1, c .before .before .before .before .before .before .put-hex .ensures .0) at (c .before .before .add .ensures)
+returns c =
+    let at-put-hex = c .before .before .before .before .before .before .put-hex in
+    let at-add = c .before .before .add in
+    rw (at-put-hex .ensures .1, at-put-hex .ensures .0) at (at-add .ensures)
 
 pub add-hex-byte-spec : {M : Type 1} → statement M
 add-hex-byte-spec =

@@ -21,7 +21,10 @@ same-length c = search needs
 
 returns : tie.Need-returns
 unfolding sixDigits
-returns c = rw (c .before .before .before .before .before .before .put-number .ensures) at (c .before .before .add-hex .ensures)
+returns c =
+    let at-put-number = c .before .before .before .before .before .before .put-number in
+    let at-add-hex = c .before .before .add-hex in
+    rw (at-put-number .ensures) at (at-add-hex .ensures)
 
 pub add-six-spec : {M : Type 1} → statement M
 add-six-spec =

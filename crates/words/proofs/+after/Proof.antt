@@ -59,7 +59,9 @@ after-returns-2 : (t : ℕ) → after-lts.Need-returns-2 (
   after-below t,
   after.Post,
 ) (after-at t) after.Post
-after-returns-2 t c = rw (c .after .ensures, c .before .rest .ensures) (after-one _ _ (c .before .before .if1 .left))
+after-returns-2 t c =
+    let at-if1 = c .before .before .if1 in
+    rw (c .after .ensures, c .before .rest .ensures) (after-one _ _ (at-if1 .left))
 
 pub +after-spec : {M : Type 1} → statement M
 +after-spec = close μ-after λ t. after-lts.spec (

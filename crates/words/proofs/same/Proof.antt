@@ -40,9 +40,12 @@ shared-slice-read-if2-2 c = search needs
 returns-2 : tie.Need-returns-2 Inv-loop μ-loop
 unfolding sameWord
 returns-2 c =
-    let a = now (c .before .before .before .before .before .before .args .a) in
-    let b = now (c .before .before .before .before .before .before .args .b) in
-    rw (all-fails (sameAt a b) (length a) (c .before .before .before .before .loop .i) (search needs) (ne-eqb _ _ (c .if2 .taken)), and-false)
+    let at-args-a = c .before .before .before .before .before .before .args .a in
+    let at-args-b = c .before .before .before .before .before .before .args .b in
+    let at-loop-i = c .before .before .before .before .loop .i in
+    let a = now at-args-a in
+    let b = now at-args-b in
+    rw (all-fails (sameAt a b) (length a) at-loop-i (search needs) (ne-eqb _ _ (c .if2 .taken)), and-false)
 
 add-i : tie.Need-add-i Inv-loop μ-loop
 add-i c = search needs
@@ -58,7 +61,8 @@ loop-again c =
 returns-3 : tie.Need-returns-3 Inv-loop μ-loop
 unfolding sameWord
 returns-3 c =
-    let e : c .before .loop .i ≡ length (now (c .before .before .before .args .a)) = search needs in
+    let at-args-a = c .before .before .before .args .a in
+    let e : c .before .loop .i ≡ length (now at-args-a) = search needs in
     rw (eq-eqb _ _ (c .before .loop .inv .0), ← e, c .before .loop .inv .2 .holds)
 
 pub same-spec : {M : Type 1} → statement M

@@ -12,10 +12,14 @@ spaces-before-requires : tie.Need-spaces-before-requires
 spaces-before-requires c κs = search needs
 
 sub-rest : tie.Need-sub-rest
-sub-rest c = omega (arith, spaces-le (now (c .before .before .args .s)), c .spaces-before .ensures)
+sub-rest c =
+    let at-args-s = c .before .before .args .s in
+    omega (arith, spaces-le (now at-args-s), c .spaces-before .ensures)
 
 part-rest-start : tie.Need-part-rest-start
-part-rest-start c = omega (arith, spaces-le (now (c .before .before .args .s)), c .spaces-before .ensures)
+part-rest-start c =
+    let at-args-s = c .before .before .args .s in
+    omega (arith, spaces-le (now at-args-s), c .spaces-before .ensures)
 
 part-rest-end : tie.Need-part-rest-end
 part-rest-end c = search needs
@@ -27,7 +31,9 @@ slice-aggregate-result : tie.Need-slice-aggregate-result
 slice-aggregate-result c = sym (length-take-le _ _ (rw (c .before .words-end .ensures) (last-end-le _ _)))
 
 returns : tie.Need-returns
-returns c = trimmed-part _ _ _ (c .before .before .before .spaces-before .ensures) (c .before .words-end .ensures)
+returns c =
+    let at-spaces-before = c .before .before .before .spaces-before in
+    trimmed-part _ _ _ (at-spaces-before .ensures) (c .before .words-end .ensures)
 
 pub trim-spec : {M : Type 1} → statement M
 trim-spec =

@@ -1,48 +1,36 @@
 -- `screen::outcomes::add_error` meets its contract.
+use denote.Ref.{now}
+use Rattle.templates.proofs.Templates.{adds-is}
+use Rattle.screen.proofs.Lines.{error-filled}
 use borrow.Author.Needs.{needs}
-use Rattle.texts.proofs.Texts.{and-then}
-use Rattle.screen.specs.Outcomes.{errorLine}
 use Rattle.screen.proofs.outcomes.add_error.Statement.{statement}
 use Rattle.screen.proofs.outcomes.add_error.Tie as tie
 
-slice-aggregate-add-named : tie.Need-slice-aggregate-add-named
-slice-aggregate-add-named c = search needs
+slice-aggregate-add-filled : tie.Need-slice-aggregate-add-filled
+slice-aggregate-add-filled c = search needs
 
-add-named-requires : tie.Need-add-named-requires
-add-named-requires c κs = search needs
+slice-aggregate-add-filled-2 : tie.Need-slice-aggregate-add-filled-2
+slice-aggregate-add-filled-2 c = search needs
 
-slice-aggregate-add : tie.Need-slice-aggregate-add
-slice-aggregate-add c = search needs
-
-add-requires : tie.Need-add-requires
-add-requires c κs = search needs
-
-add-requires-2 : tie.Need-add-requires-2
-add-requires-2 c κs = search needs
-
-slice-aggregate-add-2 : tie.Need-slice-aggregate-add-2
-slice-aggregate-add-2 c = search needs
-
-add-requires-3 : tie.Need-add-requires-3
-add-requires-3 c κs = search needs
+add-filled-requires : tie.Need-add-filled-requires
+add-filled-requires c κs = search needs
 
 same-length : tie.Need-same-length
 same-length c = search needs
 
 returns : tie.Need-returns
-unfolding errorLine
-returns c = and-then (and-then (and-then (c .before .before .before .before .before .before .before .before .before .before .before .before .before .before .before .before .add-named .ensures) (c .before .before .before .before .before .before .before .before .before .before .before .add .ensures)) (c .before .before .before .before .before .before .before .add2 .ensures)) (c .before .before .add3 .ensures)
+returns c =
+    let at-args = c .before .before .before .before .before .before .before .before .args in
+    let at-add-filled = c .before .before .add-filled in
+    adds-is (error-filled (at-args .number)
+    (now (at-args .why))) (at-add-filled .ensures)
 
 pub add-error-spec : {M : Type 1} → statement M
 add-error-spec =
     tie.close
     (tie.spec
-    slice-aggregate-add-named
-    add-named-requires
-    slice-aggregate-add
-    add-requires
-    add-requires-2
-    slice-aggregate-add-2
-    add-requires-3
+    slice-aggregate-add-filled
+    slice-aggregate-add-filled-2
+    add-filled-requires
     same-length
     returns)

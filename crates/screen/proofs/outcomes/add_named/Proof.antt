@@ -14,7 +14,10 @@ same-length : tie.Need-same-length
 same-length c = search needs
 
 returns : tie.Need-returns
-returns c = and-then (c .before .before .before .before .before .before .add .ensures) (c .before .before .add-decimal .ensures)
+returns c =
+    let at-add = c .before .before .before .before .before .before .add in
+    let at-add-decimal = c .before .before .add-decimal in
+    and-then (at-add .ensures) (at-add-decimal .ensures)
 
 pub add-named-spec : {M : Type 1} → statement M
 add-named-spec = tie.close (tie.spec add-requires add-decimal-requires same-length returns)

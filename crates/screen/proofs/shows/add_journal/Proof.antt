@@ -30,7 +30,10 @@ same-length c = search needs
 
 returns : tie.Need-returns Inv-loop μ-loop
 unfolding journalText
-returns c = rw (eq-eqb _ _ (c .before .before .before .before .before .if1 .taken)) (c .before .before .add .ensures)
+returns c =
+    let at-if1 = c .before .before .before .before .before .if1 in
+    let at-add = c .before .before .add in
+    rw (eq-eqb _ _ (at-if1 .taken)) (at-add .ensures)
 
 loop-holds : tie.Need-loop-holds Inv-loop μ-loop
 loop-holds c = (search needs, refl, nothing)
@@ -51,14 +54,22 @@ loop-less : tie.Need-loop-less Inv-loop μ-loop
 loop-less c = search needs
 
 loop-again : tie.Need-loop-again Inv-loop μ-loop
-loop-again c = (search needs, search needs, one-more _ _ (c .before .before .before .before .before .before .loop .inv .2) (rw (c .before .before .before .before .entry-at .ensures) at (c .before .before .add-entry .ensures)))
+loop-again c =
+    let at-loop-inv-2 = c .before .before .before .before .before .before .loop .inv .2 in
+    let at-entry-at-ensures = c .before .before .before .before .entry-at .ensures in
+    let at-add-entry-ensures = c .before .before .add-entry .ensures in
+    (search needs, search needs, one-more _ _ at-loop-inv-2 (rw at-entry-at-ensures at at-add-entry-ensures))
 
 same-length-2 : tie.Need-same-length-2 Inv-loop μ-loop
 same-length-2 c = c .before .loop .inv .1
 
 returns-2 : tie.Need-returns-2 Inv-loop μ-loop
 unfolding journalText
-returns-2 c = let e : c .before .loop .i ≡ c .before .before .before .before .before .args .entries = search needs in rw (ne-eqb _ _ (c .before .before .if1 .left)) (rw e at (c .before .loop .inv .2))
+returns-2 c =
+    let entries = c .before .before .before .before .before .args .entries in
+    let e : c .before .loop .i ≡ entries = search needs in
+    let at-if1-left = c .before .before .if1 .left in
+    rw (ne-eqb _ _ at-if1-left) (rw e at (c .before .loop .inv .2))
 
 pub add-journal-spec : {M : Type 1} → statement M
 add-journal-spec =

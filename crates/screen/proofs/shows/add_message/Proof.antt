@@ -1,8 +1,8 @@
 -- `screen::shows::add_message` meets its contract.
+use Rattle.templates.specs.Template.{meant, taken, filled}
+use Rattle.screen.specs.Shows.{messageLine}
 use borrow.Author.Needs.{needs}
 use borrow.Author.Tests.{eq-eqb, ne-eqb}
-use Rattle.texts.proofs.Texts.{and-then}
-use Rattle.screen.specs.Shows.{messageLine}
 use Rattle.screen.proofs.shows.add_message.Statement.{statement}
 use Rattle.screen.proofs.shows.add_message.Tie as tie
 
@@ -17,29 +17,29 @@ same-length c = search needs
 
 returns : tie.Need-returns
 unfolding messageLine
-returns c = rw (eq-eqb _ _ (c .before .before .before .before .before .if1 .taken)) (c .before .before .add .ensures)
+returns c =
+    let at-if1 = c .before .before .before .before .before .if1 in
+    let at-add = c .before .before .add in
+    rw (eq-eqb _ _ (at-if1 .taken)) (at-add .ensures)
 
-slice-aggregate-add-2 : tie.Need-slice-aggregate-add-2
-slice-aggregate-add-2 c = search needs
+slice-aggregate-add-filled : tie.Need-slice-aggregate-add-filled
+slice-aggregate-add-filled c = search needs
 
-add-requires-2 : tie.Need-add-requires-2
-add-requires-2 c κs = search needs
+slice-aggregate-add-filled-2 : tie.Need-slice-aggregate-add-filled-2
+slice-aggregate-add-filled-2 c = search needs
 
-add-hex-requires : tie.Need-add-hex-requires
-add-hex-requires c κs = search needs
-
-slice-aggregate-add-3 : tie.Need-slice-aggregate-add-3
-slice-aggregate-add-3 c = search needs
-
-add-requires-3 : tie.Need-add-requires-3
-add-requires-3 c κs = search needs
+add-filled-requires : tie.Need-add-filled-requires
+add-filled-requires c κs = search needs
 
 same-length-2 : tie.Need-same-length-2
 same-length-2 c = search needs
 
 returns-2 : tie.Need-returns-2
-unfolding messageLine
-returns-2 c = rw (ne-eqb _ _ (c .before .before .before .before .before .before .before .before .before .before .before .before .before .before .if1 .left)) (and-then (and-then (c .before .before .before .before .before .before .before .before .before .before .before .add2 .ensures) (c .before .before .before .before .before .before .before .add-hex .ensures)) (c .before .before .add3 .ensures))
+unfolding messageLine filled meant taken
+returns-2 c =
+    let at-if1 = c .before .before .before .before .before .before .if1 in
+    let at-add-filled = c .before .before .add-filled in
+    rw (ne-eqb _ _ (at-if1 .left)) (at-add-filled .ensures)
 
 pub add-message-spec : {M : Type 1} → statement M
 add-message-spec =
@@ -49,10 +49,8 @@ add-message-spec =
     add-requires
     same-length
     returns
-    slice-aggregate-add-2
-    add-requires-2
-    add-hex-requires
-    slice-aggregate-add-3
-    add-requires-3
+    slice-aggregate-add-filled
+    slice-aggregate-add-filled-2
+    add-filled-requires
     same-length-2
     returns-2)

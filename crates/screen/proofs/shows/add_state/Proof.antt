@@ -1,19 +1,20 @@
 -- `screen::shows::add_state` meets its contract.
-use mathlib.Core.Path.{_∙_}
-use Rattle.texts.proofs.Texts.{and-then}
+use mathlib.Core.Bool.{true, false}
+use Rattle.templates.proofs.Templates.{adds-is}
+use Rattle.screen.proofs.Lines.{state-filled}
 use Rattle.screen.specs.Shows.{stateLine, phaseName}
 use borrow.Author.Needs.{needs}
 use Rattle.screen.proofs.shows.add_state.Statement.{statement}
 use Rattle.screen.proofs.shows.add_state.Tie as tie
 
-add-first-state-requires : tie.Need-add-first-state-requires
-add-first-state-requires c κs = search needs
+cast-t13 : tie.Need-cast-t13
+cast-t13 c = search needs
 
-slice-aggregate-add : tie.Need-slice-aggregate-add
-slice-aggregate-add c = search needs
+cast-t14 : tie.Need-cast-t14
+cast-t14 c = search needs
 
-add-requires : tie.Need-add-requires
-add-requires c κs = search needs
+cast-t15 : tie.Need-cast-t15
+cast-t15 c = search needs
 
 slice-aggregate-row : tie.Need-slice-aggregate-row
 slice-aggregate-row c = search needs
@@ -24,46 +25,73 @@ phase-number-requires c κs = search needs
 row-requires : tie.Need-row-requires
 row-requires c κs = search needs
 
-add-requires-2 : tie.Need-add-requires-2
-add-requires-2 c κs = search needs
+slice-aggregate-add-filled : tie.Need-slice-aggregate-add-filled
+slice-aggregate-add-filled c = search needs
 
-slice-aggregate-add-value : tie.Need-slice-aggregate-add-value
-slice-aggregate-add-value c = search needs
+slice-aggregate-add-filled-2 : tie.Need-slice-aggregate-add-filled-2
+slice-aggregate-add-filled-2 c = search needs
 
-cast-add-value : tie.Need-cast-add-value
-cast-add-value c = search needs
-
-add-value-requires : tie.Need-add-value-requires
-add-value-requires c κs = search needs
-
-slice-aggregate-add-2 : tie.Need-slice-aggregate-add-2
-slice-aggregate-add-2 c = search needs
-
-add-requires-3 : tie.Need-add-requires-3
-add-requires-3 c κs = search needs
+add-filled-requires : tie.Need-add-filled-requires
+add-filled-requires c κs = search needs
 
 same-length : tie.Need-same-length
-same-length c = c .before .out5 .given ∙ c .before .before .before .before .before .before .out4 .given ∙ c .before .before .before .before .before .before .before .before .before .before .before .before .out3 .given ∙ c .before .before .before .before .before .before .before .before .before .before .before .before .before .before .before .before .before .before .before .out2 .given ∙ c .before .before .before .before .before .before .before .before .before .before .before .before .before .before .before .before .before .before .before .before .before .before .before .before .out .given
+same-length c = search needs
 
 returns : tie.Need-returns
 unfolding stateLine phaseName
-returns c = and-then (and-then (and-then (and-then (c .before .before .before .before .before .before .before .before .before .before .before .before .before .before .before .before .before .before .before .before .before .before .before .before .before .add-first-state .ensures) (c .before .before .before .before .before .before .before .before .before .before .before .before .before .before .before .before .before .before .before .before .add .ensures)) (rw (c .before .before .before .before .before .before .before .before .before .before .before .before .before .before .before .row .ensures, c .before .before .before .before .before .before .before .before .before .before .before .before .before .before .before .before .phase-number .ensures) at (c .before .before .before .before .before .before .before .before .before .before .before .before .before .add2 .ensures))) (c .before .before .before .before .before .before .before .add-value .ensures)) (c .before .before .add3 .ensures)
+returns c =
+    let at-phase-number = c .before .before .before .before .before .before .before .before .phase-number in
+    let at-row = c .before .before .before .before .before .before .before .row in
+    let at-if1 = c .before .before .before .before .before .before .if1 in
+    let at-add-filled = c .before .before .add-filled in
+    rw (at-if1 .taken)
+    (adds-is (state-filled true _ _ _ _) (rw (
+      at-row .ensures,
+      at-phase-number .ensures,
+    ) at (at-add-filled .ensures)))
+
+slice-aggregate-add-filled-3 : tie.Need-slice-aggregate-add-filled-3
+slice-aggregate-add-filled-3 c = search needs
+
+slice-aggregate-add-filled-4 : tie.Need-slice-aggregate-add-filled-4
+slice-aggregate-add-filled-4 c = search needs
+
+add-filled-requires-2 : tie.Need-add-filled-requires-2
+add-filled-requires-2 c κs = search needs
+
+same-length-2 : tie.Need-same-length-2
+same-length-2 c = search needs
+
+returns-2 : tie.Need-returns-2
+unfolding stateLine phaseName
+returns-2 c =
+    let at-phase-number = c .before .before .before .before .before .before .before .before .phase-number in
+    let at-row = c .before .before .before .before .before .before .before .row in
+    let at-if1 = c .before .before .before .before .before .before .if1 in
+    let at-add-filled2 = c .before .before .add-filled2 in
+    rw (at-if1 .left) (adds-is (state-filled false _ _ _ _)
+    (rw (
+      at-row .ensures,
+      at-phase-number .ensures,
+    ) at (at-add-filled2 .ensures)))
 
 pub add-state-spec : {M : Type 1} → statement M
 add-state-spec =
     tie.close
     (tie.spec
-    add-first-state-requires
-    slice-aggregate-add
-    add-requires
+    cast-t13
+    cast-t14
+    cast-t15
     slice-aggregate-row
     phase-number-requires
     row-requires
-    add-requires-2
-    slice-aggregate-add-value
-    cast-add-value
-    add-value-requires
-    slice-aggregate-add-2
-    add-requires-3
+    slice-aggregate-add-filled
+    slice-aggregate-add-filled-2
+    add-filled-requires
     same-length
-    returns)
+    returns
+    slice-aggregate-add-filled-3
+    slice-aggregate-add-filled-4
+    add-filled-requires-2
+    same-length-2
+    returns-2)

@@ -1,71 +1,46 @@
 -- `screen::shows::add_totals` meets its contract.
-use mathlib.Core.Path.{_∙_}
+use Rattle.templates.proofs.Templates.{adds-is}
+use Rattle.screen.proofs.Lines.{totals-filled}
 use borrow.Author.Needs.{needs}
-use Rattle.texts.proofs.Texts.{and-then}
-use Rattle.texts.specs.Text.{text, space}
-use Rattle.screen.specs.Shows.{totalsLine}
-use Rattle.screen.proofs.Lines.{and-two}
 use Rattle.screen.proofs.shows.add_totals.Statement.{statement}
 use Rattle.screen.proofs.shows.add_totals.Tie as tie
 
-slice-aggregate-add-named : tie.Need-slice-aggregate-add-named
-slice-aggregate-add-named c = search needs
+cast-t7 : tie.Need-cast-t7
+cast-t7 c = search needs
 
-add-named-requires : tie.Need-add-named-requires
-add-named-requires c κs = search needs
+cast-t8 : tie.Need-cast-t8
+cast-t8 c = search needs
 
-slice-aggregate-add-named-2 : tie.Need-slice-aggregate-add-named-2
-slice-aggregate-add-named-2 c = search needs
+slice-aggregate-add-filled : tie.Need-slice-aggregate-add-filled
+slice-aggregate-add-filled c = search needs
 
-cast-add-named : tie.Need-cast-add-named
-cast-add-named c = search needs
+slice-aggregate-add-filled-2 : tie.Need-slice-aggregate-add-filled-2
+slice-aggregate-add-filled-2 c = search needs
 
-add-named-requires-2 : tie.Need-add-named-requires-2
-add-named-requires-2 c κs = search needs
+slice-aggregate-add-filled-3 : tie.Need-slice-aggregate-add-filled-3
+slice-aggregate-add-filled-3 c = search needs
 
-slice-aggregate-add-named-3 : tie.Need-slice-aggregate-add-named-3
-slice-aggregate-add-named-3 c = search needs
-
-add-named-requires-3 : tie.Need-add-named-requires-3
-add-named-requires-3 c κs = search needs
-
-slice-aggregate-add-named-4 : tie.Need-slice-aggregate-add-named-4
-slice-aggregate-add-named-4 c = search needs
-
-cast-add-named-2 : tie.Need-cast-add-named-2
-cast-add-named-2 c = search needs
-
-add-named-requires-4 : tie.Need-add-named-requires-4
-add-named-requires-4 c κs = search needs
-
-slice-aggregate-add : tie.Need-slice-aggregate-add
-slice-aggregate-add c = search needs
-
-add-requires : tie.Need-add-requires
-add-requires c κs = search needs
+add-filled-requires : tie.Need-add-filled-requires
+add-filled-requires c κs = search needs
 
 same-length : tie.Need-same-length
-same-length c = c .before .out5 .given ∙ c .before .before .before .before .before .before .out4 .given ∙ c .before .before .before .before .before .before .before .before .before .before .before .before .out3 .given ∙ c .before .before .before .before .before .before .before .before .before .before .before .before .before .before .before .before .before .out2 .given ∙ c .before .before .before .before .before .before .before .before .before .before .before .before .before .before .before .before .before .before .before .before .before .before .before .out .given
+same-length c = search needs
 
 returns : tie.Need-returns
-unfolding totalsLine
-returns c = and-then (and-two space _ (and-two (text " credit ") _ (and-two space _ (c .before .before .before .before .before .before .before .before .before .before .before .before .before .before .before .before .before .before .before .before .before .before .before .before .add-named .ensures) (c .before .before .before .before .before .before .before .before .before .before .before .before .before .before .before .before .before .before .add-named2 .ensures)) (c .before .before .before .before .before .before .before .before .before .before .before .before .before .add-named3 .ensures)) (c .before .before .before .before .before .before .before .add-named4 .ensures)) (c .before .before .add .ensures)
+returns c =
+    let at-args = c .before .before .before .before .before .before .before .before .before .before .args in
+    let at-add-filled = c .before .before .add-filled in
+    adds-is (totals-filled (at-args .t)) (at-add-filled .ensures)
 
 pub add-totals-spec : {M : Type 1} → statement M
 add-totals-spec =
     tie.close
     (tie.spec
-    slice-aggregate-add-named
-    add-named-requires
-    slice-aggregate-add-named-2
-    cast-add-named
-    add-named-requires-2
-    slice-aggregate-add-named-3
-    add-named-requires-3
-    slice-aggregate-add-named-4
-    cast-add-named-2
-    add-named-requires-4
-    slice-aggregate-add
-    add-requires
+    cast-t7
+    cast-t8
+    slice-aggregate-add-filled
+    slice-aggregate-add-filled-2
+    slice-aggregate-add-filled-3
+    add-filled-requires
     same-length
     returns)

@@ -14,18 +14,24 @@ enum-known-x : tie.Need-enum-known-x
 enum-known-x c = search needs
 
 cast-t6 : tie.Need-cast-t6
-cast-t6 c = omega (arith, number-length 19 _ (sym (c .before .before .before .decimal-in .ensures) ∙ c .before .x .given .1))
+cast-t6 c =
+    let at-decimal-in-ensures = c .before .before .before .decimal-in .ensures in
+    omega (arith, number-length 19 _ (sym at-decimal-in-ensures ∙ c .before .x .given .1))
 
 enum-told : tie.Need-enum-told
 enum-told c = search needs
 
 returns : tie.Need-returns
 unfolding cardIn
-returns c = rw (← c .before .before .before .decimal-in .ensures, c .before .x .given .1)
+returns c =
+    let at-decimal-in = c .before .before .before .decimal-in in
+    rw (← at-decimal-in .ensures, c .before .x .given .1)
 
 returns-2 : tie.Need-returns-2
 unfolding cardIn
-returns-2 c = rw (← c .before .before .decimal-in .ensures, c .enum-told .given .1)
+returns-2 c =
+    let at-decimal-in = c .before .before .decimal-in in
+    rw (← at-decimal-in .ensures, c .enum-told .given .1)
 
 pub card-in-spec : {M : Type 1} → statement M
 card-in-spec =

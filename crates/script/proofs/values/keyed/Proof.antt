@@ -28,7 +28,18 @@ card-in-requires c κs = search needs
 
 returns : tie.Need-returns
 unfolding keyed
-returns c = rw (c .card-in .ensures, c .before .number64 .ensures, c .before .before .number32 .ensures, written 6 _ (c .before .before .before .before .text-into2 .ensures .0) (c .before .before .before .before .text-into2 .ensures .1), written 12 _ (c .before .before .before .before .before .before .before .text-into .ensures .0) (c .before .before .before .before .before .before .before .text-into .ensures .1))
+returns c =
+    let at-text-into = c .before .before .before .before .before .before .before .text-into in
+    let at-text-into2 = c .before .before .before .before .text-into2 in
+    let at-number32 = c .before .before .number32 in
+    rw (
+      c .card-in .ensures,
+      c .before .number64 .ensures,
+      at-number32 .ensures,
+      written 6 _ (at-text-into2 .ensures .0) (at-text-into2 .ensures .1),
+      written 12 _ (at-text-into .ensures .0)
+          (at-text-into .ensures .1),
+    )
 
 pub keyed-spec : {M : Type 1} → statement M
 keyed-spec =

@@ -20,7 +20,8 @@ cast-result c =
 
 returns : tie.Need-returns
 unfolding monthDay
-returns c = (rw (c .numeral .ensures, c .before .decimal-in .ensures), rw (c .numeral .ensures, c .before .decimal-in .ensures) (number-below 4 _))
+returns c =
+    (rw (c .numeral .ensures, c .before .decimal-in .ensures), rw (c .numeral .ensures, c .before .decimal-in .ensures) (number-below 4 _))
 
 pub month-day-spec : {M : Type 1} → statement M
 month-day-spec = tie.close (tie.spec decimal-in-requires numeral-requires cast-result returns)

@@ -16,7 +16,9 @@ keyed-requires : tie.Need-keyed-requires
 keyed-requires c κs = search needs
 
 returns : tie.Need-returns
-returns c = rw (c .keyed .ensures, c .before .word2 .ensures, c .before .before .word .ensures)
+returns c =
+    let at-word = c .before .before .word in
+    rw (c .keyed .ensures, c .before .word2 .ensures, at-word .ensures)
 
 pub requested-spec : {M : Type 1} → statement M
 requested-spec =

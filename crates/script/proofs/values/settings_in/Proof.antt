@@ -43,7 +43,29 @@ number64-requires c κs = search needs
 
 returns : tie.Need-returns
 unfolding settingsIn
-returns c = rw (c .number64 .ensures, c .before .word5 .ensures, c .before .before .number8 .ensures, c .before .before .before .word4 .ensures, c .before .before .before .before .number32 .ensures, c .before .before .before .before .before .word3 .ensures, written 15 _ (c .before .before .before .before .before .before .before .text-into2 .ensures .0) (c .before .before .before .before .before .before .before .text-into2 .ensures .1), c .before .before .before .before .before .before .before .before .before .word2 .ensures, written 8 _ (c .before .before .before .before .before .before .before .before .before .before .before .text-into .ensures .0) (c .before .before .before .before .before .before .before .before .before .before .before .text-into .ensures .1), c .before .before .before .before .before .before .before .before .before .before .before .before .before .word .ensures)
+returns c =
+    let at-word = c .before .before .before .before .before .before .before .before .before .before .before .before .before .word in
+    let at-text-into = c .before .before .before .before .before .before .before .before .before .before .before .text-into in
+    let at-word2 = c .before .before .before .before .before .before .before .before .before .word2 in
+    let at-text-into2 = c .before .before .before .before .before .before .before .text-into2 in
+    let at-word3 = c .before .before .before .before .before .word3 in
+    let at-number32 = c .before .before .before .before .number32 in
+    let at-word4 = c .before .before .before .word4 in
+    let at-number8 = c .before .before .number8 in
+    rw (
+      c .number64 .ensures,
+      c .before .word5 .ensures,
+      at-number8 .ensures,
+      at-word4 .ensures,
+      at-number32 .ensures,
+      at-word3 .ensures,
+      written 15 _ (at-text-into2 .ensures .0)
+          (at-text-into2 .ensures .1),
+      at-word2 .ensures,
+      written 8 _ (at-text-into .ensures .0)
+          (at-text-into .ensures .1),
+      at-word .ensures,
+    )
 
 pub settings-in-spec : {M : Type 1} → statement M
 settings-in-spec =

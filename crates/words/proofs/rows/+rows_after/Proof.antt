@@ -61,7 +61,9 @@ rows-after-returns-2 : (t : ℕ) → rows-after-lts.Need-returns-2 (
   rows-after-below t,
   rows-after.Post,
 ) (rows-after-at t) rows-after.Post
-rows-after-returns-2 t c = rw (c .rows-after .ensures, c .before .other-rows .ensures) (rows-one _ _ (c .before .before .if1 .left))
+rows-after-returns-2 t c =
+    let at-if1 = c .before .before .if1 in
+    rw (c .rows-after .ensures, c .before .other-rows .ensures) (rows-one _ _ (at-if1 .left))
 
 pub +rows-after-spec : {M : Type 1} → statement M
 +rows-after-spec = close μ-rows-after λ t. rows-after-lts.spec (

@@ -20,7 +20,9 @@ part-result-end : tie.Need-part-result-end
 part-result-end c = search needs
 
 returns : tie.Need-returns
-returns c = other-rows-part _ _ (c .before .before .find .ensures .0)
+returns c =
+    let at-find = c .before .before .find in
+    other-rows-part _ _ (at-find .ensures .0)
 
 sub-result-2 : tie.Need-sub-result-2
 sub-result-2 c = search needs
@@ -32,7 +34,9 @@ part-result-end-2 : tie.Need-part-result-end-2
 part-result-end-2 c = search needs
 
 returns-2 : tie.Need-returns-2
-returns-2 c = no-rows-part _ _ (c .before .before .find .ensures .0) (c .before .if1 .left)
+returns-2 c =
+    let at-find = c .before .before .find in
+    no-rows-part _ _ (at-find .ensures .0) (c .before .if1 .left)
 
 pub other-rows-spec : {M : Type 1} → statement M
 other-rows-spec =

@@ -25,7 +25,13 @@ same-requires : tie.Need-same-requires Inv-loop μ-loop
 same-requires c κs = search needs
 
 returns : tie.Need-returns Inv-loop μ-loop
-returns c = past-here (c .before .before .before .before .before .loop .inv) (c .before .before .before .before .loop-test .taken) (rw (c .before .before .word .ensures, c .before .before .before .row .ensures) at (sym (c .before .same .ensures) ∙ c .if1 .taken))
+returns c =
+    let at-loop = c .before .before .before .before .before .loop in
+    let at-loop-test = c .before .before .before .before .loop-test in
+    let at-row = c .before .before .before .row in
+    let at-word = c .before .before .word in
+    past-here (at-loop .inv) (at-loop-test .taken) (rw (at-word .ensures, at-row .ensures) at
+    (sym (c .before .same .ensures) ∙ c .if1 .taken))
 
 add-k : tie.Need-add-k Inv-loop μ-loop
 add-k c = search needs
@@ -34,7 +40,13 @@ loop-less : tie.Need-loop-less Inv-loop μ-loop
 loop-less c = search needs
 
 loop-again : tie.Need-loop-again Inv-loop μ-loop
-loop-again c = past-more (c .before .before .before .before .before .loop .inv) (c .before .before .before .before .loop-test .taken) (rw (c .before .before .word .ensures, c .before .before .before .row .ensures) at (sym (c .before .same .ensures) ∙ c .if1 .left))
+loop-again c =
+    let at-loop = c .before .before .before .before .before .loop in
+    let at-loop-test = c .before .before .before .before .loop-test in
+    let at-row = c .before .before .before .row in
+    let at-word = c .before .before .word in
+    past-more (at-loop .inv) (at-loop-test .taken) (rw (at-word .ensures, at-row .ensures) at
+    (sym (c .before .same .ensures) ∙ c .if1 .left))
 
 returns-2 : tie.Need-returns-2 Inv-loop μ-loop
 returns-2 c = past-all (c .before .loop .inv) (c .loop-test .left)

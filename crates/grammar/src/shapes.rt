@@ -1,0 +1,117 @@
+// What the words after the first must be, and what is wrong with them.
+use crate::Fault;
+use crate::Shape;
+use crate::Verdict;
+use crate::table;
+use digits::Number;
+use hexadecimal::Hex;
+ghost use mathlib.Core.Path.{_≡_};
+ghost use Prim.Native.Nat.{_<_};
+ghost use Rattle.word_values.specs.Values.{isText};
+ghost use Rattle.grammar.specs.Shapes.{isIs, isDash, isBytes, fits, isEnd, judged, lineFault};
+
+// The first fault of a line's words after the first, where the line has row k of the table.
+pub fn line_fault(k: usize, s: &[u8]) -> Verdict
+    ensures { λ r. ⌜ r ≡ lineFault k (now (s .entry)) ⌝ }
+{
+    let mut i: u8 = 1;
+    while i < 10 {
+        let verdict = judged(table::shape_at(k, i), i, words::word(s, i));
+        match verdict {
+            Verdict::Fine => {}
+            Verdict::Wrong(f) => {
+                return Verdict::Wrong(f);
+            }
+        }
+        i += 1;
+    }
+    Verdict::Fine
+}
+
+fn is_number(x: Number) -> bool
+    ensures { λ r. ⌜ r ≡ isIs x ⌝ }
+{
+    match x {
+        Number::Is(_) => true,
+        Number::Not => false,
+    }
+}
+
+fn is_dash(w: &[u8]) -> bool
+    ensures { λ r. ⌜ r ≡ isDash (now (w .entry)) ⌝ }
+{
+    words::same(w, b"-")
+}
+
+fn is_text(n: u8, w: &[u8]) -> bool
+    ensures { λ r. ⌜ r ≡ isText n (now (w .entry)) ⌝ }
+{
+    let end = n as usize;
+    let mut bytes = [0u8; 255];
+    word_values::text_into(w, &mut bytes[..end])
+}
+
+fn is_hexadecimal(w: &[u8]) -> bool
+    ensures { λ r. ⌜ r ≡ isBytes (now (w .entry)) ⌝ }
+{
+    let mut bytes = [0u8; 2048];
+    match hexadecimal::hex_into(w, &mut bytes) {
+        Hex::Bytes(_) => true,
+        Hex::Not => false,
+        Hex::TooLong => false,
+    }
+}
+
+// Whether a word is what it must be.
+fn fits(shape: Shape, w: &[u8]) -> bool
+    ensures { λ r. ⌜ r ≡ fits shape (now (w .entry)) ⌝ }
+{
+    match shape {
+        Shape::Number(most) => is_number(word_values::number_up_to(most, w)),
+        Shape::Card => is_number(word_values::decimal_in(19, w)),
+        Shape::CardOrNone => is_dash(w) | is_number(word_values::decimal_in(19, w)),
+        Shape::Text(n) => is_text(n, w),
+        Shape::TextOrNone(n) => is_dash(w) | is_text(n, w),
+        Shape::Date => (w.len() == 4) & is_number(word_values::decimal_in(4, w)),
+        Shape::Code => (w.len() == 2) & field::all_printable(w),
+        Shape::Bytes => is_hexadecimal(w),
+        Shape::Mac => word_values::is_good(w) | words::same(w, b"bad"),
+        Shape::Bad => (w.len() == 0) | words::same(w, b"bad"),
+        Shape::Any => true,
+        Shape::End => w.len() == 0,
+    }
+}
+
+// Whether no word may stand here.
+fn is_end(shape: Shape) -> bool
+    ensures { λ r. ⌜ r ≡ isEnd shape ⌝ }
+{
+    match shape {
+        Shape::Number(_) => false,
+        Shape::Card => false,
+        Shape::CardOrNone => false,
+        Shape::Text(_) => false,
+        Shape::TextOrNone(_) => false,
+        Shape::Date => false,
+        Shape::Code => false,
+        Shape::Bytes => false,
+        Shape::Mac => false,
+        Shape::Bad => false,
+        Shape::Any => false,
+        Shape::End => true,
+    }
+}
+
+// What is to be said of word k.
+fn judged(shape: Shape, k: u8, w: &[u8]) -> Verdict
+    requires { ⌜ k < 10 ⌝ }
+    ensures { λ r. ⌜ r ≡ judged shape k (now (w .entry)) ⌝ }
+{
+    if fits(shape, w) {
+        return Verdict::Fine;
+    }
+    if (w.len() == 0) | is_end(shape) {
+        return Verdict::Wrong(Fault::Count);
+    }
+    Verdict::Wrong(Fault::Word(k + 1))
+}

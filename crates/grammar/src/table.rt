@@ -1,0 +1,105 @@
+// The table of the commands: what each is called, and what its words must be.
+use crate::Shape;
+ghost use mathlib.Core.Path.{_≡_};
+ghost use Rattle.words.specs.Rows.{rowNamed};
+ghost use Rattle.grammar.specs.Table.{commands, shapeNamed, shapeAt};
+
+// A row for each command, and what its words must be; the last row is for all other lines.
+const COMMANDS: [u8; 486] = *b"terminal word32 word8 amount text8 text15
+signed-on word32
+sale amount card
+authorise amount card
+sale-void word32
+complete-void word32
+authorise-void amount card text6 date
+complete amount card text6 date
+refund amount card text12 date
+start word8 amount card? word32 text12? text6? word8 word8
+answer bytes mac
+reply code bad?
+reconcile digit
+date date
+no-answer
+power
+send-reversal
+settle
+upload
+counts
+totals
+state
+journal
+message
+fields
+unknown any any any any any any any any any
+";
+
+// What words may be, by name; no word may stand where there is no name.
+const SHAPE_NAMES: [u8; 107] = *b"word32
+word8
+digit
+amount
+card
+card?
+text6
+text8
+text12
+text15
+text6?
+text12?
+date
+code
+bytes
+mac
+bad?
+any
+";
+
+const SHAPES: [Shape; 19] = [
+    Shape::Number(4294967295),
+    Shape::Number(255),
+    Shape::Number(9),
+    Shape::Number(999999999999999999),
+    Shape::Card,
+    Shape::CardOrNone,
+    Shape::Text(6),
+    Shape::Text(8),
+    Shape::Text(12),
+    Shape::Text(15),
+    Shape::TextOrNone(6),
+    Shape::TextOrNone(12),
+    Shape::Date,
+    Shape::Code,
+    Shape::Bytes,
+    Shape::Mac,
+    Shape::Bad,
+    Shape::Any,
+    Shape::End,
+];
+
+// The number of the row of a line whose first word is w.
+pub fn row_of(w: &[u8]) -> usize
+    ensures { λ r. ⌜ r ≡ rowNamed 25 (now (w .entry)) commands ⌝ }
+{
+    let table = COMMANDS;
+    words::row_named(25, w, &table)
+}
+
+// What word i of a line must be, the first being 0, where the line has row k.
+pub fn shape_at(k: usize, i: u8) -> Shape
+    ensures { λ r. ⌜ r ≡ shapeAt k i ⌝ }
+{
+    let table = COMMANDS;
+    shape_named(words::word(words::row(&table, k), i))
+}
+
+fn shape_named(w: &[u8]) -> Shape
+    ensures { λ r. ⌜ r ≡ shapeNamed (now (w .entry)) ⌝ }
+{
+    let names = SHAPE_NAMES;
+    let shapes = SHAPES;
+    let k = words::row_named(18, w, &names);
+    if k < 19 {
+        return shapes[k];
+    }
+    Shape::End
+}
