@@ -1,36 +1,21 @@
 -- The simulated centre: what it answers to a message that left.
 use mathlib.Core.List.{List, [], _∷_, _++_}
-use mathlib.Core.Bool.{Bool, cond, _&&_}
-use Prim.Native.Nat.{ℕ, _+_}
-use lib.Dec.{eqb}
-use lib.ListN.{getD, replicate}
+use mathlib.Core.Bool.{cond}
+use Prim.Native.Nat.{ℕ}
+use lib.ListN.{replicate}
 use Rattle.digits.specs.Digits.{pack}
 use Rattle.digits.specs.Numbers.{digitsOf}
-use Rattle.field.specs.Table.{among}
+use Rattle.digits.specs.Packed.{numeral}
 use Rattle.message.specs.Message.{fieldOf}
 use Rattle.message.specs.Build.{Item, digits, bytes, messageOf}
 use Rattle.message.specs.declared.Message.{Message}
-use Rattle.digits.specs.Packed.{numeral}
-use Rattle.parts.specs.Layout.{laid}
-use Rattle.parts.specs.Parts.{copies, numberIn, partOf}
-use Rattle.parts.specs.declared.Part.{Part}
-use Rattle.parts.specs.declared.Part.the-variants.{DebitAmount, DebitCount, CreditAmount, CreditCount}
+use Rattle.parts.specs.Parts.{copies, numberIn}
 use Rattle.compose.specs.Compose.{withAll}
 use Rattle.hexadecimal.specs.Hexadecimal.{toHex}
-use Rattle.centre.specs.declared.Left.{Left}
-use Rattle.centre.specs.declared.Left.the-variants.{Nothing, Request, Reversal, Settlement, Upload}
-
--- what left, by its type
-unfoldable pub leftAs : ℕ → Left
-leftAs i =
-    cond (among i (0x0100 ∷ 0x0200 ∷ 0x0220 ∷ [])) Request
-      (cond (eqb i 0x0400) Reversal
-        (cond (eqb i 0x0500) Settlement
-          (cond (eqb i 0x0320) Upload Nothing)))
-
--- the type of the answer: its type plus 10
-unfoldable pub answerType : ℕ → ℕ
-answerType i = cond (among i (0x0100 ∷ 0x0200 ∷ 0x0220 ∷ 0x0320 ∷ 0x0400 ∷ 0x0500 ∷ [])) (i + 0x10) 0
+use Rattle.centre_types.specs.Types.{leftAs, answerType, isApproval}
+use Rattle.centre_types.specs.declared.Left.{Left}
+use Rattle.centre_types.specs.declared.Left.the-variants.{Nothing, Request, Reversal, Settlement, Upload}
+use Rattle.centre_totals.specs.Totals.{field48With}
 
 -- k digits of field n as a number, from digit i on
 abbrev pub sentNumber : ℕ → ℕ → ℕ → Message → ℕ
@@ -56,9 +41,6 @@ abbrev pub macField : List Item
 macField = bytes 64 (replicate 8 0) ∷ []
 
 -- 38 when the code is 00: the trace's six digits
-unfoldable pub isApproval : List ℕ → Bool
-isApproval code = eqb (getD code 0 0) 0x30 && eqb (getD code 1 0) 0x30
-
 abbrev pub authorisationField : Message → List ℕ → List Item
 authorisationField m code = cond (isApproval code) (bytes 38 (traceFigures 6 m) ∷ []) []
 
@@ -84,15 +66,6 @@ replyFields m date code = bytes 39 code ∷ (sentFields m ++ alsoTo (leftAs (m .
 
 unfoldable pub reply : Message → ℕ → List ℕ → Message
 reply m date code = withAll (replyFields m date code) (messageOf (answerType (m .indicator)) [])
-
--- a part as sent
-abbrev pub sentPart : Part → Message → ℕ
-sentPart p m = numeral (partOf m p)
-
--- field 48 as sent with this digit, and zeros after it
-abbrev pub field48With : Message → ℕ → List ℕ
-field48With m digit =
-    laid 48 (sentPart DebitAmount m ∷ sentPart DebitCount m ∷ sentPart CreditAmount m ∷ sentPart CreditCount m ∷ digit ∷ [])
 
 -- 11, 41, 42, 48 as sent with this digit, 60
 abbrev pub reconciliationFields : Message → ℕ → List Item

@@ -1,43 +1,19 @@
 // The simulated centre: what it answers to a message that left.
+use centre_types::Left;
 use message::Message;
-use parts::Part;
 ghost use mathlib.Core.Path.{_≡_};
 ghost use Prim.Native.Nat.{_*_, _≤_};
 ghost use Rattle.message.specs.Build.{digits, bytes};
-ghost use Rattle.parts.specs.Layout.{withPart};
 ghost use Rattle.compose.specs.Compose.{withItem, withAll};
-ghost use Rattle.centre.specs.Centre.{leftAs, answerType, sentNumber, digitsSent, bytesSent, sentFields, traceFigures, macField, authorisationField, approvalFields, alsoTo, reply, sentPart, field48With, reconciliation};
-
-// What left.
-pub enum Left {
-    Nothing,
-    Request,
-    Reversal,
-    Settlement,
-    Upload,
-}
-
-// What left, by its type.
-pub fn left_as(indicator: u16) -> Left
-    ensures { λ r. ⌜ r ≡ leftAs indicator ⌝ }
-{
-    match indicator {
-        0x0100 => Left::Request,
-        0x0200 => Left::Request,
-        0x0220 => Left::Request,
-        0x0400 => Left::Reversal,
-        0x0500 => Left::Settlement,
-        0x0320 => Left::Upload,
-        _ => Left::Nothing,
-    }
-}
+ghost use Rattle.centre_totals.specs.Totals.{field48With};
+ghost use Rattle.centre.specs.Centre.{sentNumber, digitsSent, bytesSent, sentFields, traceFigures, macField, authorisationField, approvalFields, alsoTo, reply, reconciliation};
 
 // The answer to a message that left, with this code and on this date.
 pub fn reply(sent: Message, date: u16, code: [u8; 2]) -> Message
     ensures { λ r. ⌜ r ≡ reply sent date code ⌝ }
 {
-    let left = left_as(sent.indicator);
-    let m = compose::typed(answer_type(sent.indicator));
+    let left = centre_types::left_as(sent.indicator);
+    let m = compose::typed(centre_types::answer_type(sent.indicator));
     let also = with_also(m, left, sent, date, code);
     compose::with_bytes(with_sent_fields(also, sent), 39, &code)
 }
@@ -46,22 +22,8 @@ pub fn reply(sent: Message, date: u16, code: [u8; 2]) -> Message
 pub fn reconciliation(sent: Message, digit: u8) -> Message
     ensures { λ r. ⌜ r ≡ reconciliation sent digit ⌝ }
 {
-    let m = compose::typed(answer_type(sent.indicator));
+    let m = compose::typed(centre_types::answer_type(sent.indicator));
     with_field48(with_sent_fields(m, sent), sent, digit)
-}
-
-fn answer_type(indicator: u16) -> u16
-    ensures { λ r. ⌜ r ≡ answerType indicator ⌝ }
-{
-    match indicator {
-        0x0100 => 0x0110,
-        0x0200 => 0x0210,
-        0x0220 => 0x0230,
-        0x0320 => 0x0330,
-        0x0400 => 0x0410,
-        0x0500 => 0x0510,
-        _ => 0,
-    }
 }
 
 // The message with field n as sent, of so many digits.
@@ -114,7 +76,7 @@ fn with_trace_figures(m: Message, n: u8, pairs: usize, sent: Message) -> Message
 fn with_authorisation(m: Message, sent: Message, code: [u8; 2]) -> Message
     ensures { λ r. ⌜ r ≡ withAll (authorisationField sent code) m ⌝ }
 {
-    if (code[0] == 0x30) & (code[1] == 0x30) {
+    if centre_types::is_approval(code) {
         return with_trace_figures(m, 38, 3, sent);
     }
     m
@@ -149,21 +111,9 @@ fn with_also(m: Message, left: Left, sent: Message, date: u16, code: [u8; 2]) ->
     }
 }
 
-// Puts a part as it was sent.
-fn put_sent(sent: Message, p: Part, ds: &mut [u8])
-    ensures { λ _. ⌜ now (ds .exit) ≡ withPart p (sentPart p sent) (now (ds .entry)) ⌝ }
-{
-    parts::put_part(p, digits::numeral(parts::part_of(sent, p)), ds);
-}
-
 fn with_field48(m: Message, sent: Message, digit: u8) -> Message
     ensures { λ r. ⌜ r ≡ withItem (digits 48 (field48With sent digit)) m ⌝ }
 {
-    let mut ds = [0u8; 62];
-    put_sent(sent, Part::DebitAmount, &mut ds);
-    put_sent(sent, Part::DebitCount, &mut ds);
-    put_sent(sent, Part::CreditAmount, &mut ds);
-    put_sent(sent, Part::CreditCount, &mut ds);
-    parts::put_part(Part::Reconciliation, digit as u64, &mut ds);
+    let ds = centre_totals::field48_with(sent, digit);
     compose::with_digits(m, 48, &ds)
 }

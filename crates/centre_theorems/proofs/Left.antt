@@ -34,20 +34,23 @@ use Rattle.state.specs.declared.Outcome.the-variants.{Send}
 use Rattle.checks.specs.Checks.{firstBroken}
 use Rattle.state.specs.Calls.{Result, judged, refused, quiet, sends}
 use Rattle.compose.proofs.Bitmaps.{names-has}
-use Rattle.rules.specs.Rules.{rules12}
+use Rattle.rules.specs.Rules.{rules12, due}
 use Rattle.outgoing.specs.declared.Original.{Original}
 use Rattle.outgoing.specs.Outgoing.{requestFields, reversalFields, requestMessage, reversalMessage}
 use Rattle.call_sign_on.specs.SignOn.{signedOnRules, signedOn}
-use Rattle.call_start.specs.Start.{originalOf, entryOf, requestOf, namedBy, startRules, start}
-use Rattle.call_reversal.specs.SendReversal.{again, sendFrom, sendReversalRules, sendReversal}
-use Rattle.call_settle.specs.Settle.{settlementFields, settlementMessage, settleRules, settle}
-use Rattle.call_upload.specs.SendNextUpload.{itemFields, itemMessage, endFields, endMessage, sendsNext, uploadFrom, sendNextUploadRules, sendNextUpload}
+use Rattle.call_start.specs.Start.{originalOf, entryOf, namedBy, startRules, start}
+use Rattle.desk.specs.DeskRules.{requestOf}
+use Rattle.call_reversal.specs.SendReversal.{sendFrom, sendReversalRules, sendReversal}
+use Rattle.state_effects.specs.StateEffects.{again}
+use Rattle.call_settle.specs.Settle.{settleRules, settle}
+use Rattle.batch_messages.specs.BatchMessages.{settlementFields, settlementMessage, itemFields, itemMessage, endFields, endMessage}
+use Rattle.call_upload.specs.SendNextUpload.{sendsNext, uploadFrom, sendNextUploadRules, sendNextUpload}
 use Rattle.answer_match.specs.Match.{isAnswer}
 use Rattle.call_answer.specs.Answer.{noAnswerRules, noAnswer, powerReturned, answerRules, readIn, answer}
 use Rattle.terminal.specs.Events.{Event, signed-on, starts, answers, no-answer, power-returned, send-reversal, settles, send-next-upload, call}
-use Rattle.centre.specs.Centre.{leftAs}
-use Rattle.centre.specs.declared.Left.{Left}
-use Rattle.centre.specs.declared.Left.the-variants.{Nothing, Request, Reversal, Settlement, Upload}
+use Rattle.centre_types.specs.Types.{leftAs}
+use Rattle.centre_types.specs.declared.Left.{Left}
+use Rattle.centre_types.specs.declared.Left.the-variants.{Nothing, Request, Reversal, Settlement, Upload}
 use Rattle.history.specs.Words.{messageIn}
 use Rattle.centre_theorems.specs.Theorems.{HoldsIts, HasLeft}
 
@@ -171,7 +174,7 @@ module _ (s : State) (j m : List ℕ) where
   upload-from (Waiting a) = is-quiet
   upload-from (Pending v) = is-quiet
   upload-from Settling = is-quiet
-  upload-from Uploading = next-leaves (nextDue (entriesOf (s .entries) j))
+  upload-from Uploading = next-leaves (nextDue (due Uploading) (entriesOf (s .entries) j))
 
 pub call-sends : (e : Event) (s : State) (j m : List ℕ) → Sends (call e s j m)
 unfolding signedOn start answer noAnswer powerReturned sendReversal settle sendNextUpload

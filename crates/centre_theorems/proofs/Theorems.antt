@@ -27,9 +27,11 @@ use Rattle.outgoing.proofs.Leaving.{held-append}
 use Rattle.outgoing_theorems.specs.Theorems.{outgoingBytes, Reads}
 use Rattle.terminal.specs.Events.{call}
 use Rattle.call_theorems.proofs.Facts.{sent-reads}
-use Rattle.centre.specs.Centre.{leftAs, answerType, sentNumber, sentFields, traceFigures, macField, isApproval, authorisationField, alsoTo, replyFields, reply, sentPart, field48With, reconciliationFields, reconciliation}
-use Rattle.centre.specs.declared.Left.{Left}
-use Rattle.centre.specs.declared.Left.the-variants.{Nothing, Request, Reversal, Settlement, Upload}
+use Rattle.centre_types.specs.Types.{leftAs, answerType, isApproval}
+use Rattle.centre_totals.specs.Totals.{sentPart, field48With}
+use Rattle.centre.specs.Centre.{sentNumber, sentFields, traceFigures, macField, authorisationField, alsoTo, replyFields, reply, reconciliationFields, reconciliation}
+use Rattle.centre_types.specs.declared.Left.{Left}
+use Rattle.centre_types.specs.declared.Left.the-variants.{Nothing, Request, Reversal, Settlement, Upload}
 use Rattle.history.specs.Words as words
 use Rattle.history.specs.Words.{messageIn, holdsItsFields, digitIn}
 use Rattle.history.proofs.Said.{number-read}

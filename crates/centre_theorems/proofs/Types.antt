@@ -7,9 +7,9 @@ use native.Mathlib.Decide.{ℕ-discrete}
 use lib.Dec.{eqb}
 use borrow.Author.Tests.{ne-eqb}
 use Rattle.field.specs.Table.{among, indicators}
-use Rattle.centre.specs.Centre.{leftAs, answerType}
-use Rattle.centre.specs.declared.Left.{Left}
-use Rattle.centre.specs.declared.Left.the-variants.{Nothing, Request, Reversal, Settlement, Upload}
+use Rattle.centre_types.specs.Types.{leftAs, answerType}
+use Rattle.centre_types.specs.declared.Left.{Left}
+use Rattle.centre_types.specs.declared.Left.the-variants.{Nothing, Request, Reversal, Settlement, Upload}
 
 -- a card request
 abbrev pub isRequest : Left → Bool

@@ -18,9 +18,10 @@ use Rattle.state.specs.declared.Outcome.the-variants.{Send}
 use Rattle.terminal.specs.Events.{Event, call}
 use Rattle.terminal.specs.Shapes.{SettingsShaped, EventShaped}
 use Rattle.outgoing_theorems.specs.Theorems.{outgoingBytes}
-use Rattle.centre.specs.Centre.{leftAs, reply, reconciliation}
-use Rattle.centre.specs.declared.Left.{Left}
-use Rattle.centre.specs.declared.Left.the-variants as left
+use Rattle.centre_types.specs.Types.{leftAs}
+use Rattle.centre.specs.Centre.{reply, reconciliation}
+use Rattle.centre_types.specs.declared.Left.{Left}
+use Rattle.centre_types.specs.declared.Left.the-variants as left
 use Rattle.history.specs.Words.{messageIn, isMatching, digitIn}
 
 -- what a message that left holds beside the fields of all: a card request its amount, a settlement its totals

@@ -1,4 +1,7 @@
 // A desk and its terminal, driven by a script: that of standard input, or each that an argument names, under its name.
+mod commands;
+mod shows;
+
 use input::Input;
 use libc::STDIN_FILENO;
 use libc::STDOUT_FILENO;
@@ -7,12 +10,6 @@ use terminal::Terminal;
 
 // Room for 1,000 entries, so that a limit above 300 is judged by rule 2 up to there, and by rule 1 beyond.
 const JOURNAL: usize = 1000 * Terminal::ENTRY;
-
-// Where a rehearsal and the reading of its lines stand.
-struct Turn {
-    rehearsal: Rehearsal,
-    input: Input,
-}
 
 fn main() {
     if os::arg_count() < 2 {
@@ -52,61 +49,24 @@ fn run(path: &[u8]) {
     libc::close(file);
 }
 
-// Rehearses the script in an open file. The text has room for a journal of 300 entries.
+// Rehearses the script in an open file: answers each line before the next is read, until the input ends. The text has room for
+// a journal of 300 entries. A proved loop has to end, and nothing says that the input does, so the loop counts its turns down.
 fn rehearse(script: i32) {
     let mut chunk = io::buffer();
     let mut line = input::buffer();
     let mut journal = [0u8; JOURNAL];
     let mut message = [0u8; Terminal::MESSAGE];
     let mut text = io::large_buffer();
-    answer_all(
-        script,
-        &mut chunk,
-        &mut line,
-        &mut journal,
-        &mut message,
-        &mut text,
-    );
-}
-
-// Answers each line before the next is read, until the input ends. A proved loop has to end, and nothing says that the
-// input does, so the loop counts its turns down.
-fn answer_all(
-    script: i32,
-    chunk: &mut [u8],
-    line: &mut [u8],
-    journal: &mut [u8],
-    message: &mut [u8],
-    text: &mut [u8],
-) {
-    let mut turn = Turn {
-        rehearsal: Rehearsal::new(),
-        input: Input::new(script),
-    };
+    let mut rehearsal = Rehearsal::new();
+    let mut at = Input::new(script);
     let mut turns = u64::MAX;
     while turns > 0 {
-        turn = answer_next(turn, chunk, line, journal, message, text);
-        let input = turn.input;
-        if input.ended {
+        at = input::next(at, &mut chunk, &mut line);
+        rehearsal = answer(rehearsal, at, &line, &mut journal, &mut message, &mut text);
+        if at.ended {
             break;
         }
         turns -= 1;
-    }
-}
-
-// Reads the next line and answers it.
-fn answer_next(
-    turn: Turn,
-    chunk: &mut [u8],
-    line: &mut [u8],
-    journal: &mut [u8],
-    message: &mut [u8],
-    text: &mut [u8],
-) -> Turn {
-    let at = input::next(turn.input, chunk, line);
-    Turn {
-        rehearsal: answer(turn.rehearsal, at, line, journal, message, text),
-        input: at,
     }
 }
 

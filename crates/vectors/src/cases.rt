@@ -9,8 +9,8 @@ use crate::integers::u64_at;
 use crate::states::card_of;
 use crate::states::is_state;
 use crate::states::state_of;
-use call_start::Desk;
 use calls::Call;
+use desk::Desk;
 use numbers::Batch;
 use numbers::Trace;
 use terminal::Step;
@@ -88,7 +88,7 @@ pub fn call(s: &[u8], journal: &mut [u8], message: &mut [u8]) -> Step {
         state: state_of(state_bytes(s)),
     };
     let desk = desk_of(part(s, DESK, 42));
-    calls::make(terminal, call_of(s), desk, answer_of(s), journal, message)
+    dispatch::make(terminal, call_of(s), desk, answer_of(s), journal, message)
 }
 
 fn call_of(s: &[u8]) -> Call {

@@ -8,23 +8,14 @@ use input::Input;
 use libc::STDIN_FILENO;
 use libc::STDOUT_FILENO;
 use state::Outcome;
-ghost use mathlib.Core.Path.{_≡_};
-ghost use Prim.Native.Nat.{_≤_};
-ghost use lib.ListN.{length};
 
 // Adds a name and a number to a text of n bytes in out, and gives the new number of bytes.
-fn add_named(name: &[u8], x: u64, n: usize, out: &mut [u8]) -> usize
-    requires { ⌜ n ≤ length (now out) ⌝ }
-    ensures { λ r. ⌜ r ≤ length (now (out .entry)) ⌝ }
-{
+fn add_named(name: &[u8], x: u64, n: usize, out: &mut [u8]) -> usize {
     let next = texts::add(name, n, out);
     texts::add_decimal(x, next, out)
 }
 
-fn add_outcome(o: Outcome, n: usize, out: &mut [u8]) -> usize
-    requires { ⌜ n ≤ length (now out) ⌝ }
-    ensures { λ r. ⌜ r ≤ length (now (out .entry)) ⌝ }
-{
+fn add_outcome(o: Outcome, n: usize, out: &mut [u8]) -> usize {
     match o {
         Outcome::Send(k) => add_named(b"send ", k as u64, n, out),
         Outcome::Quiet => texts::add(b"quiet", n, out),
@@ -33,10 +24,7 @@ fn add_outcome(o: Outcome, n: usize, out: &mut [u8]) -> usize
 }
 
 // Adds what a call left of these bytes: `same`, or the bytes in hexadecimal.
-fn add_bytes(before: &[u8], after: &[u8], n: usize, out: &mut [u8]) -> usize
-    requires { ⌜ n ≤ length (now out) ⌝ }
-    ensures { λ r. ⌜ r ≤ length (now (out .entry)) ⌝ }
-{
+fn add_bytes(before: &[u8], after: &[u8], n: usize, out: &mut [u8]) -> usize {
     if check::same(before, after) {
         return texts::add(b" same", n, out);
     }
@@ -52,7 +40,7 @@ fn say(s: &[u8], outcome: Outcome, state: &[u8], blank: &[u8], journal: &[u8], m
     n = add_bytes(cases::journal_of(s), journal, n, &mut text);
     n = add_bytes(blank, message, n, &mut text);
     n = texts::add(b"\n", n, &mut text);
-    io::write_all(STDOUT_FILENO, &text[..n]);
+    io::write_all(STDOUT_FILENO, texts::front(&text, n));
 }
 
 fn show(s: &[u8], blank: &[u8], journal: &mut [u8], message: &mut [u8]) {
@@ -89,7 +77,7 @@ fn complain(number: u64, reason: &[u8]) {
     let mut text = [0u8; 64];
     let mut n = add_named(b"error line ", number, 0, &mut text);
     n = texts::add(reason, n, &mut text);
-    io::write_all(STDOUT_FILENO, &text[..n]);
+    io::write_all(STDOUT_FILENO, texts::front(&text, n));
 }
 
 fn complain_of_length(number: u64) {
@@ -102,7 +90,7 @@ fn answer(number: u64, words: &[u8]) {
     let h = hexadecimal::hex_into(words, &mut bytes);
     match h {
         Hex::Bytes(n) => {
-            if !show_case(&bytes[..n]) {
+            if !show_case(texts::front(&bytes, n)) {
                 complain(number, b" not a case\n");
             }
         }

@@ -20,8 +20,9 @@ with-field48-requires c κs = search needs
 returns : tie.Need-returns
 unfolding reconciliation
 returns c =
-    c .with-field48 .ensures
-    ∙ rw (c .before .with-sent-fields .ensures, c .before .before .typed .ensures, c .before .before .before .answer-type .ensures)
+    let at-answer-type = c .before .before .before .answer-type in
+    let at-typed = c .before .before .typed in
+    c .with-field48 .ensures ∙ rw (c .before .with-sent-fields .ensures, at-typed .ensures, at-answer-type .ensures)
 
 pub reconciliation-spec : {M : Type 1} → statement M
 reconciliation-spec =

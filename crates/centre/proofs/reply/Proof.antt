@@ -4,7 +4,8 @@ use mathlib.Core.Path.{_∙_}
 use borrow.Author.Needs.{needs}
 use Rattle.compose.proofs.Composed.{all-append}
 use Rattle.message.specs.Build.{messageOf}
-use Rattle.centre.specs.Centre.{leftAs, answerType, sentFields, alsoTo, reply}
+use Rattle.centre_types.specs.Types.{leftAs, answerType}
+use Rattle.centre.specs.Centre.{sentFields, alsoTo, reply}
 use Rattle.centre.proofs.reply.Statement.{statement}
 use Rattle.centre.proofs.reply.Tie as tie
 
@@ -32,9 +33,22 @@ with-bytes-requires c κs = search needs
 returns : tie.Need-returns
 unfolding reply
 returns c =
-    let a = c .before .before .before .before .before .before .before .args in
+    let at-args = c .before .before .before .before .before .before .before .args in
+    let at-left-as = c .before .before .before .before .before .before .left-as in
+    let at-answer-type = c .before .before .before .before .before .answer-type in
+    let at-typed = c .before .before .before .before .typed in
+    let at-with-also = c .before .before .before .with-also in
+    let at-with-sent-fields = c .before .before .with-sent-fields in
     c .with-bytes .ensures
-    ∙ rw (c .before .before .with-sent-fields .ensures, c .before .before .before .with-also .ensures, c .before .before .before .before .typed .ensures, c .before .before .before .before .before .answer-type .ensures, c .before .before .before .before .before .before .left-as .ensures, all-append (sentFields (a .sent)) (alsoTo (leftAs (a .sent .indicator)) (a .sent) (a .date) (a .t3)) (messageOf (answerType (a .sent .indicator)) []))
+    ∙ rw (
+      at-with-sent-fields .ensures,
+      at-with-also .ensures,
+      at-typed .ensures,
+      at-answer-type .ensures,
+      at-left-as .ensures,
+      all-append (sentFields (at-args .sent)) (alsoTo (leftAs (at-args .sent .indicator)) (at-args .sent) (at-args .date) (at-args .t3))
+          (messageOf (answerType (at-args .sent .indicator)) []),
+    )
 
 pub reply-spec : {M : Type 1} → statement M
 reply-spec =

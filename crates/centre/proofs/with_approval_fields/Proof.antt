@@ -22,8 +22,18 @@ with-digits-sent-requires c κs = search needs
 
 returns : tie.Need-returns
 returns c =
-    let a = c .before .before .before .before .before .args in
-    rw (c .with-digits-sent .ensures, c .before .with-number .ensures, c .before .before .with-trace-figures .ensures, c .before .before .before .with-authorisation .ensures, c .before .before .before .before .with-mac .ensures, all-append (authorisationField (a .sent) (a .code)) macField (a .m))
+    let at-args = c .before .before .before .before .before .args in
+    let at-with-mac = c .before .before .before .before .with-mac in
+    let at-with-authorisation = c .before .before .before .with-authorisation in
+    let at-with-trace-figures = c .before .before .with-trace-figures in
+    rw (
+      c .with-digits-sent .ensures,
+      c .before .with-number .ensures,
+      at-with-trace-figures .ensures,
+      at-with-authorisation .ensures,
+      at-with-mac .ensures,
+      all-append (authorisationField (at-args .sent) (at-args .code)) macField (at-args .m),
+    )
 
 pub with-approval-fields-spec : {M : Type 1} → statement M
 with-approval-fields-spec =

@@ -22,15 +22,21 @@ array-share-prefix-b c = front-there _ spaces (c .before .field-into .last .1 .1
 
 slice-aggregate-with-bytes : tie.Need-slice-aggregate-with-bytes
 slice-aggregate-with-bytes c =
-    sym (length-take-le _ _ (front-there _ spaces (c .before .before .field-into .last .1 .1 .0) (c .before .before .field-into .kept .1 .1 .0) (omega arith)))
+    let at-field-into-kept = c .before .before .field-into .kept in
+    let at-field-into-last = c .before .before .field-into .last in
+    sym (length-take-le _ _ (front-there _ spaces (at-field-into-last .1 .1 .0)
+    (at-field-into-kept .1 .1 .0) (omega arith)))
 
 with-bytes-requires : tie.Need-with-bytes-requires
 with-bytes-requires c κs = search needs
 
 returns : tie.Need-returns
 returns c =
-    let a = c .before .before .before .before .before .args in
-    bytes-put (a .m) (a .n) (a .sent) (a .count) (c .before .before .before .before .before .pre) (c .before .before .before .field-into .kept .1 .1 .0) (c .before .before .before .field-into .ensures .1) (c .with-bytes .ensures)
+    let at-args = c .before .before .before .before .before .args in
+    let at-pre = c .before .before .before .before .before .pre in
+    let at-field-into = c .before .before .before .field-into in
+    bytes-put (at-args .m) (at-args .n) (at-args .sent) (at-args .count) at-pre
+    (at-field-into .kept .1 .1 .0) (at-field-into .ensures .1) (c .with-bytes .ensures)
 
 pub with-bytes-sent-spec : {M : Type 1} → statement M
 with-bytes-sent-spec =

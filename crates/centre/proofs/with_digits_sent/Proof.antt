@@ -13,7 +13,9 @@ with-number-requires : tie.Need-with-number-requires
 with-number-requires c κs = search needs
 
 returns : tie.Need-returns
-returns c = rw (c .with-number .ensures, c .before .numeral .ensures, c .before .before .number-in .ensures)
+returns c =
+    let at-number-in = c .before .before .number-in in
+    rw (c .with-number .ensures, c .before .numeral .ensures, at-number-in .ensures)
 
 pub with-digits-sent-spec : {M : Type 1} → statement M
 with-digits-sent-spec =

@@ -16,7 +16,15 @@ with-digits-sent-requires-2 : tie.Need-with-digits-sent-requires-2
 with-digits-sent-requires-2 c κs = search needs
 
 returns : tie.Need-returns
-returns c = rw (c .with-digits-sent2 .ensures, c .before .with-bytes-sent2 .ensures, c .before .before .with-bytes-sent .ensures, c .before .before .before .with-digits-sent .ensures)
+returns c =
+    let at-with-digits-sent = c .before .before .before .with-digits-sent in
+    let at-with-bytes-sent = c .before .before .with-bytes-sent in
+    rw (
+      c .with-digits-sent2 .ensures,
+      c .before .with-bytes-sent2 .ensures,
+      at-with-bytes-sent .ensures,
+      at-with-digits-sent .ensures,
+    )
 
 pub with-sent-fields-spec : {M : Type 1} → statement M
 with-sent-fields-spec =

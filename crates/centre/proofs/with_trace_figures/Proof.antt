@@ -28,7 +28,10 @@ array-share-prefix-figures c = front-there _ (zeros 6) (c .before .put-number .l
 
 slice-aggregate-put-hex : tie.Need-slice-aggregate-put-hex
 slice-aggregate-put-hex c =
-    sym (length-take-le _ _ (front-there _ (zeros 6) (c .before .before .put-number .last .1 .0) (c .before .before .put-number .kept .1 .0) (omega arith)))
+    let at-put-number-kept = c .before .before .put-number .kept in
+    let at-put-number-last = c .before .before .put-number .last in
+    sym (length-take-le _ _ (front-there _ (zeros 6) (at-put-number-last .1 .0)
+    (at-put-number-kept .1 .0) (omega arith)))
 
 array-borrow-prefix-text : tie.Need-array-borrow-prefix-text
 array-borrow-prefix-text c = search needs
@@ -44,16 +47,23 @@ array-share-prefix-text c = front-there _ (zeros 12) (c .before .put-hex .last .
 
 slice-aggregate-with-bytes : tie.Need-slice-aggregate-with-bytes
 slice-aggregate-with-bytes c =
-    sym (length-take-le _ _ (front-there _ (zeros 12) (c .before .before .put-hex .last .1 .0) (c .before .before .put-hex .kept .1 .0) (omega arith)))
+    let at-put-hex-kept = c .before .before .put-hex .kept in
+    let at-put-hex-last = c .before .before .put-hex .last in
+    sym (length-take-le _ _ (front-there _ (zeros 12) (at-put-hex-last .1 .0) (at-put-hex-kept .1 .0)
+    (omega arith)))
 
 with-bytes-requires : tie.Need-with-bytes-requires
 with-bytes-requires c κs = search needs
 
 returns : tie.Need-returns
 returns c =
-    let a = c .before .before .before .before .before .before .before .before .before .before .args in
-    figures-put (a .m) (a .n) (a .sent) (a .pairs) (c .before .before .before .before .before .before .before .before .before .before .pre) (c .before .before .before .before .before .before .before .before .before .trace-sent .ensures) (c .before .before .before .before .before .before .before .put-number .kept .1 .0) (c .before .before .before .before .before .before .before .put-number .ensures)
-    (c .before .before .before .put-hex .kept .1 .0) (c .before .before .before .put-hex .ensures .0) (c .before .before .before .put-hex .ensures .1) (c .with-bytes .ensures)
+    let at-args = c .before .before .before .before .before .before .before .before .before .before .args in
+    let at-pre = c .before .before .before .before .before .before .before .before .before .before .pre in
+    let at-trace-sent = c .before .before .before .before .before .before .before .before .before .trace-sent in
+    let at-put-number = c .before .before .before .before .before .before .before .put-number in
+    let at-put-hex = c .before .before .before .put-hex in
+    figures-put (at-args .m) (at-args .n) (at-args .sent) (at-args .pairs) at-pre (at-trace-sent .ensures) (at-put-number .kept .1 .0)
+    (at-put-number .ensures) (at-put-hex .kept .1 .0) (at-put-hex .ensures .0) (at-put-hex .ensures .1) (c .with-bytes .ensures)
 
 pub with-trace-figures-spec : {M : Type 1} → statement M
 with-trace-figures-spec =

@@ -17,10 +17,14 @@ add-error-requires : tie.Need-add-error-requires
 add-error-requires c κs = search needs
 
 slice-reshare-prefix-write-all : tie.Need-slice-reshare-prefix-write-all
-slice-reshare-prefix-write-all c = omega (arith, within (c .before .before .add-error .ensures _ (start _)))
+slice-reshare-prefix-write-all c =
+    let at-add-error-ensures = c .before .before .add-error .ensures in
+    omega (arith, within (at-add-error-ensures _ (start _)))
 
 slice-aggregate-write-all : tie.Need-slice-aggregate-write-all
-slice-aggregate-write-all c = sym (length-take-le _ _ (omega (arith, within (c .before .before .before .add-error .ensures _ (start _)))))
+slice-aggregate-write-all c =
+    let at-add-error-ensures = c .before .before .before .add-error .ensures in
+    sym (length-take-le _ _ (omega (arith, within (at-add-error-ensures _ (start _)))))
 
 write-all-requires : tie.Need-write-all-requires
 write-all-requires c κs = search needs
@@ -44,7 +48,9 @@ slice-reshare-prefix-write-all-2 : tie.Need-slice-reshare-prefix-write-all-2
 slice-reshare-prefix-write-all-2 c = search needs
 
 slice-aggregate-write-all-2 : tie.Need-slice-aggregate-write-all-2
-slice-aggregate-write-all-2 c = sym (length-take-le _ _ (omega (arith, within (c .before .before .before .before .before .before .before .act .ensures .text-is))))
+slice-aggregate-write-all-2 c =
+    let at-act-ensures = c .before .before .before .before .before .before .before .act .ensures in
+    sym (length-take-le _ _ (omega (arith, within (at-act-ensures .text-is))))
 
 write-all-requires-2 : tie.Need-write-all-requires-2
 write-all-requires-2 c κs = search needs

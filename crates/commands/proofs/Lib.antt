@@ -1,2 +1,0 @@
--- Laws of the lines of a script, for the proofs of this crate.
-pub mod Laws

@@ -1,2 +1,0 @@
--- Laws of the calls, for the proofs of this crate.
-pub mod Calls

@@ -1,0 +1,97 @@
+-- `rehearse::commands::answer_into` meets its contract.
+use mathlib.Core.Path.{_∙_}
+use Rattle.rehearse.proofs.Calls.{put-front}
+use Rattle.rehearse.proofs.Laws.{hex-fits, hex-bytes, word-answers}
+use borrow.Author.Needs.{needs}
+use Rattle.rehearse.proofs.commands.answer_into.Statement.{statement}
+use Rattle.rehearse.proofs.commands.answer_into.Tie as tie
+
+enum-known-command : tie.Need-enum-known-command
+enum-known-command c = search needs
+
+reply-requires : tie.Need-reply-requires
+reply-requires c κs = search needs
+
+write-outgoing-requires : tie.Need-write-outgoing-requires
+write-outgoing-requires c κs = search needs
+
+enum-known-command-2 : tie.Need-enum-known-command-2
+enum-known-command-2 c = search needs
+
+reconciliation-requires : tie.Need-reconciliation-requires
+reconciliation-requires c κs = search needs
+
+write-outgoing-requires-2 : tie.Need-write-outgoing-requires-2
+write-outgoing-requires-2 c κs = search needs
+
+hex-into-requires : tie.Need-hex-into-requires
+hex-into-requires c κs = search needs
+
+hex-length-requires : tie.Need-hex-length-requires
+hex-length-requires c κs = search needs
+
+same-length : tie.Need-same-length
+same-length c = search needs
+
+returns : tie.Need-returns
+returns c =
+    let at-args = c .before .before .before .before .before .before .before .before .before .before .args in
+    let at-pre = c .before .before .before .before .before .before .before .before .before .before .pre in
+    let at-command = c .before .before .before .before .before .before .command in
+    let at-reply = c .before .before .before .before .reply in
+    let at-write-outgoing = c .before .before .write-outgoing in
+    rw (at-command .given .1)
+    (rw (at-reply .ensures) at (put-front (at-reply .result)
+    (at-args .out .now)
+    at-pre (at-write-outgoing .ensures)))
+
+same-length-2 : tie.Need-same-length-2
+same-length-2 c = search needs
+
+returns-2 : tie.Need-returns-2
+returns-2 c =
+    let at-args = c .before .before .before .before .before .before .before .before .before .before .args in
+    let at-pre = c .before .before .before .before .before .before .before .before .before .before .pre in
+    let at-command2 = c .before .before .before .before .before .before .command2 in
+    let at-reconciliation = c .before .before .before .before .reconciliation in
+    let at-write-outgoing2 = c .before .before .write-outgoing2 in
+    rw (at-command2 .given .1)
+    (rw (at-reconciliation .ensures) at
+    (put-front (at-reconciliation .result)
+    (at-args .out .now)
+    at-pre (at-write-outgoing2 .ensures)))
+
+same-length-3 : tie.Need-same-length-3
+same-length-3 c = search needs
+
+returns-3 : tie.Need-returns-3
+returns-3 c =
+    let at-args = c .before .before .before .before .before .before .before .before .args in
+    let at-pre = c .before .before .before .before .before .before .before .before .pre in
+    let at-match = c .before .before .before .before .before .match in
+    let at-hex-into = c .before .before .before .hex-into in (
+      hex-fits (at-args .hex .now) (at-args .out .now) (at-hex-into .ensures .0)
+          (at-hex-into .ensures .1) (c .hex-length .ensures),
+      hex-bytes (at-args .hex .now) (at-args .out .now) (at-hex-into .ensures .0)
+          (at-hex-into .ensures .1) (c .hex-length .ensures) at-pre ∙ word-answers (at-args .command) (at-args .hex .now) (at-args .sent)
+          (at-args .date) (at-match .keys3),
+    )
+
+pub answer-into-spec : {M : Type 1} → statement M
+answer-into-spec =
+    tie.close
+    (tie.spec
+    enum-known-command
+    reply-requires
+    write-outgoing-requires
+    enum-known-command-2
+    reconciliation-requires
+    write-outgoing-requires-2
+    hex-into-requires
+    hex-length-requires
+    same-length
+    returns
+    same-length-2
+    returns-2
+    same-length-3
+    returns-3)

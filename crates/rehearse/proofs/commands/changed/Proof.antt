@@ -1,0 +1,40 @@
+-- `rehearse::commands::changed` meets its contract.
+use Rattle.rehearse.proofs.Laws.{changes-nothing}
+use borrow.Author.Needs.{needs}
+use Rattle.rehearse.proofs.commands.changed.Statement.{statement}
+use Rattle.rehearse.proofs.commands.changed.Tie as tie
+
+enum-told : tie.Need-enum-told
+enum-told c = search needs
+
+begun-requires : tie.Need-begun-requires
+begun-requires c κs = search needs
+
+enum-known-command : tie.Need-enum-known-command
+enum-known-command c = search needs
+
+dated-requires : tie.Need-dated-requires
+dated-requires c κs = search needs
+
+returns : tie.Need-returns
+returns c = rw (c .before .enum-told .given .1) (c .begun .ensures)
+
+returns-2 : tie.Need-returns-2
+returns-2 c =
+    let at-command = c .before .before .command in
+    rw (at-command .given .1) (c .dated .ensures)
+
+returns-3 : tie.Need-returns-3
+returns-3 c = changes-nothing (c .before .args .command) (c .before .args .settings) (c .before .args .r) (c .match .keys3)
+
+pub changed-spec : {M : Type 1} → statement M
+changed-spec =
+    tie.close
+    (tie.spec
+    enum-told
+    begun-requires
+    enum-known-command
+    dated-requires
+    returns
+    returns-2
+    returns-3)

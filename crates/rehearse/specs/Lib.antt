@@ -1,0 +1,3 @@
+pub mod Rehearsal
+pub mod Commands
+pub mod Asked

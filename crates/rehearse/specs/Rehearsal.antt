@@ -1,0 +1,56 @@
+-- What a line of a script does to a rehearsal, and what a call does.
+use mathlib.Core.Path.{_≡_}
+use mathlib.Core.List.{List}
+use Prim.Native.Nat.{ℕ}
+use lib.ListN.{take, replicate}
+use Rattle.message.specs.Message.{largest}
+use Rattle.message.specs.declared.Message.{Message}
+use Rattle.reading.specs.Reading.{readMessage}
+use Rattle.writing.specs.Writing.{writeMessage}
+use Rattle.state.specs.Calls.{Result}
+use Rattle.outgoing.specs.Outgoing.{lengthOf}
+use Rattle.terminal.specs.Events.{Event, call}
+use Rattle.texts.specs.Text.{Text}
+use Rattle.screen.specs.Outcomes.{outcomeLine}
+use Rattle.stage.specs.declared.Rehearsal.{Rehearsal}
+use Rattle.stage.specs.Stage.{afterCall}
+use Rattle.rehearse.specs.declared.commands.Acted.{Acted}
+
+-- a rehearsal, its journal and message buffer after a line of a script, and what the line wrote
+pub record Done : Type 0 where
+  pub rehearsal : Rehearsal
+  pub journal : List ℕ
+  pub message : List ℕ
+  pub written : List ℕ
+
+-- a function did this: what it gave back and left in journal, message buffer and text buffer
+pub record Did (d : Done) (a : Acted) (j m o : List ℕ) : Type 0 where
+  pub rehearsal-is : a .rehearsal ≡ d .rehearsal
+  pub journal-is : j ≡ d .journal
+  pub message-is : m ≡ d .message
+  pub text-is : Text (d .written) (a .written) o
+
+-- a line that changes nothing
+abbrev pub writes : List ℕ → Rehearsal → List ℕ → List ℕ → Done
+writes w r j m = record { rehearsal = r; journal = j; message = m; written = w }
+
+-- the last message that left, which a quiet or refused call leaves in the message buffer
+abbrev pub last : Rehearsal → List ℕ → List ℕ
+last r m = take (r .length) m
+
+abbrev pub messageIn : List ℕ → Message
+messageIn b = readMessage b .message
+
+-- a call: its outcome is written, and what left is the last message
+abbrev pub resulted : Result → Rehearsal → Done
+resulted q r =
+    record {
+      rehearsal = afterCall (q .outcome) (q .state) r; journal = q .journal; message = q .message;
+      written = outcomeLine (q .outcome) (q .message) }
+
+abbrev pub called : Event → Rehearsal → List ℕ → List ℕ → Done
+called e r j m = resulted (call e (r .terminal .state) j m) r
+
+-- the bytes of a message of the simulated centre
+unfoldable pub bytesOf : Message → List ℕ
+bytesOf a = take (lengthOf (writeMessage a (replicate largest 0) .outcome)) (writeMessage a (replicate largest 0) .buffer)
