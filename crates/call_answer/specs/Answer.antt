@@ -17,26 +17,26 @@ use Rattle.state.specs.declared.Phase.the-variants.{Resting, Waiting, Pending, 
 use Rattle.state.specs.declared.State.{State}
 use Rattle.state.specs.State.{signed, isWaiting}
 use Rattle.checks.specs.Checks.{Rule, rule, firstBroken}
-use Rattle.state.specs.Calls.{Result, judged, refused, quiet}
+use Rattle.state.specs.Calls.{Lent, withJournal, Result, judged, refused, quiet}
 use Rattle.rules.specs.Rules.{rules12}
 use Rattle.answer_match.specs.Match.{isAnswer}
 use Rattle.journal_effects.specs.JournalEffects.{Changed, changed, silentIn, answered}
 
-abbrev pub quietly : Changed → List ℕ → Result
-quietly c m = quiet (c .state) (c .journal) m
+abbrev pub quietly : Changed → Lent → Result
+quietly c lent = quiet (c .state) (withJournal (c .journal) lent)
 
-abbrev pub noAnswerRules : State → List ℕ → List ℕ → List Rule
-noAnswerRules s j m = rules12 s j m ++ (rule 14 (not (isWaiting s)) ∷ [])
+abbrev pub noAnswerRules : State → Lent → List Rule
+noAnswerRules s lent = rules12 s lent ++ (rule 14 (not (isWaiting s)) ∷ [])
 
-unfoldable pub noAnswer : State → List ℕ → List ℕ → Result
-noAnswer s j m = judged (firstBroken (noAnswerRules s j m)) s j m (quietly (silentIn (s .phase) s j) m)
+unfoldable pub noAnswer : State → Lent → Result
+noAnswer s lent = judged (firstBroken (noAnswerRules s lent)) s lent (quietly (silentIn (s .phase) s (lent .journal)) lent)
 
 -- power returned also signs off; what is awaited is then silent, as at no answer
-abbrev pub withoutPower : Changed → List ℕ → Result
-withoutPower c m = quiet (signed false (c .state)) (c .journal) m
+abbrev pub withoutPower : Changed → Lent → Result
+withoutPower c lent = quiet (signed false (c .state)) (withJournal (c .journal) lent)
 
-unfoldable pub powerReturned : State → List ℕ → List ℕ → Result
-powerReturned s j m = judged (firstBroken (rules12 s j m)) s j m (withoutPower (silentIn (s .phase) s j) m)
+unfoldable pub powerReturned : State → Lent → Result
+powerReturned s lent = judged (firstBroken (rules12 s lent)) s lent (withoutPower (silentIn (s .phase) s (lent .journal)) lent)
 
 -- the trace that was sent; reversals and upload items reuse the original's
 abbrev pub traceSent : List Entry → Awaited → Trace
@@ -70,15 +70,16 @@ abbrev pub answerRules : Message → State → List ℕ → List Rule
 answerRules a s j =
     rule 14 (not (isWaiting s)) ∷ rule 22 (not (answersIn (s .phase) (entriesOf (s .entries) j) s a)) ∷ []
 
-abbrev pub answerIn : Bool → Message → State → List ℕ → List ℕ → Result
-answerIn good a s j m = judged (firstBroken (answerRules a s j)) s j m (quietly (answeredIn (s .phase) good a s j) m)
+abbrev pub answerIn : Bool → Message → State → Lent → Result
+answerIn good a s lent =
+    judged (firstBroken (answerRules a s (lent .journal))) s lent (quietly (answeredIn (s .phase) good a s (lent .journal)) lent)
 
 -- 3 to 9: an answer that does not read is refused with the reading's own number
-abbrev pub readIn : Judgement → Bool → Message → State → List ℕ → List ℕ → Result
-readIn Read good a s j m = answerIn good a s j m
-readIn (Unread n) good a s j m = refused n s j m
+abbrev pub readIn : Judgement → Bool → Message → State → Lent → Result
+readIn Read good a s lent = answerIn good a s lent
+readIn (Unread n) good a s lent = refused n s lent
 
 -- 1 and 2, then 3 to 9, then 14 and 22
-unfoldable pub answer : List ℕ → Bool → State → List ℕ → List ℕ → Result
-answer b good s j m =
-    judged (firstBroken (rules12 s j m)) s j m (readIn (readMessage b .outcome) good (readMessage b .message) s j m)
+unfoldable pub answer : List ℕ → Bool → State → Lent → Result
+answer b good s lent =
+    judged (firstBroken (rules12 s lent)) s lent (readIn (readMessage b .outcome) good (readMessage b .message) s lent)

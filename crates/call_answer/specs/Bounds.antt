@@ -5,11 +5,11 @@ use Prim.Native.Nat.{ℕ}
 use Rattle.reading.specs.declared.ReadOutcome.{ReadOutcome as Judgement}
 use Rattle.reading.specs.declared.ReadOutcome.the-variants.{Read, Refused as Unread}
 use Rattle.state.specs.declared.Called.{Called}
-use Rattle.state.specs.Calls.{Result, resultOf}
+use Rattle.state.specs.Calls.{Lent, withJournal, Result, resultOf}
 
--- a call has this result whatever the message buffer holds, which it leaves
-abbrev pub Gives : Called → List ℕ → (List ℕ → Result) → Type 0
-Gives r j result = (m : List ℕ) → resultOf r j m ≡ result m
+-- a call that is lent the journal j and leaves k there has this result, whatever else is lent; that stays
+abbrev pub Gives : Called → List ℕ → List ℕ → (Lent → Result) → Type 0
+Gives r j k result = (lent : Lent) → resultOf r (withJournal k lent) ≡ result (withJournal j lent)
 
 -- the number of a reading that is refused, 0 for none
 abbrev pub readingNumber : Judgement → ℕ

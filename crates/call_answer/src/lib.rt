@@ -10,14 +10,14 @@ use state::Reversal;
 use state::State;
 ghost use mathlib.Core.Path.{_≡_};
 ghost use Rattle.journal.specs.Journal.{entriesOf};
-ghost use Rattle.state.specs.Calls.{resultOf};
+ghost use Rattle.state.specs.Calls.{lend, resultOf};
 ghost use Rattle.state.specs.State.{CountsBounded};
 ghost use Rattle.call_answer.specs.Answer.{noAnswer, powerReturned, traceSent, answerIn, answer};
 ghost use Rattle.call_answer.specs.Bounds.{Gives, readingNumber};
 
 // The line has fallen silent.
 pub fn no_answer(s: State, journal: &mut [u8], message: &mut [u8]) -> Called
-    ensures { λ r. ⌜ resultOf r (now (journal .exit)) (now (message .exit)) ≡ noAnswer s (now (journal .entry)) (now (message .entry)) ⌝ }
+    ensures { λ r. ⌜ resultOf r (lend (now (journal .exit)) (now (message .exit))) ≡ noAnswer s (lend (now (journal .entry)) (now (message .entry))) ⌝ }
 {
     let number = rules::first_refusal(s, journal, message);
     if number != 0 {
@@ -32,7 +32,7 @@ pub fn no_answer(s: State, journal: &mut [u8], message: &mut [u8]) -> Called
 
 // Power has returned.
 pub fn power_returned(s: State, journal: &mut [u8], message: &mut [u8]) -> Called
-    ensures { λ r. ⌜ resultOf r (now (journal .exit)) (now (message .exit)) ≡ powerReturned s (now (journal .entry)) (now (message .entry)) ⌝ }
+    ensures { λ r. ⌜ resultOf r (lend (now (journal .exit)) (now (message .exit))) ≡ powerReturned s (lend (now (journal .entry)) (now (message .entry))) ⌝ }
 {
     let number = rules::first_refusal(s, journal, message);
     if number != 0 {
@@ -43,7 +43,7 @@ pub fn power_returned(s: State, journal: &mut [u8], message: &mut [u8]) -> Calle
 
 // The centre's bytes, and the key pad's word on the MAC.
 pub fn answer(s: State, bytes: &[u8], good: bool, journal: &mut [u8], message: &mut [u8]) -> Called
-    ensures { λ r. ⌜ resultOf r (now (journal .exit)) (now (message .exit)) ≡ answer (now (bytes .entry)) good s (now (journal .entry)) (now (message .entry)) ⌝ }
+    ensures { λ r. ⌜ resultOf r (lend (now (journal .exit)) (now (message .exit))) ≡ answer (now (bytes .entry)) good s (lend (now (journal .entry)) (now (message .entry))) ⌝ }
 {
     let number = rules::first_refusal(s, journal, message);
     if number != 0 {
@@ -87,7 +87,7 @@ fn batch_sent(s: State) -> Batch
 // A message that was read.
 fn answer_in(s: State, m: Message, good: bool, journal: &mut [u8]) -> Called
     requires { ⌜ CountsBounded s ⌝ }
-    ensures { λ r. ⌜ Gives r (now (journal .exit)) (answerIn good m s (now (journal .entry))) ⌝ }
+    ensures { λ r. ⌜ Gives r (now (journal .entry)) (now (journal .exit)) (answerIn good m s) ⌝ }
 {
     let phase = s.phase;
     let Phase::Waiting(a) = phase else {

@@ -19,7 +19,7 @@ use Rattle.state.specs.declared.Reversal.{Reversal}
 use Rattle.state.specs.declared.State.{State}
 use Rattle.state.specs.State.{inPhase, isPending}
 use Rattle.checks.specs.Checks.{rule, firstBroken}
-use Rattle.state.specs.Calls.{resultOf}
+use Rattle.state.specs.Calls.{Lent, withMessage, resultOf}
 use Rattle.checks.proofs.Choices.{first-stops, last-broken, last-kept}
 use Rattle.state.proofs.Judged.{refuses, goes}
 use Rattle.rules.specs.Rules.{idleRules, phaseKept}
@@ -35,39 +35,39 @@ use Rattle.journal.specs.Journal.{entriesOf}
 use Rattle.call_reversal.specs.SendReversal.{sendReversalRules, sendsReversal, sendFrom, sendReversal}
 use Rattle.state_effects.specs.StateEffects.{again}
 
-module _ (s : State) (j m : List ℕ) (n : ℕ) (e : n ≡ firstBroken (idleRules s j m)) where
-  pub turned-down : (r : Called) → (n ≡ 0 → ⊥) → r ≡ record { outcome = Refused n; state = s } → resultOf r j m ≡ sendReversal s j m
+module _ (s : State) (lent : Lent) (n : ℕ) (e : n ≡ firstBroken (idleRules s lent)) where
+  pub turned-down : (r : Called) → (n ≡ 0 → ⊥) → r ≡ record { outcome = Refused n; state = s } → resultOf r lent ≡ sendReversal s lent
   unfolding sendReversal
   turned-down r h q =
-      rw q (refuses n (firstBroken (sendReversalRules s j m)) s j m (sendFrom (s .phase) s j m)
-      (first-stops (idleRules s j m) (rule 14 (not (isPending s)) ∷ []) n e h) h)
+      rw q (refuses n (firstBroken (sendReversalRules s lent)) s lent (sendFrom (s .phase) s lent)
+      (first-stops (idleRules s lent) (rule 14 (not (isPending s)) ∷ []) n e h) h)
 
   -- 14. No reversal is pending.
   pub nothing-pending : (r : Called) → n ≡ 0 → isPending s ≡ false → r ≡ record { outcome = Refused 14; state = s }
-      → resultOf r j m ≡ sendReversal s j m
+      → resultOf r lent ≡ sendReversal s lent
   unfolding sendReversal
   nothing-pending r z f q =
-      rw q (refuses 14 (firstBroken (sendReversalRules s j m)) s j m (sendFrom (s .phase) s j m)
-      (last-broken (idleRules s j m) n refl e z 14 (not (isPending s)) (rw f)) (λ x. omega arith))
+      rw q (refuses 14 (firstBroken (sendReversalRules s lent)) s lent (sendFrom (s .phase) s lent)
+      (last-broken (idleRules s lent) n refl e z 14 (not (isPending s)) (rw f)) (λ x. omega arith))
 
   pub goes-out : (v a : Reversal) (r : Called) (o : List ℕ) → n ≡ 0 → s .phase ≡ Pending v → a ≡ again v
-      → resultOf r j o ≡ sendsReversal a s j m → resultOf r j o ≡ sendReversal s j m
+      → resultOf r (withMessage o lent) ≡ sendsReversal a s lent → resultOf r (withMessage o lent) ≡ sendReversal s lent
   unfolding sendReversal
   goes-out v a r o z f q h =
-      goes 0 (firstBroken (sendReversalRules s j m)) s j m (resultOf r j o) (sendFrom (s .phase) s j m)
-      (last-kept (idleRules s j m) n refl e z 14 (not (isPending s)) (rw f)) refl (h ∙ rw (f, q))
+      goes 0 (firstBroken (sendReversalRules s lent)) s lent (resultOf r (withMessage o lent)) (sendFrom (s .phase) s lent)
+      (last-kept (idleRules s lent) n refl e z 14 (not (isPending s)) (rw f)) refl (h ∙ rw (f, q))
 
   -- what rules 1 and 2 give of a pending reversal
-  fits : n ≡ 0 → Fit s j m
-  fits z = idle-fit s j m (sym e ∙ z)
+  fits : n ≡ 0 → Fit s lent
+  fits z = idle-fit s lent (sym e ∙ z)
 
-  pub room : n ≡ 0 → largest ≤ length m
+  pub room : n ≡ 0 → largest ≤ length (lent .message)
   room z = fits z .message-room
 
   pub few : (v : Reversal) → n ≡ 0 → s .phase ≡ Pending v → v .sendings < mostSendings
   few v z f =
       let o = fits z .order in
-      let k : phaseKept (s .settings) (s .entries) (entriesOf (s .entries) j) (s .phase) ≡ true = o .phase-kept in
+      let k : phaseKept (s .settings) (s .entries) (entriesOf (s .entries) (lent .journal)) (s .phase) ≡ true = o .phase-kept in
       let l = ltb-true (v .sendings) (s .settings .sendings) (rw f at k) in
       let b = o .state .settings .sendings-most in
       omega arith
@@ -88,15 +88,15 @@ module _ (s : State) (j m : List ℕ) (n : ℕ) (e : n ≡ firstBroken (idleRule
       })
 
 -- the message, its length and the bytes in the buffer are those of the reversal
-pub left : (s t : State) (v : Reversal) (j m : List ℕ) (b : Message) (k : ℕ) (o : List ℕ)
-    → CardHeld (s .settings) (v .request) → largest ≤ length m
+pub left : (s t : State) (v : Reversal) (lent : Lent) (b : Message) (k : ℕ) (o : List ℕ)
+    → CardHeld (s .settings) (v .request) → largest ≤ length (lent .message)
     → b ≡ withAll (reversalFields (s .settings) (s .batch) v) (messageOf 0x0400 [])
-    → k ≡ lengthOf (writeMessage b m .outcome) → o ≡ writeMessage b m .buffer
+    → k ≡ lengthOf (writeMessage b (lent .message) .outcome) → o ≡ writeMessage b (lent .message) .buffer
     → t ≡ inPhase (Waiting (awaited.Reversal v)) s
-    → resultOf (record { outcome = Send k; state = t }) j o ≡ sendsReversal v s j m
+    → resultOf (record { outcome = Send k; state = t }) (withMessage o lent) ≡ sendsReversal v s lent
 unfolding reversalMessage
-left s t v j m b k o h r p q w u =
+left s t v lent b k o h r p q w u =
     let fs = reversalFields (s .settings) (s .batch) v in
     let is = p ∙ reversal-is (s .settings) (s .batch) v h in
-    let wr = ap (λ (x : Message). writeMessage x m) is ∙ written-is 0x0400 fs m reversal-listed (reversal-held (s .settings) (s .batch) v h) r in
+    let wr = ap (λ (x : Message). writeMessage x (lent .message)) is ∙ written-is 0x0400 fs (lent .message) reversal-listed (reversal-held (s .settings) (s .batch) v h) r in
     rw (q, w, u, wr)

@@ -8,13 +8,13 @@ ghost use mathlib.Core.Path.{_≡_};
 ghost use Prim.Native.Nat.{_≤_};
 ghost use lib.ListN.{length};
 ghost use Rattle.message.specs.Message.{largest};
-ghost use Rattle.state.specs.Calls.{resultOf};
+ghost use Rattle.state.specs.Calls.{lend, resultOf};
 ghost use Rattle.outgoing.specs.Held.{CardHeld};
 ghost use Rattle.call_reversal.specs.SendReversal.{sendsReversal, sendReversal};
 
 // Sends the pending reversal.
 pub fn send_reversal(s: State, journal: &mut [u8], message: &mut [u8]) -> Called
-    ensures { λ r. ⌜ resultOf r (now (journal .exit)) (now (message .exit)) ≡ sendReversal s (now (journal .entry)) (now (message .entry)) ⌝ }
+    ensures { λ r. ⌜ resultOf r (lend (now (journal .exit)) (now (message .exit))) ≡ sendReversal s (lend (now (journal .entry)) (now (message .entry))) ⌝ }
 {
     let number = rules::idle_refusal(s, journal, message);
     if number != 0 {
@@ -30,7 +30,7 @@ pub fn send_reversal(s: State, journal: &mut [u8], message: &mut [u8]) -> Called
 // A reversal leaves and is awaited.
 fn send(s: State, v: Reversal, journal: &[u8], message: &mut [u8]) -> Called
     requires { ⌜ CardHeld (s .settings) (v .request) × (largest ≤ length (now message)) ⌝ }
-    ensures { λ r. ⌜ resultOf r (now (journal .entry)) (now (message .exit)) ≡ sendsReversal v s (now (journal .entry)) (now (message .entry)) ⌝ }
+    ensures { λ r. ⌜ resultOf r (lend (now (journal .entry)) (now (message .exit))) ≡ sendsReversal v s (lend (now (journal .entry)) (now (message .entry))) ⌝ }
 {
     let settings = s.settings;
     let batch = s.batch;

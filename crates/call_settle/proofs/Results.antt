@@ -12,7 +12,7 @@ use Rattle.kinds.specs.declared.Totals.{Totals}
 use Rattle.state.specs.declared.Outcome.the-variants.{Send}
 use Rattle.state.specs.declared.State.{State}
 use Rattle.checks.specs.Checks.{firstBroken}
-use Rattle.state.specs.Calls.{resultOf, refused}
+use Rattle.state.specs.Calls.{Lent, withMessage, resultOf, refused}
 use Rattle.state.proofs.Judged.{refuses, goes}
 use Rattle.compose.specs.Compose.{withAll}
 use Rattle.compose.proofs.Composed.{all-composed}
@@ -25,15 +25,15 @@ use Rattle.batch_messages.proofs.Held.{settlement-held, settlement-listed}
 use Rattle.outgoing.specs.Held.{SettingsHeld}
 use Rattle.call_settle.proofs.Refusals.{fits}
 
-module _ (s : State) (j m : List ℕ) (n : ℕ) (e : n ≡ firstBroken (settleRules s j m)) where
-  pub is-refused : (n ≡ 0 → ⊥) → refused n s j m ≡ settle s j m
+module _ (s : State) (lent : Lent) (n : ℕ) (e : n ≡ firstBroken (settleRules s lent)) where
+  pub is-refused : (n ≡ 0 → ⊥) → refused n s lent ≡ settle s lent
   unfolding settle
-  is-refused h = refuses n (firstBroken (settleRules s j m)) s j m _ e h
+  is-refused h = refuses n (firstBroken (settleRules s lent)) s lent _ e h
 
   module _ (z : n ≡ 0) (lt : length (s .settings .terminal) ≡ 8) (lm : length (s .settings .merchant) ≡ 15) where
     settings-held : SettingsHeld (s .settings)
     settings-held =
-        let x = fits s j m (sym e ∙ z) .order .state .settings in
+        let x = fits s lent (sym e ∙ z) .order .state .settings in
         record {
           terminal-length = lt;
           merchant-length = lm;
@@ -44,25 +44,25 @@ module _ (s : State) (j m : List ℕ) (n : ℕ) (e : n ≡ firstBroken (settleRu
     -- the message, its length and the bytes in the buffer are those of the settlement
     leaves : (trace : Trace) (t : Totals) (b : Message) (k : ℕ) (o : List ℕ) (after : State)
         → b ≡ withAll (settlementFields (s .settings) (s .batch) trace t) (messageOf 0x0500 [])
-        → k ≡ lengthOf (writeMessage b m .outcome) → o ≡ writeMessage b m .buffer → after ≡ settles s trace
-        → resultOf (record { outcome = Send k; state = after }) j o ≡ settleNow s trace t j m
+        → k ≡ lengthOf (writeMessage b (lent .message) .outcome) → o ≡ writeMessage b (lent .message) .buffer → after ≡ settles s trace
+        → resultOf (record { outcome = Send k; state = after }) (withMessage o lent) ≡ settleNow s trace t lent
     unfolding settlementMessage
     leaves trace t b k o after p q w u =
         let fs = settlementFields (s .settings) (s .batch) trace t in
         let h = settlement-held (s .settings) (s .batch) settings-held trace t in
         let is = p ∙ all-composed 0x0500 fs h in
-        let room = fits s j m (sym e ∙ z) .message-room in
-        let wr = ap (λ (x : Message). writeMessage x m) is ∙ written-is 0x0500 fs m settlement-listed h room in
+        let room = fits s lent (sym e ∙ z) .message-room in
+        let wr = ap (λ (x : Message). writeMessage x (lent .message)) is ∙ written-is 0x0500 fs (lent .message) settlement-listed h room in
         rw (q, w, u, wr)
 
     pub is-sent : (trace : Trace) (t : Totals) (b : Message) (k : ℕ) (o : List ℕ) (after : State)
-        → trace ≡ record { 0 = taken (entriesOf (s .entries) j) (s .next .0) } → t ≡ totalsOf (entriesOf (s .entries) j)
+        → trace ≡ record { 0 = taken (entriesOf (s .entries) (lent .journal)) (s .next .0) } → t ≡ totalsOf (entriesOf (s .entries) (lent .journal))
         → b ≡ withAll (settlementFields (s .settings) (s .batch) trace t) (messageOf 0x0500 [])
-        → k ≡ lengthOf (writeMessage b m .outcome) → o ≡ writeMessage b m .buffer → after ≡ settles s trace
-        → resultOf (record { outcome = Send k; state = after }) j o ≡ settle s j m
+        → k ≡ lengthOf (writeMessage b (lent .message) .outcome) → o ≡ writeMessage b (lent .message) .buffer → after ≡ settles s trace
+        → resultOf (record { outcome = Send k; state = after }) (withMessage o lent) ≡ settle s lent
     unfolding settle
     is-sent trace t b k o after x y p q w u =
-        goes n (firstBroken (settleRules s j m)) s j m _ _ e z
+        goes n (firstBroken (settleRules s lent)) s lent _ _ e z
         (leaves trace t b k o after p q w u
-        ∙ ap (λ (c : Trace). settleNow s c t j m) x
-        ∙ ap (λ (c : Totals). settleNow s (record { 0 = taken (entriesOf (s .entries) j) (s .next .0) }) c j m) y)
+        ∙ ap (λ (c : Trace). settleNow s c t lent) x
+        ∙ ap (λ (c : Totals). settleNow s (record { 0 = taken (entriesOf (s .entries) (lent .journal)) (s .next .0) }) c lent) y)

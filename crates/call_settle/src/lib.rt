@@ -3,12 +3,12 @@ use state::Called;
 use state::State;
 ghost use mathlib.Core.Path.{_≡_};
 ghost use Rattle.checks.specs.Checks.{firstBroken};
-ghost use Rattle.state.specs.Calls.{resultOf};
+ghost use Rattle.state.specs.Calls.{lend, resultOf};
 ghost use Rattle.call_settle.specs.Settle.{settleRules, settle};
 
 // Sends the batch's totals.
 pub fn settle(s: State, journal: &mut [u8], message: &mut [u8]) -> Called
-    ensures { λ r. ⌜ resultOf r (now (journal .exit)) (now (message .exit)) ≡ settle s (now (journal .entry)) (now (message .entry)) ⌝ }
+    ensures { λ r. ⌜ resultOf r (lend (now (journal .exit)) (now (message .exit))) ≡ settle s (lend (now (journal .entry)) (now (message .entry))) ⌝ }
 {
     let number = refusal(s, journal, message);
     if number != 0 {
@@ -26,7 +26,7 @@ pub fn settle(s: State, journal: &mut [u8], message: &mut [u8]) -> Called
 
 // The number of the first rule that refuses, 0 for none.
 fn refusal(s: State, journal: &[u8], message: &[u8]) -> u8
-    ensures { λ r. ⌜ r ≡ firstBroken (settleRules s (now (journal .entry)) (now (message .entry))) ⌝ }
+    ensures { λ r. ⌜ r ≡ firstBroken (settleRules s (lend (now (journal .entry)) (now (message .entry)))) ⌝ }
 {
     let idle_refusal = rules::idle_refusal(s, journal, message);
     if idle_refusal != 0 {

@@ -4,12 +4,12 @@ use state::Called;
 use state::State;
 ghost use mathlib.Core.Path.{_≡_};
 ghost use Rattle.checks.specs.Checks.{firstBroken};
-ghost use Rattle.state.specs.Calls.{resultOf};
+ghost use Rattle.state.specs.Calls.{lend, resultOf};
 ghost use Rattle.call_sign_on.specs.SignOn.{signedOnRules, signedOn};
 
 // The outer program has signed on, and the centre has told the batch number.
 pub fn signed_on(s: State, batch: Batch, journal: &mut [u8], message: &mut [u8]) -> Called
-    ensures { λ r. ⌜ resultOf r (now (journal .exit)) (now (message .exit)) ≡ signedOn batch s (now (journal .entry)) (now (message .entry)) ⌝ }
+    ensures { λ r. ⌜ resultOf r (lend (now (journal .exit)) (now (message .exit))) ≡ signedOn batch s (lend (now (journal .entry)) (now (message .entry))) ⌝ }
 {
     let number = refusal(s, batch, journal, message);
     if number != 0 {
@@ -24,7 +24,7 @@ pub fn signed_on(s: State, batch: Batch, journal: &mut [u8], message: &mut [u8])
 
 // The number of the first rule that refuses, 0 for none.
 fn refusal(s: State, batch: Batch, journal: &[u8], message: &[u8]) -> u8
-    ensures { λ r. ⌜ r ≡ firstBroken (signedOnRules batch s (now (journal .entry)) (now (message .entry))) ⌝ }
+    ensures { λ r. ⌜ r ≡ firstBroken (signedOnRules batch s (lend (now (journal .entry)) (now (message .entry)))) ⌝ }
 {
     let first_refusal = rules::first_refusal(s, journal, message);
     if first_refusal != 0 {

@@ -19,6 +19,7 @@ use Rattle.journal.specs.declared.Found.the-variants.{At, Nowhere}
 use Rattle.journal.proofs.Entries.{entry-shaped}
 use Rattle.journal.proofs.Searches.{every-at, first-at}
 use Rattle.state.specs.declared.State.{State}
+use Rattle.state.specs.Calls.{Lent}
 use Rattle.state_rules.specs.StateRules.{isCard}
 use Rattle.state_rules.proofs.Holds.{card-holds, room-for-one}
 use Rattle.outgoing.specs.Held.{OriginalHeld}
@@ -106,13 +107,13 @@ module _ (d : Desk) (e : Entry) (k : Keyed d) (f : takesOriginal (d .kind) ≡ t
           }
 
 -- a request that no rule refuses may send
-module _ (d : Desk) (s : State) (j m : List ℕ) (terminal : length (s .settings .terminal) ≡ 8) (merchant : length (s .settings .merchant) ≡ 15)
+module _ (d : Desk) (s : State) (lent : Lent) (terminal : length (s .settings .terminal) ≡ 8) (merchant : length (s .settings .merchant) ≡ 15)
     (reference : length (d .reference) ≡ 12) (authorisation : length (d .authorisation) ≡ 6) where
-  pub may-send : (trace : ℕ) → Unbroken d s (entriesOf (s .entries) j) j m
-      → MaySend s (requestOf d (entryOf (originalOf d (entriesOf (s .entries) j)) (entriesOf (s .entries) j)) trace)
-      (namedBy d (s .batch) (entryOf (originalOf d (entriesOf (s .entries) j)) (entriesOf (s .entries) j))) m
+  pub may-send : (trace : ℕ) → Unbroken d s (entriesOf (s .entries) (lent .journal)) lent
+      → MaySend s (requestOf d (entryOf (originalOf d (entriesOf (s .entries) (lent .journal))) (entriesOf (s .entries) (lent .journal))) trace)
+      (namedBy d (s .batch) (entryOf (originalOf d (entriesOf (s .entries) (lent .journal))) (entriesOf (s .entries) (lent .journal)))) (lent .message)
   may-send trace u =
-      let es = entriesOf (s .entries) j in
+      let es = entriesOf (s .entries) (lent .journal) in
       let e = entryOf (originalOf d es) es in
       let k = keyed d (u .keyed) in
       let x = u .fits .order .state .settings in
@@ -127,7 +128,7 @@ module _ (d : Desk) (s : State) (j m : List ℕ) (terminal : length (s .settings
           terminal-printable = x .terminal-printable;
           merchant-printable = x .merchant-printable;
         };
-        original = texts-held d e k f (s .batch) (entry-of-shaped (originalOf d es) (s .entries) j) reference authorisation;
+        original = texts-held d e k f (s .batch) (entry-of-shaped (originalOf d es) (s .entries) (lent .journal)) reference authorisation;
         room = u .fits .message-room;
         counts = room-for-one s (u .fits .order .state) .counts;
       }

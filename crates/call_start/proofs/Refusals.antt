@@ -8,6 +8,7 @@ use Rattle.entry.specs.declared.Entry.{Entry}
 use Rattle.journal.specs.Journal.{entriesOf, nowhere, totalsOf}
 use Rattle.journal.specs.declared.Found.{Found}
 use Rattle.state.specs.declared.State.{State}
+use Rattle.state.specs.Calls.{Lent}
 use Rattle.checks.specs.Checks.{Rule, firstBroken}
 use Rattle.checks.proofs.Choices.{numbered, first-stops, first-goes, passed}
 use Rattle.rules.specs.Rules.{rules12, tooShort, keepsRule2}
@@ -20,29 +21,29 @@ use Rattle.desk.specs.DeskRules.{deskInForm, restRules, deskRules, journalRules
 later : (rs qs : List Rule) (n k : ℕ) → numbered rs ≡ true → n ≡ firstBroken rs → n ≡ 0 → k ≡ firstBroken qs → k ≡ firstBroken (rs ++ qs)
 later rs qs n k w e z h = h ∙ sym (first-goes rs qs n w e z)
 
-module _ (d : Desk) (s : State) (es : List Entry) (place : Found) (e : Entry) (j m : List ℕ) where
+module _ (d : Desk) (s : State) (es : List Entry) (place : Found) (e : Entry) (lent : Lent) where
   abbrev afterRest : List Rule
   afterRest = deskRules d (s .settings .refund) ++ journalRules d s (totalsOf es) (originalOf d es) e
 
-  pub stops-first-refusal : (k : ℕ) → k ≡ firstBroken (rules12 s j m) → (k ≡ 0 → ⊥) → k ≡ firstBroken (startRules d s es e j m)
-  stops-first-refusal k h n = first-stops (rules12 s j m) (restRules s ++ afterRest) k h n
+  pub stops-first-refusal : (k : ℕ) → k ≡ firstBroken (rules12 s lent) → (k ≡ 0 → ⊥) → k ≡ firstBroken (startRules d s es e lent)
+  stops-first-refusal k h n = first-stops (rules12 s lent) (restRules s ++ afterRest) k h n
 
-  pub stops-rest : (u k : ℕ) → u ≡ firstBroken (rules12 s j m) → u ≡ 0 → k ≡ firstBroken (restRules s) → (k ≡ 0 → ⊥)
-      → k ≡ firstBroken (startRules d s es e j m)
-  stops-rest u k f z h n = later (rules12 s j m) (restRules s ++ afterRest) u k refl f z (first-stops (restRules s) afterRest k h n)
+  pub stops-rest : (u k : ℕ) → u ≡ firstBroken (rules12 s lent) → u ≡ 0 → k ≡ firstBroken (restRules s) → (k ≡ 0 → ⊥)
+      → k ≡ firstBroken (startRules d s es e lent)
+  stops-rest u k f z h n = later (rules12 s lent) (restRules s ++ afterRest) u k refl f z (first-stops (restRules s) afterRest k h n)
 
-  pub stops-desk : (u r k : ℕ) → u ≡ firstBroken (rules12 s j m) → u ≡ 0 → r ≡ firstBroken (restRules s) → r ≡ 0
-      → k ≡ firstBroken (deskRules d (s .settings .refund)) → (k ≡ 0 → ⊥) → k ≡ firstBroken (startRules d s es e j m)
+  pub stops-desk : (u r k : ℕ) → u ≡ firstBroken (rules12 s lent) → u ≡ 0 → r ≡ firstBroken (restRules s) → r ≡ 0
+      → k ≡ firstBroken (deskRules d (s .settings .refund)) → (k ≡ 0 → ⊥) → k ≡ firstBroken (startRules d s es e lent)
   stops-desk u r k f z g y h n =
-      later (rules12 s j m) (restRules s ++ afterRest) u k refl f z
+      later (rules12 s lent) (restRules s ++ afterRest) u k refl f z
       (later (restRules s) afterRest r k refl g y
       (first-stops (deskRules d (s .settings .refund)) (journalRules d s (totalsOf es) (originalOf d es) e) k h n))
 
-  pub asks-journal : (u r t k : ℕ) → place ≡ originalOf d es → u ≡ firstBroken (rules12 s j m) → u ≡ 0 → r ≡ firstBroken (restRules s) → r ≡ 0
+  pub asks-journal : (u r t k : ℕ) → place ≡ originalOf d es → u ≡ firstBroken (rules12 s lent) → u ≡ 0 → r ≡ firstBroken (restRules s) → r ≡ 0
       → t ≡ firstBroken (deskRules d (s .settings .refund)) → t ≡ 0 → k ≡ firstBroken (journalRules d s (totalsOf es) place e)
-      → k ≡ firstBroken (startRules d s es e j m)
+      → k ≡ firstBroken (startRules d s es e lent)
   asks-journal u r t k p f z g y i x h =
-      later (rules12 s j m) (restRules s ++ afterRest) u k refl f z
+      later (rules12 s lent) (restRules s ++ afterRest) u k refl f z
       (later (restRules s) afterRest r k refl g y
       (later (deskRules d (s .settings .refund)) (journalRules d s (totalsOf es) (originalOf d es) e) t k refl i x
       (rw p at h)))
@@ -51,31 +52,31 @@ and-not : (a b : Bool) → a ≡ true → (a && b) ≡ false → b ≡ false
 and-not true b e h = h
 and-not false b e h = absurd (true≢false (sym e))
 
-first-refusal-none : (s : State) (j m : List ℕ) → tooShort s j m ≡ false → not (keepsRule2 s (entriesOf (s .entries) j)) ≡ false
-    → firstBroken (rules12 s j m) ≡ 0
+first-refusal-none : (s : State) (lent : Lent) → tooShort s lent ≡ false → not (keepsRule2 s (entriesOf (s .entries) (lent .journal))) ≡ false
+    → firstBroken (rules12 s lent) ≡ 0
 unfolding firstBroken
-first-refusal-none s j m g h = rw (g, h)
+first-refusal-none s lent g h = rw (g, h)
 
 -- no rule of start is broken
-pub record Unbroken (d : Desk) (s : State) (es : List Entry) (j m : List ℕ) : Type 0 where
-  pub fits : Fit s j m
+pub record Unbroken (d : Desk) (s : State) (es : List Entry) (lent : Lent) : Type 0 where
+  pub fits : Fit s lent
   pub keyed : deskInForm d ≡ true
   pub found : takesOriginal (d .kind) ≡ true → nowhere (originalOf d es) ≡ false
 
-module _ (d : Desk) (s : State) (e : Entry) (j m : List ℕ) where
-  pub unbroken : firstBroken (startRules d s (entriesOf (s .entries) j) e j m) ≡ 0 → Unbroken d s (entriesOf (s .entries) j) j m
+module _ (d : Desk) (s : State) (e : Entry) (lent : Lent) where
+  pub unbroken : firstBroken (startRules d s (entriesOf (s .entries) (lent .journal)) e lent) ≡ 0 → Unbroken d s (entriesOf (s .entries) (lent .journal)) lent
   unbroken z =
       record {
-        fits = fit s j m (first-refusal-none s j m (passed 1 rs refl z) (passed 2 rs refl z));
+        fits = fit s lent (first-refusal-none s lent (passed 1 rs refl z) (passed 2 rs refl z));
         keyed = yes (deskInForm d) (passed 16 rs refl z);
         found = λ t. and-not (takesOriginal (d .kind)) (nowhere (originalOf d es)) t (passed 19 rs refl z);
       }
     where
       es : List Entry
-      es = entriesOf (s .entries) j
+      es = entriesOf (s .entries) (lent .journal)
 
       rs : List Rule
-      rs = startRules d s (entriesOf (s .entries) j) e j m
+      rs = startRules d s (entriesOf (s .entries) (lent .journal)) e lent
 
       yes : (b : Bool) → not b ≡ false → b ≡ true
       yes true h = refl

@@ -17,7 +17,7 @@ use Rattle.state.specs.declared.Outcome.the-variants.{Send}
 use Rattle.state.specs.declared.Request.{Request}
 use Rattle.state.specs.declared.State.{State}
 use Rattle.checks.specs.Checks.{firstBroken}
-use Rattle.state.specs.Calls.{refused, resultOf}
+use Rattle.state.specs.Calls.{Lent, withMessage, refused, resultOf}
 use Rattle.state.proofs.Judged.{refuses, goes}
 use Rattle.compose.specs.Compose.{withAll}
 use Rattle.outgoing.specs.Outgoing.{requestFields, requestMessage, lengthOf}
@@ -49,25 +49,26 @@ module _ (s : State) (q : Request) (o : Original) (m : List ℕ) (h : MaySend s 
       let r : writeMessage w m ≡ written (Written (length (requestBytes s q o))) (requestBytes s q o ++ drop (length (requestBytes s q o)) m) = ap (λ (x : Message). writeMessage x m) i ∙ written-request in
       record { called = rw (e, b, r); buffer = c ∙ rw r }
 
-module _ (d : Desk) (s : State) (j m : List ℕ) (place : Found) (e : Entry) (k : ℕ)
-    (p : place ≡ originalOf d (entriesOf (s .entries) j)) (g : e ≡ entryOf place (entriesOf (s .entries) j))
-    (b : k ≡ firstBroken (startRules d s (entriesOf (s .entries) j) e j m)) where
-  first : k ≡ firstBroken (startRules d s (entriesOf (s .entries) j) (entryOf (originalOf d (entriesOf (s .entries) j)) (entriesOf (s .entries) j)) j m)
+module _ (d : Desk) (s : State) (lent : Lent) (place : Found) (e : Entry) (k : ℕ)
+    (p : place ≡ originalOf d (entriesOf (s .entries) (lent .journal))) (g : e ≡ entryOf place (entriesOf (s .entries) (lent .journal)))
+    (b : k ≡ firstBroken (startRules d s (entriesOf (s .entries) (lent .journal)) e lent)) where
+  first : k ≡ firstBroken (startRules d s (entriesOf (s .entries) (lent .journal))
+      (entryOf (originalOf d (entriesOf (s .entries) (lent .journal))) (entriesOf (s .entries) (lent .journal))) lent)
   first = rw (g, p) at b
 
-  pub is-refused : (k ≡ 0 → ⊥) → refused k s j m ≡ start d s j m
+  pub is-refused : (k ≡ 0 → ⊥) → refused k s lent ≡ start d s lent
   unfolding start
-  is-refused h = refuses k _ s j m _ first h
+  is-refused h = refuses k _ s lent _ first h
 
   pub left-may : length (s .settings .terminal) ≡ 8 → length (s .settings .merchant) ≡ 15 → length (d .reference) ≡ 12 → length (d .authorisation) ≡ 6
-      → k ≡ 0 → (t : Trace) (q : Request) (o : Original) → q ≡ requestOf d e (t .0) → o ≡ namedBy d (s .batch) e → MaySend s q o m
+      → k ≡ 0 → (t : Trace) (q : Request) (o : Original) → q ≡ requestOf d e (t .0) → o ≡ namedBy d (s .batch) e → MaySend s q o (lent .message)
   left-may f h r a z t q o x y =
       rw (x, y, g, p)
-      (may-send d s j m f h r a (t .0)
-      (unbroken d s (entryOf (originalOf d (entriesOf (s .entries) j)) (entriesOf (s .entries) j)) j m (sym first ∙ z)))
+      (may-send d s lent f h r a (t .0)
+      (unbroken d s (entryOf (originalOf d (entriesOf (s .entries) (lent .journal))) (entriesOf (s .entries) (lent .journal))) lent (sym first ∙ z)))
 
   pub is-left : k ≡ 0 → (t : Trace) (q : Request) (o : Original) (r : Called) (after : List ℕ)
-      → t ≡ record { 0 = taken (entriesOf (s .entries) j) (s .next .0) } → q ≡ requestOf d e (t .0) → o ≡ namedBy d (s .batch) e
-      → HasSent s q o m r after → resultOf r j after ≡ start d s j m
+      → t ≡ record { 0 = taken (entriesOf (s .entries) (lent .journal)) (s .next .0) } → q ≡ requestOf d e (t .0) → o ≡ namedBy d (s .batch) e
+      → HasSent s q o (lent .message) r after → resultOf r (withMessage after lent) ≡ start d s lent
   unfolding start requestBytes
-  is-left z t q o r after a x y l = goes k _ s j m (resultOf r j after) _ first z (rw (l .called, l .buffer, y, x, a, g, p))
+  is-left z t q o r after a x y l = goes k _ s lent (resultOf r (withMessage after lent)) _ first z (rw (l .called, l .buffer, y, x, a, g, p))

@@ -1,7 +1,7 @@
 -- Document 01, "Calls": start (kind and desk data): the request leaves.
 use mathlib.Core.List.{List, _++_}
 use mathlib.Core.Bool.{cond}
-use Prim.Native.Nat.{ℕ, _+_, _*_}
+use Prim.Native.Nat.{_+_, _*_}
 use Rattle.digits.specs.Packed.{packedNumber}
 use Rattle.writing.specs.Writing.{messageBytes}
 use Rattle.numbers.specs.declared.Batch.{Batch}
@@ -13,7 +13,7 @@ use Rattle.journal.specs.declared.Found.{Found}
 use Rattle.journal.specs.declared.Found.the-variants.{At, Nowhere}
 use Rattle.state.specs.declared.State.{State}
 use Rattle.checks.specs.Checks.{Rule, firstBroken}
-use Rattle.state.specs.Calls.{Result, judged, sends}
+use Rattle.state.specs.Calls.{Lent, Result, judged, sends}
 use Rattle.rules.specs.Rules.{rules12}
 use Rattle.outgoing.specs.Outgoing.{requestMessage}
 use Rattle.outgoing.specs.declared.Original.{Original}
@@ -41,15 +41,17 @@ namedBy d batch e =
         authorisation = d .authorisation; reference = d .reference })
 
 -- the rules of start, in their order
-abbrev pub startRules : Desk → State → List Entry → Entry → List ℕ → List ℕ → List Rule
-startRules d s es e j m =
-    rules12 s j m ++ (restRules s ++ (deskRules d (s .settings .refund) ++ journalRules d s (totalsOf es) (originalOf d es) e))
+abbrev pub startRules : Desk → State → List Entry → Entry → Lent → List Rule
+startRules d s es e lent =
+    rules12 s lent ++ (restRules s ++ (deskRules d (s .settings .refund) ++ journalRules d s (totalsOf es) (originalOf d es) e))
 
-abbrev started : Desk → State → List Entry → Entry → List ℕ → List ℕ → Result
-started d s es e j m =
-    judged (firstBroken (startRules d s es e j m)) s j m
+abbrev started : Desk → State → List Entry → Entry → Lent → Result
+started d s es e lent =
+    judged (firstBroken (startRules d s es e lent)) s lent
       (sends (messageBytes (requestMessage (s .settings) (s .batch) (requestOf d e (taken es (s .next .0))) (namedBy d (s .batch) e)))
-        (requested s (requestOf d e (taken es (s .next .0)))) j m)
+        (requested s (requestOf d e (taken es (s .next .0)))) lent)
 
-unfoldable pub start : Desk → State → List ℕ → List ℕ → Result
-start d s j m = started d s (entriesOf (s .entries) j) (entryOf (originalOf d (entriesOf (s .entries) j)) (entriesOf (s .entries) j)) j m
+unfoldable pub start : Desk → State → Lent → Result
+start d s lent =
+    started d s (entriesOf (s .entries) (lent .journal))
+      (entryOf (originalOf d (entriesOf (s .entries) (lent .journal))) (entriesOf (s .entries) (lent .journal))) lent

@@ -11,13 +11,13 @@ use state::State;
 ghost use mathlib.Core.Path.{_≡_};
 ghost use Rattle.journal.specs.Journal.{entriesOf};
 ghost use Rattle.checks.specs.Checks.{firstBroken};
-ghost use Rattle.state.specs.Calls.{resultOf};
+ghost use Rattle.state.specs.Calls.{lend, resultOf};
 ghost use Rattle.call_start.specs.Start.{originalOf, entryOf, namedBy, startRules, start};
 ghost use Rattle.call_start.specs.Sending.{MaySend, HasSent};
 
 // Sends the desk's request.
 pub fn start(s: State, d: Desk, journal: &mut [u8], message: &mut [u8]) -> Called
-    ensures { λ r. ⌜ resultOf r (now (journal .exit)) (now (message .exit)) ≡ start d s (now (journal .entry)) (now (message .entry)) ⌝ }
+    ensures { λ r. ⌜ resultOf r (lend (now (journal .exit)) (now (message .exit))) ≡ start d s (lend (now (journal .entry)) (now (message .entry))) ⌝ }
 {
     let n = s.entries;
     let place = original_of(d, journal, n);
@@ -91,7 +91,7 @@ fn named_by(d: Desk, batch: Batch, e: Entry) -> Original
 // The number of the first rule that refuses, 0 for none.
 fn refusal(s: State, d: Desk, place: Found, e: Entry, journal: &[u8], message: &[u8]) -> u8
     requires { ⌜ place ≡ originalOf d (entriesOf (s .entries) (now journal)) ⌝ }
-    ensures { λ r. ⌜ r ≡ firstBroken (startRules d s (entriesOf (s .entries) (now (journal .entry))) e (now (journal .entry)) (now (message .entry))) ⌝ }
+    ensures { λ r. ⌜ r ≡ firstBroken (startRules d s (entriesOf (s .entries) (now (journal .entry))) e (lend (now (journal .entry)) (now (message .entry)))) ⌝ }
 {
     let settings = s.settings;
     let first_refusal = rules::first_refusal(s, journal, message);

@@ -22,6 +22,7 @@ use Rattle.state.specs.declared.Awaited.the-variants as awaited
 use Rattle.state.specs.declared.Phase.the-variants.{Waiting}
 use Rattle.state.specs.declared.State.{State}
 use Rattle.state.specs.State.{inPhase}
+use Rattle.state.specs.Calls.{Lent, withJournal}
 use Rattle.rules.specs.Rules.{originalUnvoided, requestKept}
 use Rattle.state_rules.specs.StateRules.{past}
 use Rattle.rules.proofs.InOrder.{InOrder, Fit}
@@ -112,11 +113,11 @@ entry-of q a s f =
       trace = refl;
     }
 
-written-fit : (q : Request) (e : Entry) (s : State) (j k m : List ℕ) → Fit (inPhase (Waiting (awaited.Request q)) s) j m → IsOf q e
-    → KeepsPlain (s .entries) (s .settings .sendings) j k → Fit (oneMore s) (putEntry (s .entries) e k) m
-written-fit q e s j k m h o v =
+written-fit : (q : Request) (e : Entry) (s : State) (lent : Lent) (k : List ℕ) → Fit (inPhase (Waiting (awaited.Request q)) s) lent → IsOf q e
+    → KeepsPlain (s .entries) (s .settings .sendings) (lent .journal) k → Fit (oneMore s) (withJournal (putEntry (s .entries) e k) lent)
+written-fit q e s lent k h o v =
     let n = s .entries in
-    let w = left (s .settings .limit) n (entriesOf n j) q (h .order .phase-kept) in
+    let w = left (s .settings .limit) n (entriesOf n (lent .journal)) q (h .order .phase-kept) in
     let es = entriesOf n k in
     let f : absent (e .trace .0) es ≡ true = rw (o .trace) (v .absent-same (q .trace .0) ∙ w .free) in
     let p : past (e .kind) (e .amount) (totalsOf es) ≡ false = rw (o .kind, o .amount, v .totals) (w .sum) in
@@ -129,14 +130,14 @@ written-fit q e s j k m h o v =
       journal-room = rw (length-put n e k (length-encode e (o .shaped)), v .room) (h .journal-room);
       order =
           rw y
-          (more-order q s (entriesOf n j) (es ++ (e ∷ [])) (h .order) (w .place)
+          (more-order q s (entriesOf n (lent .journal)) (es ++ (e ∷ [])) (h .order) (w .place)
           (plain-last (s .settings .sendings) es e (v .plain) (o .new) f) (t .0) (t .1));
     }
 
-pub approved-fit : (q : Request) (a : Message) (s : State) (j m : List ℕ) → Fit (inPhase (Waiting (awaited.Request q)) s) j m
+pub approved-fit : (q : Request) (a : Message) (s : State) (lent : Lent) → Fit (inPhase (Waiting (awaited.Request q)) s) lent
     → Shaped (approvedEntry q a) → inForm (approvedEntry q a) ≡ true
-    → Fit (approved q (approvedEntry q a) s j .state) (approved q (approvedEntry q a) s j .journal) m
+    → Fit (approved q (approvedEntry q a) s (lent .journal) .state) (withJournal (approved q (approvedEntry q a) s (lent .journal) .journal) lent)
 unfolding approved
-approved-fit q a s j m h sh f =
-    written-fit q (approvedEntry q a) s j (originalVoided q (entriesOf (s .entries) j) j) m h (entry-of q a sh f)
-    (original-kept (s .entries) (s .settings .sendings) q j (plain q s (entriesOf (s .entries) j) (h .order)))
+approved-fit q a s lent h sh f =
+    written-fit q (approvedEntry q a) s lent (originalVoided q (entriesOf (s .entries) (lent .journal)) (lent .journal)) h (entry-of q a sh f)
+    (original-kept (s .entries) (s .settings .sendings) q (lent .journal) (plain q s (entriesOf (s .entries) (lent .journal)) (h .order)))

@@ -16,6 +16,7 @@ use Rattle.state.specs.declared.Card.{Card}
 use Rattle.state.specs.declared.Request.{Request}
 use Rattle.state.specs.declared.Settings.{Settings}
 use Rattle.state.specs.declared.State.{State}
+use Rattle.state.specs.Calls.{Lent}
 use Rattle.checks.specs.Checks.{firstBroken}
 use Rattle.rules.specs.Rules.{tooShort, keepsRule2, journalKept}
 use Rattle.state_rules.specs.StateRules.{settingsInForm, isCard, requestInForm, stateInForm, sumsKept, balanced, stateKept}
@@ -89,14 +90,14 @@ pub order-back : (s : State) (es : List Entry) → InOrder s es → keepsRule2 s
 unfolding keepsRule2
 order-back s es h = rw (state-back s (h .state), journal-back _ _ _ _ es (h .journal), h .phase-kept)
 
-pub ready-fits : (s : State) (j m : List ℕ) → Ready s j m → Fit s j m
+pub ready-fits : (s : State) (lent : Lent) → Ready s lent → Fit s lent
 unfolding firstBroken
-ready-fits s j m r = fit s j m (rw (r .long, r .order))
+ready-fits s lent r = fit s lent (rw (r .long, r .order))
 
-pub fit-ready : (s : State) (j m : List ℕ) → Fit s j m → Ready s j m
+pub fit-ready : (s : State) (lent : Lent) → Fit s lent → Ready s lent
 unfolding tooShort
-fit-ready s j m h =
+fit-ready s lent h =
     record {
-      long = rw (le-ltb (length m) largest (h .message-room), le-ltb (length j) (entrySize * s .settings .limit) (h .journal-room));
-      order = order-back s (entriesOf (s .entries) j) (h .order);
+      long = rw (le-ltb (length (lent .message)) largest (h .message-room), le-ltb (length (lent .journal)) (entrySize * s .settings .limit) (h .journal-room));
+      order = order-back s (entriesOf (s .entries) (lent .journal)) (h .order);
     }

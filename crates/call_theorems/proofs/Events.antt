@@ -28,6 +28,7 @@ use Rattle.state.specs.declared.Settings.{Settings}
 use Rattle.state.specs.declared.State.{State}
 use Rattle.state.specs.declared.Count.the-variants.{Declined, Reversed}
 use Rattle.state.specs.State.{inPhase, counted, closed}
+use Rattle.state.specs.Calls.{Lent, withJournal}
 use Rattle.checks.proofs.Choices.{passed}
 use Rattle.checks.specs.Checks.{firstBroken}
 use Rattle.rules.specs.Rules.{rules12}
@@ -46,35 +47,35 @@ use Rattle.call_theorems.proofs.Items.{silent-item, answered-item}
 use Rattle.call_theorems.proofs.Approving.{approved-fit}
 
 -- rules 1 and 2 pass after a change
-abbrev FitsAfter : Changed → List ℕ → Type 0
-FitsAfter c m = Fit (c .state) (c .journal) m
+abbrev FitsAfter : Changed → Lent → Type 0
+FitsAfter c lent = Fit (c .state) (withJournal (c .journal) lent)
 
 -- what is awaited is silent
-silent-fits : (a : Awaited) (s : State) (j m : List ℕ) → Fit (inPhase (Waiting a) s) j m → FitsAfter (silent a s j) m
+silent-fits : (a : Awaited) (s : State) (lent : Lent) → Fit (inPhase (Waiting a) s) lent → FitsAfter (silent a s (lent .journal)) lent
 unfolding silent
-silent-fits (awaited.Request q) s j m h = pending-or-unanswered-fit s j m Silence q h
-silent-fits (awaited.Reversal v) s j m h = failed-fit s j m v h
-silent-fits (awaited.Settlement x) s j m h = settling-fit s j m x h
-silent-fits (awaited.Item i) s j m h = silent-item s j m i h
-silent-fits (awaited.End x) s j m h = ending-fit s j m x h
+silent-fits (awaited.Request q) s lent h = pending-or-unanswered-fit s lent Silence q h
+silent-fits (awaited.Reversal v) s lent h = failed-fit s lent v h
+silent-fits (awaited.Settlement x) s lent h = settling-fit s lent x h
+silent-fits (awaited.Item i) s lent h = silent-item s lent i h
+silent-fits (awaited.End x) s lent h = ending-fit s lent x h
 
-silent-in : (p : Phase) (s : State) (j m : List ℕ) → Fit (inPhase p s) j m → FitsAfter (silentIn p (inPhase p s) j) m
-silent-in Resting s j m h = h
-silent-in (Waiting a) s j m h = silent-fits a (inPhase (Waiting a) s) j m h
-silent-in (Pending v) s j m h = h
-silent-in Settling s j m h = h
-silent-in Uploading s j m h = h
+silent-in : (p : Phase) (s : State) (lent : Lent) → Fit (inPhase p s) lent → FitsAfter (silentIn p (inPhase p s) (lent .journal)) lent
+silent-in Resting s lent h = h
+silent-in (Waiting a) s lent h = silent-fits a (inPhase (Waiting a) s) lent h
+silent-in (Pending v) s lent h = h
+silent-in Settling s lent h = h
+silent-in Uploading s lent h = h
 
-pub no-answer-fits : (s : State) (j m : List ℕ) → Fit s j m → Fits (noAnswer s j m)
+pub no-answer-fits : (s : State) (lent : Lent) → Fit s lent → Fits (noAnswer s lent)
 unfolding noAnswer
-no-answer-fits s j m h = judged-fits (firstBroken (noAnswerRules s j m)) s j m _ h (λ z. silent-in (s .phase) s j m h)
+no-answer-fits s lent h = judged-fits (firstBroken (noAnswerRules s lent)) s lent _ h (λ z. silent-in (s .phase) s lent h)
 
-pub power-returned-fits : (s : State) (j m : List ℕ) → Fit s j m → Fits (powerReturned s j m)
+pub power-returned-fits : (s : State) (lent : Lent) → Fit s lent → Fits (powerReturned s lent)
 unfolding powerReturned
-power-returned-fits s j m h =
-    let c = silentIn (s .phase) s j in
-    judged-fits (firstBroken (rules12 s j m)) s j m (withoutPower c m) h
-    (λ z. off-fit (c .state) (c .journal) m (silent-in (s .phase) s j m h))
+power-returned-fits s lent h =
+    let c = silentIn (s .phase) s (lent .journal) in
+    judged-fits (firstBroken (rules12 s lent)) s lent (withoutPower c lent) h
+    (λ z. off-fit (c .state) (withJournal (c .journal) lent) (silent-in (s .phase) s lent h))
 
 -- an approval that is an answer has field 37
 has-reference : (amount : ℕ) (a : Message) → approvalHolds amount a ≡ true → approves a ≡ true → names (a .bitmap) 37 ≡ true
@@ -100,50 +101,50 @@ enters-form b r q f h e =
     (authorisation-printable b r)
 
 -- an answer to what is awaited
-module _ (a : Message) (good : Bool) (enters : EntersForm a) (s : State) (j m : List ℕ) where
-  request-fits : (q : Request) → Fit (inPhase (Waiting (awaited.Request q)) s) j m → approvalHolds (q .amount) a ≡ true
-      → FitsAfter (onRequest good a q s j) m
+module _ (a : Message) (good : Bool) (enters : EntersForm a) (s : State) (lent : Lent) where
+  request-fits : (q : Request) → Fit (inPhase (Waiting (awaited.Request q)) s) lent → approvalHolds (q .amount) a ≡ true
+      → FitsAfter (onRequest good a q s (lent .journal)) lent
   unfolding onRequest
   request-fits q h n = go (approves a) (goodMac good a) refl
     where
       go : (x y : Bool) → approves a ≡ x
-          → FitsAfter (cond x (cond y (approved q (approvedEntry q a) s j) (changed (pendingOrUnanswered BadMac q s) j))
-          (changed (inPhase Resting (counted Declined s)) j)) m
-      go true true e = approved-fit q a s j m h (shaped q a) (enters q (h .order .state .phase-form) n e)
-      go true false e = pending-or-unanswered-fit s j m BadMac q h
-      go false y e = declined-fit s j m q h
+          → FitsAfter (cond x (cond y (approved q (approvedEntry q a) s (lent .journal)) (changed (pendingOrUnanswered BadMac q s) (lent .journal)))
+          (changed (inPhase Resting (counted Declined s)) (lent .journal))) lent
+      go true true e = approved-fit q a s lent h (shaped q a) (enters q (h .order .state .phase-form) n e)
+      go true false e = pending-or-unanswered-fit s lent BadMac q h
+      go false y e = declined-fit s lent q h
 
-  reversal-fits : (v : Reversal) → Fit (inPhase (Waiting (awaited.Reversal v)) s) j m → Fit (onReversal good a v s) j m
+  reversal-fits : (v : Reversal) → Fit (inPhase (Waiting (awaited.Reversal v)) s) lent → Fit (onReversal good a v s) lent
   unfolding onReversal
   reversal-fits v h = go (endsReversal good a)
     where
-      go : (x : Bool) → Fit (cond x (inPhase Resting (counted Reversed s)) (failed v s)) j m
-      go true = reversed-fit s j m v h
-      go false = failed-fit s j m v h
+      go : (x : Bool) → Fit (cond x (inPhase Resting (counted Reversed s)) (failed v s)) lent
+      go true = reversed-fit s lent v h
+      go false = failed-fit s lent v h
 
-  settlement-fits : (x : Trace) → Fit (inPhase (Waiting (awaited.Settlement x)) s) j m → Fit (onSettlement a s) j m
+  settlement-fits : (x : Trace) → Fit (inPhase (Waiting (awaited.Settlement x)) s) lent → Fit (onSettlement a s) lent
   unfolding onSettlement
   settlement-fits x h = go (closesBatch a)
     where
-      go : (y : Bool) → Fit (cond y (closed s) (inPhase Uploading s)) j m
-      go true = closed-fit (inPhase (Waiting (awaited.Settlement x)) s) j m h
-      go false = uploading-fit s j m x h
+      go : (y : Bool) → Fit (cond y (closed s) (inPhase Uploading s)) lent
+      go true = closed-fit (inPhase (Waiting (awaited.Settlement x)) s) lent h
+      go false = uploading-fit s lent x h
 
-  end-fits : (x : Trace) → Fit (inPhase (Waiting (awaited.End x)) s) j m → Fit (onEnd a s) j m
+  end-fits : (x : Trace) → Fit (inPhase (Waiting (awaited.End x)) s) lent → Fit (onEnd a s) lent
   unfolding onEnd
   end-fits x h = go (approves a)
     where
-      go : (y : Bool) → Fit (cond y (closed s) (inPhase Uploading s)) j m
-      go true = closed-fit (inPhase (Waiting (awaited.End x)) s) j m h
-      go false = ending-fit s j m x h
+      go : (y : Bool) → Fit (cond y (closed s) (inPhase Uploading s)) lent
+      go true = closed-fit (inPhase (Waiting (awaited.End x)) s) lent h
+      go false = ending-fit s lent x h
 
-  answered-fits : (w : Awaited) → Fit (inPhase (Waiting w) s) j m → holdsNamed w a ≡ true → FitsAfter (answered good a w s j) m
+  answered-fits : (w : Awaited) → Fit (inPhase (Waiting w) s) lent → holdsNamed w a ≡ true → FitsAfter (answered good a w s (lent .journal)) lent
   unfolding answered
   answered-fits (awaited.Request q) h n =
       request-fits q h (and-eq-true-iff (names (a .bitmap) 39) (approvalHolds (q .amount) a) .0 n .1)
   answered-fits (awaited.Reversal v) h n = reversal-fits v h
   answered-fits (awaited.Settlement x) h n = settlement-fits x h
-  answered-fits (awaited.Item i) h n = answered-item s j m i h a
+  answered-fits (awaited.Item i) h n = answered-item s lent i h a
   answered-fits (awaited.End x) h n = end-fits x h
 
 is-held : (x : Settings) (batch : Batch) (trace : Trace) (w : Awaited) (a : Message) → isAnswer x batch trace w a ≡ true
@@ -152,27 +153,27 @@ unfolding isAnswer
 is-held x batch trace w a h = and-eq-true-iff (matchesSent x batch (indicatorSent w) trace a) (holdsNamed w a) .0 h .1
 
 -- what an answer leaves, in each phase
-answered-in : (p : Phase) (a : Message) (good : Bool) → EntersForm a → (s : State) (j m : List ℕ) → Fit (inPhase p s) j m
-    → not (answersIn p (entriesOf (s .entries) j) (inPhase p s) a) ≡ false → FitsAfter (answeredIn p good a (inPhase p s) j) m
-answered-in Resting a good n s j m h e = h
-answered-in (Waiting w) a good n s j m h e =
-    answered-fits a good n (inPhase (Waiting w) s) j m w h (is-held (s .settings) (s .batch) _ w a (not-false _ e))
-answered-in (Pending v) a good n s j m h e = h
-answered-in Settling a good n s j m h e = h
-answered-in Uploading a good n s j m h e = h
+answered-in : (p : Phase) (a : Message) (good : Bool) → EntersForm a → (s : State) (lent : Lent) → Fit (inPhase p s) lent
+    → not (answersIn p (entriesOf (s .entries) (lent .journal)) (inPhase p s) a) ≡ false → FitsAfter (answeredIn p good a (inPhase p s) (lent .journal)) lent
+answered-in Resting a good n s lent h e = h
+answered-in (Waiting w) a good n s lent h e =
+    answered-fits a good n (inPhase (Waiting w) s) lent w h (is-held (s .settings) (s .batch) _ w a (not-false _ e))
+answered-in (Pending v) a good n s lent h e = h
+answered-in Settling a good n s lent h e = h
+answered-in Uploading a good n s lent h e = h
 
-answer-in : (a : Message) (good : Bool) → EntersForm a → (s : State) (j m : List ℕ) → Fit s j m → Fits (answerIn good a s j m)
-answer-in a good n s j m h =
-    let rs = answerRules a s j in
-    judged-fits (firstBroken rs) s j m _ h (λ z. answered-in (s .phase) a good n s j m h (passed 22 rs refl z))
+answer-in : (a : Message) (good : Bool) → EntersForm a → (s : State) (lent : Lent) → Fit s lent → Fits (answerIn good a s lent)
+answer-in a good n s lent h =
+    let rs = answerRules a s (lent .journal) in
+    judged-fits (firstBroken rs) s lent _ h (λ z. answered-in (s .phase) a good n s lent h (passed 22 rs refl z))
 
-read-in : (o : Judgement) (a : Message) (good : Bool) → (o ≡ Read → EntersForm a) → (s : State) (j m : List ℕ) → Fit s j m
-    → Fits (readIn o good a s j m)
-read-in Read a good n s j m h = answer-in a good (n refl) s j m h
-read-in (Unread k) a good n s j m h = h
+read-in : (o : Judgement) (a : Message) (good : Bool) → (o ≡ Read → EntersForm a) → (s : State) (lent : Lent) → Fit s lent
+    → Fits (readIn o good a s lent)
+read-in Read a good n s lent h = answer-in a good (n refl) s lent h
+read-in (Unread k) a good n s lent h = h
 
-pub answer-fits : (b : List ℕ) (good : Bool) (s : State) (j m : List ℕ) → Fit s j m → Fits (answer b good s j m)
+pub answer-fits : (b : List ℕ) (good : Bool) (s : State) (lent : Lent) → Fit s lent → Fits (answer b good s lent)
 unfolding answer
-answer-fits b good s j m h =
-    judged-fits (firstBroken (rules12 s j m)) s j m (readIn (readMessage b .outcome) good (readMessage b .message) s j m) h
-    (λ z. read-in (readMessage b .outcome) (readMessage b .message) good (enters-form b) s j m h)
+answer-fits b good s lent h =
+    judged-fits (firstBroken (rules12 s lent)) s lent (readIn (readMessage b .outcome) good (readMessage b .message) s lent) h
+    (λ z. read-in (readMessage b .outcome) (readMessage b .message) good (enters-form b) s lent h)

@@ -1,8 +1,7 @@
 -- A pending reversal that is sent and not answered: pending again, or given up at the last sending.
 use mathlib.Core.Path.{_≡_, refl, sym, _∙_}
-use mathlib.Core.List.{List}
 use mathlib.Core.Bool.{true}
-use Prim.Native.Nat.{ℕ, _+_, _≤_, _<_}
+use Prim.Native.Nat.{_+_, _≤_, _<_}
 use borrow.Author.Tests.{le-leb, lt-leb}
 use Rattle.state.specs.declared.Reversal.{Reversal}
 use Rattle.state.specs.declared.Awaited.the-variants as awaited
@@ -11,7 +10,7 @@ use Rattle.state.specs.declared.State.{State}
 use Rattle.state.specs.declared.Count.the-variants.{GivenUp}
 use Rattle.state.specs.State.{inPhase, counted}
 use Rattle.checks.specs.Checks.{firstBroken}
-use Rattle.state.specs.Calls.{quiet}
+use Rattle.state.specs.Calls.{Lent, quiet}
 use Rattle.state.proofs.Judged.{goes}
 use Rattle.rules.specs.Rules.{rules12}
 use Rattle.call_reversal.specs.SendReversal.{sendsReversal, sendFrom, sendReversalRules, sendReversal}
@@ -24,49 +23,49 @@ use Rattle.call_theorems.proofs.Keeping.{keeping}
 use Rattle.call_theorems.specs.Facts.{silenced}
 
 -- a reversal pends on a terminal that is signed on
-pub record Pends (v : Reversal) (s : State) (j m : List ℕ) : Type 0 where
-  pub ready : Ready s j m
+pub record Pends (v : Reversal) (s : State) (lent : Lent) : Type 0 where
+  pub ready : Ready s lent
   pub on : s .«signed_on» ≡ true
   pub phase : s .phase ≡ Pending v
 
 -- it leaves
-pub sends : (v : Reversal) (s : State) (j m : List ℕ) → Pends v s j m → sendReversal s j m ≡ sendsReversal (again v) s j m
+pub sends : (v : Reversal) (s : State) (lent : Lent) → Pends v s lent → sendReversal s lent ≡ sendsReversal (again v) s lent
 unfolding sendReversal firstBroken
-sends v s j m h =
-    sym (goes 0 (firstBroken (sendReversalRules s j m)) s j m (sendsReversal (again v) s j m) (sendFrom (s .phase) s j m)
+sends v s lent h =
+    sym (goes 0 (firstBroken (sendReversalRules s lent)) s lent (sendsReversal (again v) s lent) (sendFrom (s .phase) s lent)
     (rw (h .ready .long, h .ready .order, h .on, h .phase)) refl (rw (h .phase)))
 
 -- and silence fails it
-silent-fails : (v : Reversal) (s : State) (j m : List ℕ) → Ready (inPhase (Waiting (awaited.Reversal v)) s) j m
-    → noAnswer (inPhase (Waiting (awaited.Reversal v)) s) j m
-    ≡ quiet (failed v (inPhase (Waiting (awaited.Reversal v)) s)) j m
+silent-fails : (v : Reversal) (s : State) (lent : Lent) → Ready (inPhase (Waiting (awaited.Reversal v)) s) lent
+    → noAnswer (inPhase (Waiting (awaited.Reversal v)) s) lent
+    ≡ quiet (failed v (inPhase (Waiting (awaited.Reversal v)) s)) lent
 unfolding noAnswer firstBroken silent
-silent-fails v s j m h =
+silent-fails v s lent h =
     let t = inPhase (Waiting (awaited.Reversal v)) s in
-    sym (goes 0 (firstBroken (noAnswerRules t j m)) t j m (quiet (failed v t) j m) (quietly (silentIn (t .phase) t j) m)
+    sym (goes 0 (firstBroken (noAnswerRules t lent)) t lent (quiet (failed v t) lent) (quietly (silentIn (t .phase) t (lent .journal)) lent)
     (rw (h .long, h .order)) refl refl)
 
--- the message buffer after it
-abbrev pub left : Reversal → State → List ℕ → List ℕ → List ℕ
-left v s j m = sendsReversal (again v) s j m .message
+-- what was lent, after it
+abbrev pub left : Reversal → State → Lent → Lent
+left v s lent = sendsReversal (again v) s lent .lent
 
-module _ (v : Reversal) (s : State) (j m : List ℕ) (h : Pends v s j m) where
-  sent-silent : silenced (sendReversal s j m) ≡ quiet (failed (again v) (sendsReversal (again v) s j m .state)) j (left v s j m)
-  sent-silent = rw (sends v s j m h) (silent-fails (again v) s j (left v s j m)
-      (rw (sends v s j m h) at (keeping send-reversal s j m (h .ready))))
+module _ (v : Reversal) (s : State) (lent : Lent) (h : Pends v s lent) where
+  sent-silent : silenced (sendReversal s lent) ≡ quiet (failed (again v) (sendsReversal (again v) s lent .state)) (left v s lent)
+  sent-silent = rw (sends v s lent h) (silent-fails (again v) s (left v s lent)
+      (rw (sends v s lent h) at (keeping send-reversal s lent (h .ready))))
 
   pub pends-again : v .sendings + 1 < s .settings .sendings
-      → silenced (sendReversal s j m) ≡ quiet (inPhase (Pending (again v)) s) j (left v s j m)
+      → silenced (sendReversal s lent) ≡ quiet (inPhase (Pending (again v)) s) (left v s lent)
   unfolding failed
   pends-again l = sent-silent ∙ rw (lt-leb _ _ l)
 
   pub gives-up : s .settings .sendings ≤ v .sendings + 1
-      → silenced (sendReversal s j m) ≡ quiet (inPhase Resting (counted GivenUp s)) j (left v s j m)
+      → silenced (sendReversal s lent) ≡ quiet (inPhase Resting (counted GivenUp s)) (left v s lent)
   unfolding failed
   gives-up l = sent-silent ∙ rw (le-leb _ _ l)
 
   -- rules 1 and 2 pass after it
-  pub stays-ready : StaysReady (silenced (sendReversal s j m))
+  pub stays-ready : StaysReady (silenced (sendReversal s lent))
   stays-ready =
-      let r = sendReversal s j m in
-      keeping no-answer (r .state) (r .journal) (r .message) (keeping send-reversal s j m (h .ready))
+      let r = sendReversal s lent in
+      keeping no-answer (r .state) (r .lent) (keeping send-reversal s lent (h .ready))

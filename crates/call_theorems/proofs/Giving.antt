@@ -19,25 +19,25 @@ use Rattle.call_theorems.proofs.Failing.{Pends, sends, pends-again, giv
 
 -- after k failures of the reversal v from r: it pends, and settings and counts are as before
 record Failed (k : ℕ) (v : Reversal) (r x : Result) : Type 0 where
-  pends : Pends (sentTimes k v) (x .state) (x .journal) (x .message)
+  pends : Pends (sentTimes k v) (x .state) (x .lent)
   most : x .state .settings .sendings ≡ r .state .settings .sendings
   given : x .state .counts .«given_up» ≡ r .state .counts .«given_up»
 
 -- one failure more
 abbrev next : Result → Result
-next x = silenced (sendReversal (x .state) (x .journal) (x .message))
+next x = silenced (sendReversal (x .state) (x .lent))
 
-none-failed : (v : Reversal) (r : Result) → Ready (r .state) (r .journal) (r .message) → r .state .«signed_on» ≡ true
+none-failed : (v : Reversal) (r : Result) → Ready (r .state) (r .lent) → r .state .«signed_on» ≡ true
     → r .state .phase ≡ Pending v → v .sendings ≡ 0 → Failed 0 v r r
 none-failed v r h o p z = record { pends = record { ready = h; on = o; phase = p ∙ rw (← z) }; most = refl; given = refl }
 
 one-failed : (k : ℕ) (v : Reversal) (r x : Result) → suc k < r .state .settings .sendings → Failed k v r x → Failed (suc k) v r (next x)
 one-failed k v r x l f =
-    let e = pends-again (sentTimes k v) (x .state) (x .journal) (x .message) (f .pends) (omega (arith, f .most)) in
+    let e = pends-again (sentTimes k v) (x .state) (x .lent) (f .pends) (omega (arith, f .most)) in
     record {
       pends =
           record {
-            ready = stays-ready (sentTimes k v) (x .state) (x .journal) (x .message) (f .pends);
+            ready = stays-ready (sentTimes k v) (x .state) (x .lent) (f .pends);
             on = rw e (f .pends .on);
             phase = rw (e, add-one);
           };
@@ -56,25 +56,25 @@ record Ended (r x : Result) : Type 0 where
 
 last-failed : (k : ℕ) (v : Reversal) (r x : Result) → suc k ≡ r .state .settings .sendings → Failed k v r x → Ended r (next x)
 last-failed k v r x l f =
-    let e = gives-up (sentTimes k v) (x .state) (x .journal) (x .message) (f .pends) (omega (arith, f .most)) in
+    let e = gives-up (sentTimes k v) (x .state) (x .lent) (f .pends) (omega (arith, f .most)) in
     record { free = rw e; counted = rw (e, f .given) }
 
 ended : (l : ℕ) (v : Reversal) (r : Result) → l ≡ r .state .settings .sendings → 1 ≤ l → Failed 0 v r r → Ended r (failures l r)
 ended zero v r e h f = absurd (omega arith)
 ended (suc k) v r e h f = last-failed k v r (failures k r) e (all-failed k v r f (omega arith))
 
-pub given-up : (r : Result) (v : Reversal) → Ready (r .state) (r .journal) (r .message) → r .state .«signed_on» ≡ true
+pub given-up : (r : Result) (v : Reversal) → Ready (r .state) (r .lent) → r .state .«signed_on» ≡ true
     → r .state .phase ≡ Pending v → v .sendings ≡ 0 → GivenUp r v
 given-up r v h o p z =
     let none = none-failed v r h o p z in
-    let fits = ready-fits (r .state) (r .journal) (r .message) h in
+    let fits = ready-fits (r .state) (r .lent) h in
     let last = ended (r .state .settings .sendings) v r refl (fits .order .state .settings .sendings-least) none in
     record {
       leaves = λ k l.
           let x = failures k r in
           let f = all-failed k v r none l in (
             length (messageBytes (reversalMessage (x .state .settings) (x .state .batch) (again (sentTimes k v)))),
-            ap (λ (y : Result). y .outcome) (sends (sentTimes k v) (x .state) (x .journal) (x .message) (f .pends)),
+            ap (λ (y : Result). y .outcome) (sends (sentTimes k v) (x .state) (x .lent) (f .pends)),
           );
       pending = λ k l. all-failed k v r none l .pends .phase;
       free = last .free;

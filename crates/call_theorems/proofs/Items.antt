@@ -21,6 +21,7 @@ use Rattle.state.specs.declared.Awaited.the-variants as awaited
 use Rattle.state.specs.declared.Phase.the-variants.{Waiting, Uploading}
 use Rattle.state.specs.declared.State.{State}
 use Rattle.state.specs.State.{inPhase}
+use Rattle.state.specs.Calls.{Lent, withJournal}
 use Rattle.rules.specs.Rules.{due}
 use Rattle.rules.proofs.InOrder.{InOrder, Fit}
 use Rattle.journal_effects.specs.JournalEffects.{silentMark, marked, onItem}
@@ -127,31 +128,31 @@ silent-left l e h k =
     go false false p r q z = omega (arith, leb-false l (e .resends) p)
 
 -- an item's byte 2, set in the journal
-module _ (s : State) (j m : List ℕ) (i : ℕ) (h : Fit (inPhase (Waiting (awaited.Item i)) s) j m) where
-  marked-fit : (x : ℕ) → 1 ≤ x → x ≤ 4 → (x ≡ 1 → entryAt (entriesOf (s .entries) j) i .resends ≡ s .settings .sendings → ⊥)
-      → Fit (inPhase Uploading s) (marked i x j) m
+module _ (s : State) (lent : Lent) (i : ℕ) (h : Fit (inPhase (Waiting (awaited.Item i)) s) lent) where
+  marked-fit : (x : ℕ) → 1 ≤ x → x ≤ 4 → (x ≡ 1 → entryAt (entriesOf (s .entries) (lent .journal)) i .resends ≡ s .settings .sendings → ⊥)
+      → Fit (inPhase Uploading s) (withJournal (marked i x (lent .journal)) lent)
   marked-fit x a b c =
       record {
         message-room = h .message-room;
-        journal-room = rw (length-set-byte i 2 x j) (h .journal-room);
-        order = rw (set-mark (s .entries) i x j) (marked-order s (entriesOf (s .entries) j) i x (h .order) a b c);
+        journal-room = rw (length-set-byte i 2 x (lent .journal)) (h .journal-room);
+        order = rw (set-mark (s .entries) i x (lent .journal)) (marked-order s (entriesOf (s .entries) (lent .journal)) i x (h .order) a b c);
       }
 
   pub silent-item :
-      Fit (inPhase Uploading s) (marked i (silentMark (s .settings .sendings) (entryAt (entriesOf (s .entries) j) i)) j) m
+      Fit (inPhase Uploading s) (withJournal (marked i (silentMark (s .settings .sendings) (entryAt (entriesOf (s .entries) (lent .journal)) i)) (lent .journal)) lent)
   silent-item =
       let l = s .settings .sendings in
-      let es = entriesOf (s .entries) j in
+      let es = entriesOf (s .entries) (lent .journal) in
       let n = next-at es i (item-next (nextDue (due Uploading) es) i (h .order .phase-kept)) in
       let b = silent-bounds l (entryAt es i) in
       marked-fit (silentMark l (entryAt es i)) (b .0) (b .1)
       (silent-left l (entryAt es i) (h .order .state .settings .sendings-least)
       (every-at (λ m e. keepsResends l e) 0 es (h .order .journal .resends) i (n .below)))
 
-  pub answered-item : (a : Message) → Fit (inPhase Uploading s) (onItem a i j) m
+  pub answered-item : (a : Message) → Fit (inPhase Uploading s) (withJournal (onItem a i (lent .journal)) lent)
   unfolding onItem
   answered-item a = go (approves a)
     where
-      go : (b : Bool) → Fit (inPhase Uploading s) (marked i (cond b 2 3) j) m
+      go : (b : Bool) → Fit (inPhase Uploading s) (withJournal (marked i (cond b 2 3) (lent .journal)) lent)
       go true = marked-fit 2 (omega arith) (omega arith) (λ e. absurd (omega arith))
       go false = marked-fit 3 (omega arith) (omega arith) (λ e. absurd (omega arith))

@@ -1,8 +1,6 @@
 -- Each call keeps rules 1 and 2.
-use mathlib.Core.List.{List}
-use Prim.Native.Nat.{ℕ}
 use Rattle.state.specs.declared.State.{State}
-use Rattle.state.specs.Calls.{Result}
+use Rattle.state.specs.Calls.{Lent, Result}
 use Rattle.call_sign_on.specs.SignOn.{signedOn}
 use Rattle.call_start.specs.Start.{start}
 use Rattle.call_reversal.specs.SendReversal.{sendReversal}
@@ -21,15 +19,15 @@ use Rattle.call_theorems.proofs.Settling.{settle-fits}
 use Rattle.call_theorems.proofs.Uploading.{upload-fits}
 
 -- a call that fits leaves the terminal ready
-stays : (s : State) (j m : List ℕ) (r : Result) → Ready s j m → (Fit s j m → Fits r) → StaysReady r
-stays s j m r h f = fit-ready (r .state) (r .journal) (r .message) (f (ready-fits s j m h))
+stays : (s : State) (lent : Lent) (r : Result) → Ready s lent → (Fit s lent → Fits r) → StaysReady r
+stays s lent r h f = fit-ready (r .state) (r .lent) (f (ready-fits s lent h))
 
 pub keeping : Keeping
-keeping (signed-on batch) s j m h = stays s j m (signedOn batch s j m) h (signed-on-fits batch s j m)
-keeping (starts d) s j m h = stays s j m (start d s j m) h (start-fits d s j m)
-keeping (answers b good) s j m h = stays s j m (answer b good s j m) h (answer-fits b good s j m)
-keeping no-answer s j m h = stays s j m (noAnswer s j m) h (no-answer-fits s j m)
-keeping power-returned s j m h = stays s j m (powerReturned s j m) h (power-returned-fits s j m)
-keeping send-reversal s j m h = stays s j m (sendReversal s j m) h (send-reversal-fits s j m)
-keeping settles s j m h = stays s j m (settle s j m) h (settle-fits s j m)
-keeping send-next-upload s j m h = stays s j m (sendNextUpload s j m) h (upload-fits s j m)
+keeping (signed-on batch) s lent h = stays s lent (signedOn batch s lent) h (signed-on-fits batch s lent)
+keeping (starts d) s lent h = stays s lent (start d s lent) h (start-fits d s lent)
+keeping (answers b good) s lent h = stays s lent (answer b good s lent) h (answer-fits b good s lent)
+keeping no-answer s lent h = stays s lent (noAnswer s lent) h (no-answer-fits s lent)
+keeping power-returned s lent h = stays s lent (powerReturned s lent) h (power-returned-fits s lent)
+keeping send-reversal s lent h = stays s lent (sendReversal s lent) h (send-reversal-fits s lent)
+keeping settles s lent h = stays s lent (settle s lent) h (settle-fits s lent)
+keeping send-next-upload s lent h = stays s lent (sendNextUpload s lent) h (upload-fits s lent)

@@ -32,6 +32,7 @@ use Rattle.state.specs.declared.Reversal.{Reversal}
 use Rattle.state.specs.declared.Settings.{Settings}
 use Rattle.state.specs.declared.Phase.the-variants.{Uploading}
 use Rattle.state.specs.declared.State.{State}
+use Rattle.state.specs.Calls.{Lent}
 use Rattle.checks.specs.Checks.{firstBroken}
 use Rattle.checks.proofs.Choices.{passed}
 use Rattle.rules.specs.Rules.{due}
@@ -157,22 +158,22 @@ module _ (d : Desk) (e : Entry) (batch : Batch) (n : ℕ) where
       go false t = desk-sends t h a r
 
 -- a request that no rule of start refuses reads
-pub started-reads : (d : Desk) (s : State) (j m : List ℕ) (f : Found) (n : ℕ) → originalOf d (entriesOf (s .entries) j) ≡ f → Fit s j m
-    → firstBroken (startRules d s (entriesOf (s .entries) j) (entryOf f (entriesOf (s .entries) j)) j m) ≡ 0
+pub started-reads : (d : Desk) (s : State) (lent : Lent) (f : Found) (n : ℕ) → originalOf d (entriesOf (s .entries) (lent .journal)) ≡ f → Fit s lent
+    → firstBroken (startRules d s (entriesOf (s .entries) (lent .journal)) (entryOf f (entriesOf (s .entries) (lent .journal))) lent) ≡ 0
     → SettingsShaped (s .settings) → length (d .authorisation) ≡ 6 → length (d .reference) ≡ 12
     → readMessage
     (messageBytes
-    (requestMessage (s .settings) (s .batch) (requestOf d (entryOf f (entriesOf (s .entries) j)) n)
-    (namedBy d (s .batch) (entryOf f (entriesOf (s .entries) j))))) .outcome ≡ Read
-started-reads d s j m f n q h z x a r =
-    let es = entriesOf (s .entries) j in
+    (requestMessage (s .settings) (s .batch) (requestOf d (entryOf f (entriesOf (s .entries) (lent .journal))) n)
+    (namedBy d (s .batch) (entryOf f (entriesOf (s .entries) (lent .journal)))))) .outcome ≡ Read
+started-reads d s lent f n q h z x a r =
+    let es = entriesOf (s .entries) (lent .journal) in
     let e = entryOf f es in
-    let rs = startRules d s es e j m in
+    let rs = startRules d s es e lent in
     let found : takesOriginal (d .kind) ≡ true → nowhere f ≡ false =
     λ t. rw q at (and-false (takesOriginal (d .kind)) (nowhere (originalOf d es)) (passed 19 rs refl z) t) in
     let w = request-sends d e (s .batch) n (desk-holds d (not-false (deskInForm d) (passed 16 rs refl z))) a r
-    (λ t. (entry-in-form d es (h .order .journal .form) f q (found t), original-shaped (s .entries) j f (found t))) in
-    request-reads (s .settings) (s .batch) (requestOf d e n) (namedBy d (s .batch) e) m
+    (λ t. (entry-in-form d es (h .order .journal .form) f q (found t), original-shaped (s .entries) (lent .journal) f (found t))) in
+    request-reads (s .settings) (s .batch) (requestOf d e n) (namedBy d (s .batch) e) (lent .message)
     (card-held (s .settings) (requestOf d e n) x (h .order .state .settings) (w .card-low) (w .card-high)) (w .original) (h .message-room)
 
 -- settings in order, and an entry in form
@@ -197,30 +198,30 @@ entry-held e h l =
       authorisation-printable = f .authorisation-printable;
     }
 
-module _ (s : State) (j m : List ℕ) (h : Fit s j m) (x : SettingsShaped (s .settings)) where
+module _ (s : State) (lent : Lent) (h : Fit s lent) (x : SettingsShaped (s .settings)) where
   -- a settlement
   pub settlement-reads : (trace : Trace) (t : Totals)
       → readMessage (messageBytes (settlementMessage (s .settings) (s .batch) trace t)) .outcome ≡ Read
   unfolding settlementMessage
   settlement-reads trace t =
-      bytes-read 0x0500 (settlementFields (s .settings) (s .batch) trace t) m settlement-listed
+      bytes-read 0x0500 (settlementFields (s .settings) (s .batch) trace t) (lent .message) settlement-listed
       (settlement-held (s .settings) (s .batch) (settings-held (s .settings) x (h .order .state .settings)) trace t) (h .message-room)
 
   -- the next due entry
-  pub item-reads : (i : ℕ) → nextDue (due Uploading) (entriesOf (s .entries) j) ≡ At i
-      → readMessage (messageBytes (itemMessage (s .settings) (s .batch) (entryAt (entriesOf (s .entries) j) i))) .outcome ≡ Read
+  pub item-reads : (i : ℕ) → nextDue (due Uploading) (entriesOf (s .entries) (lent .journal)) ≡ At i
+      → readMessage (messageBytes (itemMessage (s .settings) (s .batch) (entryAt (entriesOf (s .entries) (lent .journal)) i))) .outcome ≡ Read
   unfolding itemMessage
   item-reads i q =
-      let es = entriesOf (s .entries) j in
+      let es = entriesOf (s .entries) (lent .journal) in
       let e = entryAt es i in
       let form = every-at (λ i e. inForm e) 0 es (h .order .journal .form) i (next-at es i q .below) in
-      bytes-read 0x0320 (itemFields (s .settings) (s .batch) e) m upload-listed
+      bytes-read 0x0320 (itemFields (s .settings) (s .batch) e) (lent .message) upload-listed
       (item-held (s .settings) (s .batch) (settings-held (s .settings) x (h .order .state .settings)) e
-      (entry-held e form (entry-shaped (s .entries) i j))) (h .message-room)
+      (entry-held e form (entry-shaped (s .entries) i (lent .journal)))) (h .message-room)
 
   -- the upload's end
   pub end-reads : (trace : Trace) → readMessage (messageBytes (endMessage (s .settings) (s .batch) trace)) .outcome ≡ Read
   unfolding endMessage
   end-reads trace =
-      bytes-read 0x0320 (endFields (s .settings) (s .batch) trace) m upload-listed
+      bytes-read 0x0320 (endFields (s .settings) (s .batch) trace) (lent .message) upload-listed
       (end-held (s .settings) (s .batch) (settings-held (s .settings) x (h .order .state .settings)) trace) (h .message-room)

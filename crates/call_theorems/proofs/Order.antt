@@ -7,12 +7,12 @@ pub lists-in-order : ListsInOrder
 unfolding checkOrder
 lists-in-order =
     record {
-      signed-on = λ batch s j m. refl;
-      start = λ d s es e j m. refl;
+      signed-on = λ batch s lent. refl;
+      start = λ d s es e lent. refl;
       answer = λ a s j. refl;
-      no-answer = λ s j m. refl;
-      power-returned = λ s j m. refl;
-      send-reversal = λ s j m. refl;
-      settle = λ s j m. refl;
-      send-next-upload = λ s j m. refl;
+      no-answer = λ s lent. refl;
+      power-returned = λ s lent. refl;
+      send-reversal = λ s lent. refl;
+      settle = λ s lent. refl;
+      send-next-upload = λ s lent. refl;
     }

@@ -25,6 +25,7 @@ use Rattle.state.specs.declared.Counts.{Counts}
 use Rattle.state.specs.declared.State.{State}
 use Rattle.state.specs.declared.Count.the-variants.{Declined, Reversed, GivenUp, Unanswered}
 use Rattle.state.specs.State.{plus, counted, inPhase, withCounts, withNext, inBatch, signed, closed}
+use Rattle.state.specs.Calls.{Lent}
 use Rattle.rules.specs.Rules.{inUpload, awaitedItem, phaseKept, due}
 use Rattle.state_rules.specs.StateRules.{requestInForm, reversalInForm, phaseInForm, waiting}
 use Rattle.rules.proofs.InOrder.{JournalHolds, Fit}
@@ -40,9 +41,9 @@ pub record Moves (p : Phase) (c : Counts) (s : State) (es : List Entry) : Type 0
   pub journal : JournalHolds (s .settings .sendings) (due p) (inUpload p) (awaitedItem p) es
   pub phase-kept : phaseKept (s .settings) (s .entries) es p ≡ true
 
-pub moved : (p : Phase) (c : Counts) (s : State) (j m : List ℕ) → Fit s j m → Moves p c s (entriesOf (s .entries) j)
-    → Fit (inPhase p (withCounts c s)) j m
-moved p c s j m f w =
+pub moved : (p : Phase) (c : Counts) (s : State) (lent : Lent) → Fit s lent → Moves p c s (entriesOf (s .entries) (lent .journal))
+    → Fit (inPhase p (withCounts c s)) lent
+moved p c s lent f w =
     let h = f .order .state in
     record {
       message-room = f .message-room;
@@ -82,17 +83,17 @@ again-form : (v : Reversal) → reversalInForm v ≡ true → reversalInForm (ag
 unfolding reversalInForm
 again-form v f = f
 
-module _ (s : State) (j m : List ℕ) where
+module _ (s : State) (lent : Lent) where
   -- a request without a decision
-  pub pending-or-unanswered-fit : (r : Reason) (q : Request) → Fit (inPhase (Waiting (awaited.Request q)) s) j m → Fit (pendingOrUnanswered r q s) j m
+  pub pending-or-unanswered-fit : (r : Reason) (q : Request) → Fit (inPhase (Waiting (awaited.Request q)) s) lent → Fit (pendingOrUnanswered r q s) lent
   unfolding pendingOrUnanswered
   pending-or-unanswered-fit r q h = go (isNeverReversed (q .kind)) refl
     where
       go : (b : Bool) → isNeverReversed (q .kind) ≡ b
           → Fit (cond b (inPhase Resting (counted Unanswered s))
-          (inPhase (Pending (record { request = q; reason = r; sendings = 0 })) s)) j m
+          (inPhase (Pending (record { request = q; reason = r; sendings = 0 })) s)) lent
       go true e =
-          moved Resting (plus Unanswered (s .counts)) (inPhase (Waiting (awaited.Request q)) s) j m h
+          moved Resting (plus Unanswered (s .counts)) (inPhase (Waiting (awaited.Request q)) s) lent h
           (record {
             sent-same = refl;
             approved-same = refl;
@@ -102,7 +103,7 @@ module _ (s : State) (j m : List ℕ) where
             phase-kept = refl;
           })
       go false e =
-          moved (Pending (record { request = q; reason = r; sendings = 0 })) (s .counts) (inPhase (Waiting (awaited.Request q)) s) j m h
+          moved (Pending (record { request = q; reason = r; sendings = 0 })) (s .counts) (inPhase (Waiting (awaited.Request q)) s) lent h
           (record {
             sent-same = refl;
             approved-same = refl;
@@ -112,10 +113,10 @@ module _ (s : State) (j m : List ℕ) where
             phase-kept = lt-ltb 0 (s .settings .sendings) (h .order .state .settings .sendings-least);
           })
 
-  pub declined-fit : (q : Request) → Fit (inPhase (Waiting (awaited.Request q)) s) j m
-      → Fit (inPhase Resting (counted Declined s)) j m
+  pub declined-fit : (q : Request) → Fit (inPhase (Waiting (awaited.Request q)) s) lent
+      → Fit (inPhase Resting (counted Declined s)) lent
   declined-fit q h =
-      moved Resting (plus Declined (s .counts)) (inPhase (Waiting (awaited.Request q)) s) j m h
+      moved Resting (plus Declined (s .counts)) (inPhase (Waiting (awaited.Request q)) s) lent h
       (record {
         sent-same = refl;
         approved-same = refl;
@@ -126,14 +127,14 @@ module _ (s : State) (j m : List ℕ) where
       })
 
   -- a reversal's sending failed
-  pub failed-fit : (v : Reversal) → Fit (inPhase (Waiting (awaited.Reversal v)) s) j m → Fit (failed v s) j m
+  pub failed-fit : (v : Reversal) → Fit (inPhase (Waiting (awaited.Reversal v)) s) lent → Fit (failed v s) lent
   unfolding failed
   failed-fit v h = go (leb (s .settings .sendings) (v .sendings)) refl
     where
       go : (b : Bool) → leb (s .settings .sendings) (v .sendings) ≡ b
-          → Fit (cond b (inPhase Resting (counted GivenUp s)) (inPhase (Pending v) s)) j m
+          → Fit (cond b (inPhase Resting (counted GivenUp s)) (inPhase (Pending v) s)) lent
       go true e =
-          moved Resting (plus GivenUp (s .counts)) (inPhase (Waiting (awaited.Reversal v)) s) j m h
+          moved Resting (plus GivenUp (s .counts)) (inPhase (Waiting (awaited.Reversal v)) s) lent h
           (record {
             sent-same = refl;
             approved-same = refl;
@@ -143,7 +144,7 @@ module _ (s : State) (j m : List ℕ) where
             phase-kept = refl;
           })
       go false e =
-          moved (Pending v) (s .counts) (inPhase (Waiting (awaited.Reversal v)) s) j m h
+          moved (Pending v) (s .counts) (inPhase (Waiting (awaited.Reversal v)) s) lent h
           (record {
             sent-same = refl;
             approved-same = refl;
@@ -153,10 +154,10 @@ module _ (s : State) (j m : List ℕ) where
             phase-kept = lt-ltb (v .sendings) (s .settings .sendings) (leb-false _ _ e);
           })
 
-  pub reversed-fit : (v : Reversal) → Fit (inPhase (Waiting (awaited.Reversal v)) s) j m
-      → Fit (inPhase Resting (counted Reversed s)) j m
+  pub reversed-fit : (v : Reversal) → Fit (inPhase (Waiting (awaited.Reversal v)) s) lent
+      → Fit (inPhase Resting (counted Reversed s)) lent
   reversed-fit v h =
-      moved Resting (plus Reversed (s .counts)) (inPhase (Waiting (awaited.Reversal v)) s) j m h
+      moved Resting (plus Reversed (s .counts)) (inPhase (Waiting (awaited.Reversal v)) s) lent h
       (record {
         sent-same = refl;
         approved-same = refl;
@@ -167,10 +168,10 @@ module _ (s : State) (j m : List ℕ) where
       })
 
   -- a pending reversal leaves again
-  pub again-fit : (v : Reversal) → Fit (inPhase (Pending v) s) j m → Fit (inPhase (Waiting (awaited.Reversal (again v))) s) j m
+  pub again-fit : (v : Reversal) → Fit (inPhase (Pending v) s) lent → Fit (inPhase (Waiting (awaited.Reversal (again v))) s) lent
   again-fit v h =
       let l : v .sendings < s .settings .sendings = ltb-true (v .sendings) (s .settings .sendings) (h .order .phase-kept) in
-      moved (Waiting (awaited.Reversal (again v))) (s .counts) (inPhase (Pending v) s) j m h
+      moved (Waiting (awaited.Reversal (again v))) (s .counts) (inPhase (Pending v) s) lent h
       (record {
         sent-same = refl;
         approved-same = refl;
@@ -181,9 +182,9 @@ module _ (s : State) (j m : List ℕ) where
       })
 
   -- a settlement unanswered, or answered by an upload; the upload's end, not closed
-  pub settling-fit : (x : Trace) → Fit (inPhase (Waiting (awaited.Settlement x)) s) j m → Fit (inPhase Settling s) j m
+  pub settling-fit : (x : Trace) → Fit (inPhase (Waiting (awaited.Settlement x)) s) lent → Fit (inPhase Settling s) lent
   settling-fit x h =
-      moved Settling (s .counts) (inPhase (Waiting (awaited.Settlement x)) s) j m h
+      moved Settling (s .counts) (inPhase (Waiting (awaited.Settlement x)) s) lent h
       (record {
         sent-same = refl;
         approved-same = refl;
@@ -193,9 +194,9 @@ module _ (s : State) (j m : List ℕ) where
         phase-kept = refl;
       })
 
-  pub uploading-fit : (x : Trace) → Fit (inPhase (Waiting (awaited.Settlement x)) s) j m → Fit (inPhase Uploading s) j m
+  pub uploading-fit : (x : Trace) → Fit (inPhase (Waiting (awaited.Settlement x)) s) lent → Fit (inPhase Uploading s) lent
   uploading-fit x h =
-      moved Uploading (s .counts) (inPhase (Waiting (awaited.Settlement x)) s) j m h
+      moved Uploading (s .counts) (inPhase (Waiting (awaited.Settlement x)) s) lent h
       (record {
         sent-same = refl;
         approved-same = refl;
@@ -209,7 +210,7 @@ module _ (s : State) (j m : List ℕ) where
               credit-most = h .order .journal .credit-most;
               unmarked =
                   every-implies (λ i e. keepsUnmarked dueEntry false e) (λ i e. keepsUnmarked dueEntry true e) (λ i e. upload-begins e)
-                  0 (entriesOf (s .entries) j) (h .order .journal .unmarked);
+                  0 (entriesOf (s .entries) (lent .journal)) (h .order .journal .unmarked);
               resends = h .order .journal .resends;
               silent = h .order .journal .silent;
             };
@@ -217,9 +218,9 @@ module _ (s : State) (j m : List ℕ) where
         phase-kept = refl;
       })
 
-  pub ending-fit : (x : Trace) → Fit (inPhase (Waiting (awaited.End x)) s) j m → Fit (inPhase Uploading s) j m
+  pub ending-fit : (x : Trace) → Fit (inPhase (Waiting (awaited.End x)) s) lent → Fit (inPhase Uploading s) lent
   ending-fit x h =
-      moved Uploading (s .counts) (inPhase (Waiting (awaited.End x)) s) j m h
+      moved Uploading (s .counts) (inPhase (Waiting (awaited.End x)) s) lent h
       (record {
         sent-same = refl;
         approved-same = refl;
@@ -230,7 +231,7 @@ module _ (s : State) (j m : List ℕ) where
       })
 
   -- a closed batch
-  pub closed-fit : Fit s j m → Fit (closed s) j m
+  pub closed-fit : Fit s lent → Fit (closed s) lent
   unfolding sumsOf
   closed-fit h =
       let f = following-range (s .batch .0) in
@@ -268,7 +269,7 @@ module _ (s : State) (j m : List ℕ) where
       }
 
   -- another trace is next
-  pub next-fit : (x : Trace) → 1 ≤ x .0 → x .0 ≤ lastNumber → Fit s j m → Fit (withNext x s) j m
+  pub next-fit : (x : Trace) → 1 ≤ x .0 → x .0 ≤ lastNumber → Fit s lent → Fit (withNext x s) lent
   next-fit x a b f =
       let h = f .order .state in
       record {
@@ -295,8 +296,8 @@ module _ (s : State) (j m : List ℕ) where
       }
 
   -- signing on or off, perhaps in another batch
-  pub signed-fit : (on : Bool) (batch : Batch) → 1 ≤ batch .0 → batch .0 ≤ lastNumber → Fit s j m
-      → Fit (signed on (inBatch batch s)) j m
+  pub signed-fit : (on : Bool) (batch : Batch) → 1 ≤ batch .0 → batch .0 ≤ lastNumber → Fit s lent
+      → Fit (signed on (inBatch batch s)) lent
   signed-fit on batch a b f =
       let h = f .order .state in
       record {
@@ -322,5 +323,5 @@ module _ (s : State) (j m : List ℕ) where
             };
       }
 
-  pub off-fit : Fit s j m → Fit (signed false s) j m
+  pub off-fit : Fit s lent → Fit (signed false s) lent
   off-fit h = signed-fit false (s .batch) (h .order .state .batch-least) (h .order .state .batch-most) h

@@ -1,8 +1,7 @@
 -- The call settle keeps rules 1 and 2.
 use mathlib.Core.Path.{_≡_, refl}
-use mathlib.Core.List.{List}
 use mathlib.Core.Bool.{true, false, true≢false}
-use Prim.Native.Nat.{ℕ, _≤_}
+use Prim.Native.Nat.{_≤_}
 use Rattle.numbers.specs.Limits.{lastNumber}
 use Rattle.numbers.specs.Numbers.{following}
 use Rattle.writing.specs.Writing.{messageBytes}
@@ -14,6 +13,7 @@ use Rattle.state.specs.declared.Phase.{Phase}
 use Rattle.state.specs.declared.Phase.the-variants.{Resting, Waiting, Pending, Settling, Uploading}
 use Rattle.state.specs.declared.State.{State}
 use Rattle.state.specs.State.{inPhase, waits, pends, uploads}
+use Rattle.state.specs.Calls.{Lent}
 use Rattle.checks.specs.Checks.{firstBroken}
 use Rattle.checks.proofs.Choices.{passed}
 use Rattle.rules.proofs.InOrder.{Fit}
@@ -26,10 +26,10 @@ use Rattle.call_theorems.proofs.Phases.{moved, next-fit}
 
 -- a settlement leaves a terminal that rests or settles; rules 11, 12 and 13 leave no other phase
 settles-from : (p : Phase) → waits p ≡ false → pends p ≡ false → uploads p ≡ false
-    → (s : State) (j m : List ℕ) (x : Trace) → 1 ≤ x .0 → x .0 ≤ lastNumber → Fit (inPhase p s) j m
-    → Fit (inPhase (Waiting (awaited.Settlement x)) s) j m
-settles-from Resting w v u s j m x a b h =
-    moved (Waiting (awaited.Settlement x)) (s .counts) (inPhase Resting s) j m h
+    → (s : State) (lent : Lent) (x : Trace) → 1 ≤ x .0 → x .0 ≤ lastNumber → Fit (inPhase p s) lent
+    → Fit (inPhase (Waiting (awaited.Settlement x)) s) lent
+settles-from Resting w v u s lent x a b h =
+    moved (Waiting (awaited.Settlement x)) (s .counts) (inPhase Resting s) lent h
     (record {
       sent-same = refl;
       approved-same = refl;
@@ -38,10 +38,10 @@ settles-from Resting w v u s j m x a b h =
       balance = h .order .state .balance;
       phase-kept = refl;
     })
-settles-from (Waiting y) w v u s j m x a b h = absurd (true≢false w)
-settles-from (Pending r) w v u s j m x a b h = absurd (true≢false v)
-settles-from Settling w v u s j m x a b h =
-    moved (Waiting (awaited.Settlement x)) (s .counts) (inPhase Settling s) j m h
+settles-from (Waiting y) w v u s lent x a b h = absurd (true≢false w)
+settles-from (Pending r) w v u s lent x a b h = absurd (true≢false v)
+settles-from Settling w v u s lent x a b h =
+    moved (Waiting (awaited.Settlement x)) (s .counts) (inPhase Settling s) lent h
     (record {
       sent-same = refl;
       approved-same = refl;
@@ -50,22 +50,22 @@ settles-from Settling w v u s j m x a b h =
       balance = h .order .state .balance;
       phase-kept = refl;
     })
-settles-from Uploading w v u s j m x a b h = absurd (true≢false u)
+settles-from Uploading w v u s lent x a b h = absurd (true≢false u)
 
-settled-fits : (s : State) (j m : List ℕ) (x : Trace) → 1 ≤ x .0 → x .0 ≤ lastNumber → Fit s j m
-    → firstBroken (settleRules s j m) ≡ 0 → Fit (settles s x) j m
-settled-fits s j m x a b h z =
-    let rs = settleRules s j m in
+settled-fits : (s : State) (lent : Lent) (x : Trace) → 1 ≤ x .0 → x .0 ≤ lastNumber → Fit s lent
+    → firstBroken (settleRules s lent) ≡ 0 → Fit (settles s x) lent
+settled-fits s lent x a b h z =
+    let rs = settleRules s lent in
     let n = following-range (x .0) in
-    next-fit (inPhase (Waiting (awaited.Settlement x)) s) j m (record { 0 = following (x .0) }) (n .0) (n .1)
-    (settles-from (s .phase) (passed 11 rs refl z) (passed 12 rs refl z) (passed 13 rs refl z) s j m x a b h)
+    next-fit (inPhase (Waiting (awaited.Settlement x)) s) lent (record { 0 = following (x .0) }) (n .0) (n .1)
+    (settles-from (s .phase) (passed 11 rs refl z) (passed 12 rs refl z) (passed 13 rs refl z) s lent x a b h)
 
-pub settle-fits : (s : State) (j m : List ℕ) → Fit s j m → Fits (settle s j m)
+pub settle-fits : (s : State) (lent : Lent) → Fit s lent → Fits (settle s lent)
 unfolding settle
-settle-fits s j m h =
-    let es = entriesOf (s .entries) j in
+settle-fits s lent h =
+    let es = entriesOf (s .entries) (lent .journal) in
     let x : Trace = record { 0 = taken es (s .next .0) } in
     let t = taken-range es (s .next .0) (h .order .state .next-least) (h .order .state .next-most) in
-    judged-fits (firstBroken (settleRules s j m)) s j m _ h
-    (λ z. sent-fits (messageBytes (settlementMessage (s .settings) (s .batch) x (totalsOf es))) (settles s x) j m
-    (settled-fits s j m x (t .0) (t .1) h z))
+    judged-fits (firstBroken (settleRules s lent)) s lent _ h
+    (λ z. sent-fits (messageBytes (settlementMessage (s .settings) (s .batch) x (totalsOf es))) (settles s x) lent
+    (settled-fits s lent x (t .0) (t .1) h z))

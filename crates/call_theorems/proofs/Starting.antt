@@ -26,6 +26,7 @@ use Rattle.state.specs.declared.Phase.{Phase}
 use Rattle.state.specs.declared.Phase.the-variants.{Resting, Waiting, Pending, Settling, Uploading}
 use Rattle.state.specs.declared.State.{State}
 use Rattle.state.specs.State.{inPhase, waits, pends, closes}
+use Rattle.state.specs.Calls.{Lent}
 use Rattle.checks.specs.Checks.{firstBroken}
 use Rattle.checks.proofs.Choices.{passed}
 use Rattle.rules.specs.Rules.{unvoidedAt, originalUnvoided, requestKept}
@@ -42,10 +43,10 @@ use Rattle.call_theorems.proofs.Back.{request-back}
 use Rattle.call_theorems.proofs.Refusing.{Fits, judged-fits, sent-fits}
 
 -- a request leaves a resting terminal
-requested-fit : (q : Request) (s : State) (j m : List ℕ) → Fit (inPhase Resting s) j m → requestInForm q ≡ true
-    → requestKept (s .settings .limit) (s .entries) (entriesOf (s .entries) j) q ≡ true → s .counts .sent < mostRequests
-    → Fit (requested s q) j m
-requested-fit q s j m f r k l =
+requested-fit : (q : Request) (s : State) (lent : Lent) → Fit (inPhase Resting s) lent → requestInForm q ≡ true
+    → requestKept (s .settings .limit) (s .entries) (entriesOf (s .entries) (lent .journal)) q ≡ true → s .counts .sent < mostRequests
+    → Fit (requested s q) lent
+requested-fit q s lent f r k l =
     let h = f .order .state in
     let n = following-range (q .trace .0) in
     record {
@@ -178,14 +179,14 @@ or-false false b e = (refl, e)
 and-false : (a b : Bool) → (a && b) ≡ false → a ≡ true → b ≡ false
 and-false a b h e = rw e at h
 
-started-fits : (d : Desk) (s : State) (j m : List ℕ) (f : Found) → Fit s j m → originalOf d (entriesOf (s .entries) j) ≡ f
-    → firstBroken (startRules d s (entriesOf (s .entries) j) (entryOf f (entriesOf (s .entries) j)) j m) ≡ 0
-    → Fit (requested s (requestOf d (entryOf f (entriesOf (s .entries) j)) (taken (entriesOf (s .entries) j) (s .next .0)))) j m
-started-fits d s j m f h q z =
-    let es = entriesOf (s .entries) j in
+started-fits : (d : Desk) (s : State) (lent : Lent) (f : Found) → Fit s lent → originalOf d (entriesOf (s .entries) (lent .journal)) ≡ f
+    → firstBroken (startRules d s (entriesOf (s .entries) (lent .journal)) (entryOf f (entriesOf (s .entries) (lent .journal))) lent) ≡ 0
+    → Fit (requested s (requestOf d (entryOf f (entriesOf (s .entries) (lent .journal))) (taken (entriesOf (s .entries) (lent .journal)) (s .next .0)))) lent
+started-fits d s lent f h q z =
+    let es = entriesOf (s .entries) (lent .journal) in
     let e = entryOf f es in
     let n = taken es (s .next .0) in
-    let rs = startRules d s es e j m in
+    let rs = startRules d s es e lent in
     let g = resting (s .phase) (passed 11 rs refl z) (passed 12 rs refl z) (passed 13 rs refl z) in
     let desk = desk-holds d (not-false (deskInForm d) (passed 16 rs refl z)) in
     let full = or-false (leb (s .settings .limit) (s .entries)) (leb mostRequests (s .counts .sent)) (passed 18 rs refl z) in
@@ -195,20 +196,20 @@ started-fits d s j m f h q z =
     (and-false (takesOriginal (d .kind)) (not (eqb (e .voided) 0)) (passed 20 rs refl z) t) in
     let range = taken-range es (s .next .0) (h .order .state .next-least) (h .order .state .next-most) in
     let free = taken-free es (s .next .0) (h .order .state .next-least) (h .order .state .next-most)
-    (omega (arith, length-entries-le (s .entries) j, h .order .state .few, h .order .state .settings .limit-most)) in
-    requested-fit (requestOf d e n) s j m (subst (λ (p : Phase). Fit (inPhase p s) j m) g h)
+    (omega (arith, length-entries-le (s .entries) (lent .journal), h .order .state .few, h .order .state .settings .limit-most)) in
+    requested-fit (requestOf d e n) s lent (subst (λ (p : Phase). Fit (inPhase p s) lent) g h)
     (request-back (requestOf d e n)
     (request-of-holds d es e n (range .0) (range .1) (desk .0) (desk .1) (passed 15 rs refl z) o))
     (kept (s .settings .limit) (s .entries) es (requestOf d e n) (leb-false _ _ (full .0)) (passed 21 rs refl z)
     (original-is-left d es e n o) free)
     (leb-false _ _ (full .1))
 
-pub start-fits : (d : Desk) (s : State) (j m : List ℕ) → Fit s j m → Fits (start d s j m)
+pub start-fits : (d : Desk) (s : State) (lent : Lent) → Fit s lent → Fits (start d s lent)
 unfolding start
-start-fits d s j m h =
-    let es = entriesOf (s .entries) j in
+start-fits d s lent h =
+    let es = entriesOf (s .entries) (lent .journal) in
     let e = entryOf (originalOf d es) es in
     let q = requestOf d e (taken es (s .next .0)) in
-    judged-fits (firstBroken (startRules d s es e j m)) s j m _ h
-    (λ z. sent-fits (messageBytes (requestMessage (s .settings) (s .batch) q (namedBy d (s .batch) e))) (requested s q) j m
-    (started-fits d s j m (originalOf d es) h refl z))
+    judged-fits (firstBroken (startRules d s es e lent)) s lent _ h
+    (λ z. sent-fits (messageBytes (requestMessage (s .settings) (s .batch) q (namedBy d (s .batch) e))) (requested s q) lent
+    (started-fits d s lent (originalOf d es) h refl z))

@@ -27,6 +27,7 @@ use Rattle.state.specs.declared.Phase.{Phase}
 use Rattle.state.specs.declared.Phase.the-variants.{Resting, Waiting, Pending, Settling, Uploading}
 use Rattle.state.specs.declared.State.{State}
 use Rattle.state.specs.State.{inPhase}
+use Rattle.state.specs.Calls.{Lent, withJournal}
 use Rattle.checks.specs.Checks.{firstBroken}
 use Rattle.rules.specs.Rules.{due}
 use Rattle.rules.proofs.InOrder.{InOrder, Fit}
@@ -88,12 +89,12 @@ resend-left l e k r h =
     go false q m h = let n = eqb-false (e .resends) l q in omega arith
 
 -- the next item leaves
-module _ (s : State) (j m : List ℕ) (i : ℕ) (h : Fit (inPhase Uploading s) j m) (n : nextDue (due Uploading) (entriesOf (s .entries) j) ≡ At i) where
+module _ (s : State) (lent : Lent) (i : ℕ) (h : Fit (inPhase Uploading s) lent) (n : nextDue (due Uploading) (entriesOf (s .entries) (lent .journal)) ≡ At i) where
   -- the first time
-  first-fit : Fit (inPhase (Waiting (awaited.Item i)) s) j m
+  first-fit : Fit (inPhase (Waiting (awaited.Item i)) s) lent
   first-fit =
       let l = s .settings .sendings in
-      moved (Waiting (awaited.Item i)) (s .counts) (inPhase Uploading s) j m h
+      moved (Waiting (awaited.Item i)) (s .counts) (inPhase Uploading s) lent h
       (record {
         sent-same = refl;
         approved-same = refl;
@@ -109,18 +110,18 @@ module _ (s : State) (j m : List ℕ) (i : ℕ) (h : Fit (inPhase Uploading s) j
               resends = h .order .journal .resends;
               silent =
                   every-implies (λ k e. keepsSilent l false e) (λ k e. keepsSilent l (isAt (At i) k) e)
-                  (λ k e. silent-awaited l (isAt (At i) k) e) 0 (entriesOf (s .entries) j) (h .order .journal .silent);
+                  (λ k e. silent-awaited l (isAt (At i) k) e) 0 (entriesOf (s .entries) (lent .journal)) (h .order .journal .silent);
             };
         balance = h .order .state .balance;
         phase-kept = rw n (eq-eqb i i refl);
       })
 
   -- once more: byte 3 grows by one, at most to L
-  resent-order : entryAt (entriesOf (s .entries) j) i .mark ≡ 1
+  resent-order : entryAt (entriesOf (s .entries) (lent .journal)) i .mark ≡ 1
       → InOrder (inPhase (Waiting (awaited.Item i)) s)
-      (changedAt i (withResends (entryAt (entriesOf (s .entries) j) i .resends + 1)) (entriesOf (s .entries) j))
+      (changedAt i (withResends (entryAt (entriesOf (s .entries) (lent .journal)) i .resends + 1)) (entriesOf (s .entries) (lent .journal)))
   resent-order k =
-      let es = entriesOf (s .entries) j in
+      let es = entriesOf (s .entries) (lent .journal) in
       let e = entryAt es i in
       let x = e .resends + 1 in
       let o = h .order in
@@ -164,35 +165,35 @@ module _ (s : State) (j m : List ℕ) (i : ℕ) (h : Fit (inPhase Uploading s) j
         phase-kept = rw (next-resent x i es, n) (eq-eqb i i refl);
       }
 
-  again-fit : entryAt (entriesOf (s .entries) j) i .mark ≡ 1
-      → Fit (inPhase (Waiting (awaited.Item i)) s) (setByte i 3 (entryAt (entriesOf (s .entries) j) i .resends + 1) j) m
+  again-fit : entryAt (entriesOf (s .entries) (lent .journal)) i .mark ≡ 1
+      → Fit (inPhase (Waiting (awaited.Item i)) s) (withJournal (setByte i 3 (entryAt (entriesOf (s .entries) (lent .journal)) i .resends + 1) (lent .journal)) lent)
   again-fit k =
-      let x = entryAt (entriesOf (s .entries) j) i .resends + 1 in
+      let x = entryAt (entriesOf (s .entries) (lent .journal)) i .resends + 1 in
       record {
         message-room = h .message-room;
-        journal-room = rw (length-set-byte i 3 x j) (h .journal-room);
-        order = rw (set-resends (s .entries) i x j) (resent-order k);
+        journal-room = rw (length-set-byte i 3 x (lent .journal)) (h .journal-room);
+        order = rw (set-resends (s .entries) i x (lent .journal)) (resent-order k);
       }
 
-  item-fit : Fit (inPhase (Waiting (awaited.Item i)) s) (resent i (entryAt (entriesOf (s .entries) j) i) j) m
+  item-fit : Fit (inPhase (Waiting (awaited.Item i)) s) (withJournal (resent i (entryAt (entriesOf (s .entries) (lent .journal)) i) (lent .journal)) lent)
   unfolding resent
   item-fit =
-      let es = entriesOf (s .entries) j in
+      let es = entriesOf (s .entries) (lent .journal) in
       go (eqb (entryAt es i .mark) 0) refl (next-at es i n .mark-most)
     where
-      go : (b : Bool) → eqb (entryAt (entriesOf (s .entries) j) i .mark) 0 ≡ b → entryAt (entriesOf (s .entries) j) i .mark ≤ 1
+      go : (b : Bool) → eqb (entryAt (entriesOf (s .entries) (lent .journal)) i .mark) 0 ≡ b → entryAt (entriesOf (s .entries) (lent .journal)) i .mark ≤ 1
           → Fit (inPhase (Waiting (awaited.Item i)) s)
-          (cond b j (setByte i 3 (entryAt (entriesOf (s .entries) j) i .resends + 1) j)) m
+          (withJournal (cond b (lent .journal) (setByte i 3 (entryAt (entriesOf (s .entries) (lent .journal)) i .resends + 1) (lent .journal))) lent)
       go true e k = first-fit
-      go false e k = let z = eqb-false (entryAt (entriesOf (s .entries) j) i .mark) 0 e in again-fit (omega arith)
+      go false e k = let z = eqb-false (entryAt (entriesOf (s .entries) (lent .journal)) i .mark) 0 e in again-fit (omega arith)
 
 -- the end leaves: no due entry is 0 or 1
-end-fit : (s : State) (j m : List ℕ) (x : Trace) → 1 ≤ x .0 → x .0 ≤ lastNumber → Fit (inPhase Uploading s) j m
-    → nextDue (due Uploading) (entriesOf (s .entries) j) ≡ Nowhere → Fit (ending s x) j m
-end-fit s j m x a b h n =
+end-fit : (s : State) (lent : Lent) (x : Trace) → 1 ≤ x .0 → x .0 ≤ lastNumber → Fit (inPhase Uploading s) lent
+    → nextDue (due Uploading) (entriesOf (s .entries) (lent .journal)) ≡ Nowhere → Fit (ending s x) lent
+end-fit s lent x a b h n =
     let r = following-range (x .0) in
-    next-fit (inPhase (Waiting (awaited.End x)) s) j m (record { 0 = following (x .0) }) (r .0) (r .1)
-    (moved (Waiting (awaited.End x)) (s .counts) (inPhase Uploading s) j m h
+    next-fit (inPhase (Waiting (awaited.End x)) s) lent (record { 0 = following (x .0) }) (r .0) (r .1)
+    (moved (Waiting (awaited.End x)) (s .counts) (inPhase Uploading s) lent h
     (record {
       sent-same = refl;
       approved-same = refl;
@@ -202,25 +203,25 @@ end-fit s j m x a b h n =
       phase-kept = rw n;
     }))
 
-next-fits : (s : State) (j m : List ℕ) → Fit (inPhase Uploading s) j m → (f : Found) → nextDue (due Uploading) (entriesOf (s .entries) j) ≡ f
-    → Fits (sendsNext f (inPhase Uploading s) j m)
-next-fits s j m h (At i) n =
-    sent-fits (messageBytes (itemMessage (s .settings) (s .batch) (entryAt (entriesOf (s .entries) j) i))) _ _ m
-    (item-fit s j m i h n)
-next-fits s j m h Nowhere n =
-    let es = entriesOf (s .entries) j in
+next-fits : (s : State) (lent : Lent) → Fit (inPhase Uploading s) lent → (f : Found) → nextDue (due Uploading) (entriesOf (s .entries) (lent .journal)) ≡ f
+    → Fits (sendsNext f (inPhase Uploading s) lent)
+next-fits s lent h (At i) n =
+    sent-fits (messageBytes (itemMessage (s .settings) (s .batch) (entryAt (entriesOf (s .entries) (lent .journal)) i))) _ (withJournal _ lent)
+    (item-fit s lent i h n)
+next-fits s lent h Nowhere n =
+    let es = entriesOf (s .entries) (lent .journal) in
     let x : Trace = record { 0 = taken es (s .next .0) } in
     let t = taken-range es (s .next .0) (h .order .state .next-least) (h .order .state .next-most) in
-    sent-fits (messageBytes (endMessage (s .settings) (s .batch) x)) (ending s x) j m (end-fit s j m x (t .0) (t .1) h n)
+    sent-fits (messageBytes (endMessage (s .settings) (s .batch) x)) (ending s x) lent (end-fit s lent x (t .0) (t .1) h n)
 
-upload-from : (p : Phase) (s : State) (j m : List ℕ) → Fit (inPhase p s) j m → Fits (uploadFrom p (inPhase p s) j m)
-upload-from Resting s j m h = h
-upload-from (Waiting a) s j m h = h
-upload-from (Pending v) s j m h = h
-upload-from Settling s j m h = h
-upload-from Uploading s j m h = next-fits s j m h (nextDue (due Uploading) (entriesOf (s .entries) j)) refl
+upload-from : (p : Phase) (s : State) (lent : Lent) → Fit (inPhase p s) lent → Fits (uploadFrom p (inPhase p s) lent)
+upload-from Resting s lent h = h
+upload-from (Waiting a) s lent h = h
+upload-from (Pending v) s lent h = h
+upload-from Settling s lent h = h
+upload-from Uploading s lent h = next-fits s lent h (nextDue (due Uploading) (entriesOf (s .entries) (lent .journal))) refl
 
-pub upload-fits : (s : State) (j m : List ℕ) → Fit s j m → Fits (sendNextUpload s j m)
+pub upload-fits : (s : State) (lent : Lent) → Fit s lent → Fits (sendNextUpload s lent)
 unfolding sendNextUpload
-upload-fits s j m h =
-    judged-fits (firstBroken (sendNextUploadRules s j m)) s j m (uploadFrom (s .phase) s j m) h (λ z. upload-from (s .phase) s j m h)
+upload-fits s lent h =
+    judged-fits (firstBroken (sendNextUploadRules s lent)) s lent (uploadFrom (s .phase) s lent) h (λ z. upload-from (s .phase) s lent h)

@@ -10,7 +10,7 @@ use Rattle.state.specs.declared.Reversal.{Reversal}
 use Rattle.state.specs.declared.State.{State}
 use Rattle.state.specs.declared.Outcome.the-variants.{Send, Quiet, Refused}
 use Rattle.state.specs.declared.Phase.the-variants.{Resting, Pending}
-use Rattle.state.specs.Calls.{Result, refused}
+use Rattle.state.specs.Calls.{Lent, Result, refused}
 use Rattle.call_theorems.specs.Ready.{Ready}
 use Rattle.call_reversal.specs.SendReversal.{sendReversal}
 use Rattle.call_answer.specs.Answer.{noAnswer}
@@ -19,11 +19,11 @@ use Rattle.terminal.specs.Shapes.{SettingsShaped, EventShaped}
 
 -- a refused call changes nothing
 abbrev pub RefusedChangesNothing : Type 0
-RefusedChangesNothing = (e : Event) (s : State) (j m : List ℕ) (n : ℕ) → call e s j m .outcome ≡ Refused n → call e s j m ≡ refused n s j m
+RefusedChangesNothing = (e : Event) (s : State) (lent : Lent) (n : ℕ) → call e s lent .outcome ≡ Refused n → call e s lent ≡ refused n s lent
 
 -- a quiet change leaves the message buffer
 abbrev pub QuietLeavesMessage : Type 0
-QuietLeavesMessage = (e : Event) (s : State) (j m : List ℕ) → call e s j m .outcome ≡ Quiet → call e s j m .message ≡ m
+QuietLeavesMessage = (e : Event) (s : State) (lent : Lent) → call e s lent .outcome ≡ Quiet → call e s lent .lent .message ≡ lent .message
 
 -- what leaves is a message that reads, so many bytes long; bytes past it stay
 pub record Leaves (k : ℕ) (o m : List ℕ) : Type 0 where
@@ -33,16 +33,16 @@ pub record Leaves (k : ℕ) (o m : List ℕ) : Type 0 where
   pub rest : o ≡ bytes ++ drop k m
 
 abbrev pub SentReads : Type 0
-SentReads = (e : Event) (s : State) (j m : List ℕ) (k : ℕ) → SettingsShaped (s .settings) → EventShaped e
-    → call e s j m .outcome ≡ Send k → Leaves k (call e s j m .message) m
+SentReads = (e : Event) (s : State) (lent : Lent) (k : ℕ) → SettingsShaped (s .settings) → EventShaped e
+    → call e s lent .outcome ≡ Send k → Leaves k (call e s lent .lent .message) (lent .message)
 
 -- a pending reversal sent, and silence after it, k times
 abbrev pub silenced : Result → Result
-silenced r = noAnswer (r .state) (r .journal) (r .message)
+silenced r = noAnswer (r .state) (r .lent)
 
 abbrev pub failures : ℕ → Result → Result
 failures zero r = r
-failures (suc k) r = silenced (sendReversal (failures k r .state) (failures k r .journal) (failures k r .message))
+failures (suc k) r = silenced (sendReversal (failures k r .state) (failures k r .lent))
 
 -- the reversal after k sendings
 abbrev pub sentTimes : ℕ → Reversal → Reversal
@@ -51,11 +51,11 @@ sentTimes k v = record { request = v .request; reason = v .reason; sendings = k 
 -- L failed sendings give a reversal up and the desk is free; before that it is pending again
 pub record GivenUp (r : Result) (v : Reversal) : Type 0 where
   pub leaves : (k : ℕ) → k < r .state .settings .sendings
-      → (n : ℕ) × (sendReversal (failures k r .state) (failures k r .journal) (failures k r .message) .outcome ≡ Send n)
+      → (n : ℕ) × (sendReversal (failures k r .state) (failures k r .lent) .outcome ≡ Send n)
   pub pending : (k : ℕ) → k < r .state .settings .sendings → failures k r .state .phase ≡ Pending (sentTimes k v)
   pub free : failures (r .state .settings .sendings) r .state .phase ≡ Resting
   pub counted : failures (r .state .settings .sendings) r .state .counts .«given_up» ≡ r .state .counts .«given_up» + 1
 
 abbrev pub GivenUpAfterL : Type 0
-GivenUpAfterL = (r : Result) (v : Reversal) → Ready (r .state) (r .journal) (r .message) → r .state .«signed_on» ≡ true
+GivenUpAfterL = (r : Result) (v : Reversal) → Ready (r .state) (r .lent) → r .state .«signed_on» ≡ true
     → r .state .phase ≡ Pending v → v .sendings ≡ 0 → GivenUp r v

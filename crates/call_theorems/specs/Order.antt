@@ -8,6 +8,7 @@ use Rattle.message.specs.declared.Message.{Message}
 use Rattle.numbers.specs.declared.Batch.{Batch}
 use Rattle.entry.specs.declared.Entry.{Entry}
 use Rattle.state.specs.declared.State.{State}
+use Rattle.state.specs.Calls.{Lent}
 use Rattle.rules.specs.Rules.{rules12}
 use Rattle.call_sign_on.specs.SignOn.{signedOnRules}
 use Rattle.call_start.specs.Start.{startRules}
@@ -18,12 +19,12 @@ use Rattle.call_settle.specs.Settle.{settleRules}
 use Rattle.call_upload.specs.SendNextUpload.{sendNextUploadRules}
 
 pub record ListsInOrder : Type 0 where
-  pub signed-on : (batch : Batch) (s : State) (j m : List ℕ) → inCheckOrder (signedOnRules batch s j m) ≡ true
-  pub start : (d : Desk) (s : State) (es : List Entry) (e : Entry) (j m : List ℕ) → inCheckOrder (startRules d s es e j m) ≡ true
+  pub signed-on : (batch : Batch) (s : State) (lent : Lent) → inCheckOrder (signedOnRules batch s lent) ≡ true
+  pub start : (d : Desk) (s : State) (es : List Entry) (e : Entry) (lent : Lent) → inCheckOrder (startRules d s es e lent) ≡ true
   -- 1 and 2, then the reading's own numbers, then these
   pub answer : (a : Message) (s : State) (j : List ℕ) → inCheckOrder (answerRules a s j) ≡ true
-  pub no-answer : (s : State) (j m : List ℕ) → inCheckOrder (noAnswerRules s j m) ≡ true
-  pub power-returned : (s : State) (j m : List ℕ) → inCheckOrder (rules12 s j m) ≡ true
-  pub send-reversal : (s : State) (j m : List ℕ) → inCheckOrder (sendReversalRules s j m) ≡ true
-  pub settle : (s : State) (j m : List ℕ) → inCheckOrder (settleRules s j m) ≡ true
-  pub send-next-upload : (s : State) (j m : List ℕ) → inCheckOrder (sendNextUploadRules s j m) ≡ true
+  pub no-answer : (s : State) (lent : Lent) → inCheckOrder (noAnswerRules s lent) ≡ true
+  pub power-returned : (s : State) (lent : Lent) → inCheckOrder (rules12 s lent) ≡ true
+  pub send-reversal : (s : State) (lent : Lent) → inCheckOrder (sendReversalRules s lent) ≡ true
+  pub settle : (s : State) (lent : Lent) → inCheckOrder (settleRules s lent) ≡ true
+  pub send-next-upload : (s : State) (lent : Lent) → inCheckOrder (sendNextUploadRules s lent) ≡ true

@@ -13,7 +13,7 @@ ghost use lib.ListN.{length};
 ghost use Rattle.message.specs.Message.{largest};
 ghost use Rattle.journal.specs.Journal.{entriesOf, nextDue};
 ghost use Rattle.checks.specs.Checks.{firstBroken};
-ghost use Rattle.state.specs.Calls.{resultOf};
+ghost use Rattle.state.specs.Calls.{lend, resultOf};
 ghost use Rattle.rules.specs.Rules.{idleRules, due};
 ghost use Rattle.compose.specs.Compose.{allHeld};
 ghost use Rattle.call_upload.specs.SendNextUpload.{sendsItem, sendsEnd, sendsNext, sendNextUpload};
@@ -21,7 +21,7 @@ ghost use Rattle.batch_messages.specs.BatchMessages.{itemFields, endFields};
 
 // Sends the next due entry, or the upload's end.
 pub fn send_next_upload(s: State, journal: &mut [u8], message: &mut [u8]) -> Called
-    ensures { λ r. ⌜ resultOf r (now (journal .exit)) (now (message .exit)) ≡ sendNextUpload s (now (journal .entry)) (now (message .entry)) ⌝ }
+    ensures { λ r. ⌜ resultOf r (lend (now (journal .exit)) (now (message .exit))) ≡ sendNextUpload s (lend (now (journal .entry)) (now (message .entry))) ⌝ }
 {
     let number = rules::idle_refusal(s, journal, message);
     if number != 0 {
@@ -37,7 +37,7 @@ pub fn send_next_upload(s: State, journal: &mut [u8], message: &mut [u8]) -> Cal
 // Entry i leaves and is awaited.
 fn send_item(s: State, i: u16, e: Entry, journal: &mut [u8], message: &mut [u8]) -> Called
     requires { ⌜ (e .resends < 255) × ((allHeld (itemFields (s .settings) (s .batch) e) ≡ true) × (largest ≤ length (now message))) ⌝ }
-    ensures { λ r. ⌜ resultOf r (now (journal .exit)) (now (message .exit)) ≡ sendsItem i e s (now (journal .entry)) (now (message .entry)) ⌝ }
+    ensures { λ r. ⌜ resultOf r (lend (now (journal .exit)) (now (message .exit))) ≡ sendsItem i e s (lend (now (journal .entry)) (now (message .entry))) ⌝ }
 {
     let settings = s.settings;
     let batch = s.batch;
@@ -50,7 +50,7 @@ fn send_item(s: State, i: u16, e: Entry, journal: &mut [u8], message: &mut [u8])
 // The upload's end leaves and is awaited.
 fn send_end(s: State, trace: Trace, journal: &[u8], message: &mut [u8]) -> Called
     requires { ⌜ (allHeld (endFields (s .settings) (s .batch) trace) ≡ true) × (largest ≤ length (now message)) ⌝ }
-    ensures { λ r. ⌜ resultOf r (now (journal .entry)) (now (message .exit)) ≡ sendsEnd trace s (now (journal .entry)) (now (message .entry)) ⌝ }
+    ensures { λ r. ⌜ resultOf r (lend (now (journal .entry)) (now (message .exit))) ≡ sendsEnd trace s (lend (now (journal .entry)) (now (message .entry))) ⌝ }
 {
     let settings = s.settings;
     let batch = s.batch;
@@ -61,10 +61,10 @@ fn send_end(s: State, trace: Trace, journal: &[u8], message: &mut [u8]) -> Calle
 
 // The next due entry leaves or, where there is none, the upload's end.
 fn send_next(s: State, journal: &mut [u8], message: &mut [u8]) -> Called
-    requires { ⌜ firstBroken (idleRules s (now journal) (now message)) ≡ 0 ⌝ }
+    requires { ⌜ firstBroken (idleRules s (lend (now journal) (now message))) ≡ 0 ⌝ }
     ensures { λ r.
-        ⌜ resultOf r (now (journal .exit)) (now (message .exit))
-        ≡ sendsNext (nextDue (due Phase.Uploading) (entriesOf (s .entries) (now (journal .entry)))) s (now (journal .entry)) (now (message .entry)) ⌝ }
+        ⌜ resultOf r (lend (now (journal .exit)) (now (message .exit)))
+        ≡ sendsNext (nextDue (due Phase.Uploading) (entriesOf (s .entries) (now (journal .entry)))) s (lend (now (journal .entry)) (now (message .entry))) ⌝ }
 {
     let n = s.entries;
     match journal::next_due(journal, n) {

@@ -32,7 +32,7 @@ use Rattle.state.specs.declared.Phase.the-variants.{Resting, Waiting, Pending, 
 use Rattle.state.specs.declared.State.{State}
 use Rattle.state.specs.declared.Outcome.the-variants.{Send}
 use Rattle.checks.specs.Checks.{firstBroken}
-use Rattle.state.specs.Calls.{Result, judged, refused, quiet, sends}
+use Rattle.state.specs.Calls.{Lent, withJournal, Result, judged, refused, quiet, sends}
 use Rattle.compose.proofs.Bitmaps.{names-has}
 use Rattle.rules.specs.Rules.{rules12, due}
 use Rattle.outgoing.specs.declared.Original.{Original}
@@ -130,67 +130,67 @@ module _ (x : Settings) (batch : Batch) where
 
 -- what a call sends, if anything
 pub record Sends (r : Result) : Type 0 where
-  pub leaving : (k : ℕ) → r .outcome ≡ Send k → Sound (take k (r .message))
+  pub leaving : (k : ℕ) → r .outcome ≡ Send k → Sound (take k (r .lent .message))
 
 same-count : (k n : ℕ) → Send k ≡ Send n → k ≡ n
 same-count k n e = cc
 
-sends-bytes : (bs : List ℕ) {t : State} {i : List ℕ} (m : List ℕ) → Sound bs → Sends (sends bs t i m)
-sends-bytes bs m h = record { leaving = λ k e. rw (take-at bs (drop (length bs) m) k (same-count (length bs) k e)) h }
+sends-bytes : (bs : List ℕ) {t : State} {i : List ℕ} (lent : Lent) → Sound bs → Sends (sends bs t (withJournal i lent))
+sends-bytes bs lent h = record { leaving = λ k e. rw (take-at bs (drop (length bs) (lent .message)) k (same-count (length bs) k e)) h }
 
-refuses : {n : ℕ} {s : State} {j m : List ℕ} → Sends (refused n s j m)
+refuses : {n : ℕ} {s : State} {lent : Lent} → Sends (refused n s lent)
 refuses = record { leaving = λ k e. never (cc) }
 
-is-quiet : {s : State} {j m : List ℕ} → Sends (quiet s j m)
+is-quiet : {s : State} {lent : Lent} → Sends (quiet s lent)
 is-quiet = record { leaving = λ k e. never (cc) }
 
-module _ (s : State) (j m : List ℕ) where
+module _ (s : State) (lent : Lent) where
   -- refused by the first rule broken, or as is said
-  judges : (n : ℕ) (done : Result) → Sends done → Sends (judged n s j m done)
+  judges : (n : ℕ) (done : Result) → Sends done → Sends (judged n s lent done)
   unfolding judged
   judges n done h = go (eqb n 0)
     where
-      go : (b : Bool) → Sends (cond b done (refused n s j m))
+      go : (b : Bool) → Sends (cond b done (refused n s lent))
       go true = h
       go false = refuses
 
-  read-in : (o : Judgement) (g : Bool) (a : Message) → Sends (readIn o g a s j m)
-  read-in Read g a = judges (firstBroken (answerRules a s j)) _ is-quiet
+  read-in : (o : Judgement) (g : Bool) (a : Message) → Sends (readIn o g a s lent)
+  read-in Read g a = judges (firstBroken (answerRules a s (lent .journal))) _ is-quiet
   read-in (Unread n) g a = refuses
 
-  send-from : (p : Phase) → Sends (sendFrom p s j m)
+  send-from : (p : Phase) → Sends (sendFrom p s lent)
   send-from Resting = is-quiet
   send-from (Waiting a) = is-quiet
-  send-from (Pending v) = sends-bytes _ m (reversal-sound (s .settings) (s .batch) (again v))
+  send-from (Pending v) = sends-bytes _ lent (reversal-sound (s .settings) (s .batch) (again v))
   send-from Settling = is-quiet
   send-from Uploading = is-quiet
 
-  next-leaves : (f : Found) → Sends (sendsNext f s j m)
-  next-leaves (At i) = sends-bytes _ m (item-sound (s .settings) (s .batch) (entryAt (entriesOf (s .entries) j) i))
-  next-leaves Nowhere = sends-bytes _ m (end-sound (s .settings) (s .batch) (record { 0 = taken (entriesOf (s .entries) j) (s .next .0) }))
+  next-leaves : (f : Found) → Sends (sendsNext f s lent)
+  next-leaves (At i) = sends-bytes _ lent (item-sound (s .settings) (s .batch) (entryAt (entriesOf (s .entries) (lent .journal)) i))
+  next-leaves Nowhere = sends-bytes _ lent (end-sound (s .settings) (s .batch) (record { 0 = taken (entriesOf (s .entries) (lent .journal)) (s .next .0) }))
 
-  upload-from : (p : Phase) → Sends (uploadFrom p s j m)
+  upload-from : (p : Phase) → Sends (uploadFrom p s lent)
   upload-from Resting = is-quiet
   upload-from (Waiting a) = is-quiet
   upload-from (Pending v) = is-quiet
   upload-from Settling = is-quiet
-  upload-from Uploading = next-leaves (nextDue (due Uploading) (entriesOf (s .entries) j))
+  upload-from Uploading = next-leaves (nextDue (due Uploading) (entriesOf (s .entries) (lent .journal)))
 
-pub call-sends : (e : Event) (s : State) (j m : List ℕ) → Sends (call e s j m)
+pub call-sends : (e : Event) (s : State) (lent : Lent) → Sends (call e s lent)
 unfolding signedOn start answer noAnswer powerReturned sendReversal settle sendNextUpload
-call-sends (signed-on batch) s j m = judges s j m (firstBroken (signedOnRules batch s j m)) _ is-quiet
-call-sends (starts d) s j m =
-    let es = entriesOf (s .entries) j in
+call-sends (signed-on batch) s lent = judges s lent (firstBroken (signedOnRules batch s lent)) _ is-quiet
+call-sends (starts d) s lent =
+    let es = entriesOf (s .entries) (lent .journal) in
     let e = entryOf (originalOf d es) es in
-    judges s j m (firstBroken (startRules d s es e j m)) _
-    (sends-bytes _ m (request-sound (s .settings) (s .batch) (requestOf d e (taken es (s .next .0))) (namedBy d (s .batch) e)))
-call-sends (answers b g) s j m =
-    judges s j m (firstBroken (rules12 s j m)) _ (read-in s j m (readMessage b .outcome) g (readMessage b .message))
-call-sends no-answer s j m = judges s j m (firstBroken (noAnswerRules s j m)) _ is-quiet
-call-sends power-returned s j m = judges s j m (firstBroken (rules12 s j m)) _ is-quiet
-call-sends send-reversal s j m = judges s j m (firstBroken (sendReversalRules s j m)) _ (send-from s j m (s .phase))
-call-sends settles s j m =
-    let es = entriesOf (s .entries) j in
-    judges s j m (firstBroken (settleRules s j m)) _
-    (sends-bytes _ m (settlement-sound (s .settings) (s .batch) (record { 0 = taken es (s .next .0) }) (totalsOf es)))
-call-sends send-next-upload s j m = judges s j m (firstBroken (sendNextUploadRules s j m)) _ (upload-from s j m (s .phase))
+    judges s lent (firstBroken (startRules d s es e lent)) _
+    (sends-bytes _ lent (request-sound (s .settings) (s .batch) (requestOf d e (taken es (s .next .0))) (namedBy d (s .batch) e)))
+call-sends (answers b g) s lent =
+    judges s lent (firstBroken (rules12 s lent)) _ (read-in s lent (readMessage b .outcome) g (readMessage b .message))
+call-sends no-answer s lent = judges s lent (firstBroken (noAnswerRules s lent)) _ is-quiet
+call-sends power-returned s lent = judges s lent (firstBroken (rules12 s lent)) _ is-quiet
+call-sends send-reversal s lent = judges s lent (firstBroken (sendReversalRules s lent)) _ (send-from s lent (s .phase))
+call-sends settles s lent =
+    let es = entriesOf (s .entries) (lent .journal) in
+    judges s lent (firstBroken (settleRules s lent)) _
+    (sends-bytes _ lent (settlement-sound (s .settings) (s .batch) (record { 0 = taken es (s .next .0) }) (totalsOf es)))
+call-sends send-next-upload s lent = judges s lent (firstBroken (sendNextUploadRules s lent)) _ (upload-from s lent (s .phase))

@@ -167,7 +167,7 @@ reconciliation-answers b o d left t low high room =
 
 -- what a call sends
 pub sent-has-left : SentHasLeft
-sent-has-left e s j m k x y h =
-    let l = sent-reads e s j m k x y h in
-    let t : take k (call e s j m .message) ≡ l .bytes = rw (l .rest) (take-at (l .bytes) (drop k m) k (l .count)) in
-    call-sends e s j m .leaving k h (rw t (l .reads))
+sent-has-left e s lent k x y h =
+    let l = sent-reads e s lent k x y h in
+    let t : take k (call e s lent .lent .message) ≡ l .bytes = rw (l .rest) (take-at (l .bytes) (drop k (lent .message)) k (l .count)) in
+    call-sends e s lent .leaving k h (rw t (l .reads))

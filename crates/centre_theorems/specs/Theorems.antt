@@ -15,6 +15,7 @@ use Rattle.writing.specs.Writing.{writeMessage}
 use Rattle.writing.specs.declared.Writing.the-variants.{Written}
 use Rattle.state.specs.declared.State.{State}
 use Rattle.state.specs.declared.Outcome.the-variants.{Send}
+use Rattle.state.specs.Calls.{Lent}
 use Rattle.terminal.specs.Events.{Event, call}
 use Rattle.terminal.specs.Shapes.{SettingsShaped, EventShaped}
 use Rattle.outgoing_theorems.specs.Theorems.{outgoingBytes}
@@ -43,8 +44,8 @@ pub record HasLeft (b : List ℕ) : Type 0 where
 
 -- whatever a call sends is such bytes
 abbrev pub SentHasLeft : Type 0
-SentHasLeft = (e : Event) (s : State) (j m : List ℕ) (k : ℕ) → SettingsShaped (s .settings) → EventShaped e
-    → call e s j m .outcome ≡ Send k → HasLeft (take k (call e s j m .message))
+SentHasLeft = (e : Event) (s : State) (lent : Lent) (k : ℕ) → SettingsShaped (s .settings) → EventShaped e
+    → call e s lent .outcome ≡ Send k → HasLeft (take k (call e s lent .lent .message))
 
 -- a code of field 39
 pub record IsCode (code : List ℕ) : Type 0 where

@@ -4,6 +4,7 @@ use desk::Desk;
 use terminal::Step;
 use terminal::Terminal;
 ghost use mathlib.Core.Path.{_≡_};
+ghost use Rattle.state.specs.Calls.{lend};
 ghost use Rattle.terminal.specs.Terminal.{stepResult};
 ghost use Rattle.terminal.specs.Events.{call};
 ghost use Rattle.dispatch.specs.Dispatch.{eventOf};
@@ -17,7 +18,7 @@ pub fn make(
     journal: &mut [u8],
     message: &mut [u8],
 ) -> Step
-    ensures { λ r. ⌜ stepResult r (now (journal .exit)) (now (message .exit)) ≡ call (eventOf c desk (now (bytes .entry))) (t .state) (now (journal .entry)) (now (message .entry)) ⌝ }
+    ensures { λ r. ⌜ stepResult r (lend (now (journal .exit)) (now (message .exit))) ≡ call (eventOf c desk (now (bytes .entry))) (t .state) (lend (now (journal .entry)) (now (message .entry))) ⌝ }
 {
     match c {
         Call::SignedOn(batch) => t.signed_on(batch, journal, message),

@@ -12,7 +12,7 @@ use Rattle.state.specs.declared.Phase.the-variants.{Resting, Waiting, Pending, 
 use Rattle.state.specs.declared.Settings.{Settings}
 use Rattle.state.specs.declared.State.{State}
 use Rattle.state.specs.State.{waits, pends}
-use Rattle.state.specs.Calls.{Result, refused, judged}
+use Rattle.state.specs.Calls.{Lent, Result, refused, judged}
 use Rattle.terminal.specs.Events.{Event}
 use Rattle.history.specs.Words.{messageIn, isRequest, isReversal, isSettlement}
 use Rattle.history.specs.History as history
@@ -37,20 +37,20 @@ Lawful (history.refused n) a = Unit {0}
 
 -- after a call
 pub record After (l : ℕ) (e : Event) (a : Account) (r : Result) : Type 0 where
-  pub tied : Tied l (r .state) (r .journal) (whenGiven l (givenBy (r .outcome) (r .message)) e a)
-  pub lawful : Lawful (givenBy (r .outcome) (r .message)) a
+  pub tied : Tied l (r .state) (r .lent .journal) (whenGiven l (givenBy (r .outcome) (r .lent .message)) e a)
+  pub lawful : Lawful (givenBy (r .outcome) (r .lent .message)) a
 
-pub refused-after : (l : ℕ) (e : Event) (a : Account) (n : ℕ) (s : State) (j m : List ℕ) → Tied l s j a → After l e a (refused n s j m)
-refused-after l e a n s j m h = record { tied = h; lawful = tt }
+pub refused-after : (l : ℕ) (e : Event) (a : Account) (n : ℕ) (s : State) (lent : Lent) → Tied l s (lent .journal) a → After l e a (refused n s lent)
+refused-after l e a n s lent h = record { tied = h; lawful = tt }
 
-pub judged-after : (l : ℕ) (e : Event) (a : Account) (n : ℕ) (s : State) (j m : List ℕ) (done : Result) → Tied l s j a
-    → (n ≡ 0 → After l e a done) → After l e a (judged n s j m done)
+pub judged-after : (l : ℕ) (e : Event) (a : Account) (n : ℕ) (s : State) (lent : Lent) (done : Result) → Tied l s (lent .journal) a
+    → (n ≡ 0 → After l e a done) → After l e a (judged n s lent done)
 unfolding judged
-judged-after l e a n s j m done h d = go (eqb n 0) refl
+judged-after l e a n s lent done h d = go (eqb n 0) refl
   where
-    go : (b : Bool) → eqb n 0 ≡ b → After l e a (cond b done (refused n s j m))
+    go : (b : Bool) → eqb n 0 ≡ b → After l e a (cond b done (refused n s lent))
     go true e = d (eqb-true n 0 e)
-    go false q = refused-after l e a n s j m h
+    go false q = refused-after l e a n s lent h
 
 -- a type that a message has not
 pub no : {t : Bool} {A : Type 0} → t ≡ false → t ≡ true → A

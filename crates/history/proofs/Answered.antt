@@ -17,6 +17,7 @@ use Rattle.state.specs.declared.Phase.the-variants.{Resting, Waiting, Uploading
 use Rattle.state.specs.declared.State.{State}
 use Rattle.state.specs.declared.Count.the-variants.{Declined, Reversed}
 use Rattle.state.specs.State.{inPhase, counted, closed}
+use Rattle.state.specs.Calls.{Lent}
 use Rattle.rules.proofs.InOrder.{Fit}
 use Rattle.answer_match.specs.Match as terminal
 use Rattle.answer_match.specs.Match.{isAnswer, matchesSent, holdsNamed, indicatorSent, approves, approvalHolds, goodMac, endsReversal}
@@ -51,8 +52,8 @@ unfolding afterAnswer
 maybe-closed l good b a n d = rw (n, heard-same l good b l (a .requests) d)
 
 -- an answer to a card request
-module _ (l : ℕ) (good : Bool) (b : List ℕ) (read : readMessage b .outcome ≡ Read) (s : State) (j m : List ℕ) (a : Account) (q : Asked)
-    (fits : Fit (inPhase (Waiting (awaited.Request q)) s) j m) (h : Tied l (inPhase (Waiting (awaited.Request q)) s) j a) where
+module _ (l : ℕ) (good : Bool) (b : List ℕ) (read : readMessage b .outcome ≡ Read) (s : State) (lent : Lent) (a : Account) (q : Asked)
+    (fits : Fit (inPhase (Waiting (awaited.Request q)) s) lent) (h : Tied l (inPhase (Waiting (awaited.Request q)) s) (lent .journal) a) where
   abbrev latest : Latest l deciding 0 a
   latest = h .shape .latest
 
@@ -60,11 +61,11 @@ module _ (l : ℕ) (good : Bool) (b : List ℕ) (read : readMessage b .outcome �
   head = latest .head
 
   approved-tied : approvalHolds (q .amount) (messageIn b) ≡ true → approves (messageIn b) ≡ true
-      → TiedAfter l (effects.approved q (approvedEntry q (messageIn b)) s j) (accountOf (approvedFor (amountIn (head .message)) head ∷ latest .rest) (a .last))
+      → TiedAfter l (effects.approved q (approvedEntry q (messageIn b)) s (lent .journal)) (accountOf (approvedFor (amountIn (head .message)) head ∷ latest .rest) (a .last))
   unfolding effects.approved
   approved-tied n e =
       let r = messageIn b in
-      let t = approved-totals b q s j m read fits n e in
+      let t = approved-totals b q s lent read fits n e in
       let k = approved-kind q r ∙ sym (h .shape .asks .kind-is) in
       let w = approved-amount q r ∙ sym (h .shape .asks .amount-is) in
       let c = s .counts in
@@ -75,33 +76,33 @@ module _ (l : ℕ) (good : Bool) (b : List ℕ) (read : readMessage b .outcome �
               shaped = h .kept .shaped;
               books =
                   rw t
-                  (one-approved c _ (latest .rest) head (head-waits l s j a deciding 0 refl (h .kept) latest)
-                  (open-books l s j a deciding 0 refl (h .kept) latest) (approvedEntry q r) (amountIn (head .message)) k w);
+                  (one-approved c _ (latest .rest) head (head-waits l s (lent .journal) a deciding 0 refl (h .kept) latest)
+                  (open-books l s (lent .journal) a deciding 0 refl (h .kept) latest) (approvedEntry q r) (amountIn (head .message)) k w);
             };
-        shape = (record { has-ended = refl; few = head-few l s j a deciding 0 refl (h .kept) latest }, latest .done);
+        shape = (record { has-ended = refl; few = head-few l s (lent .journal) a deciding 0 refl (h .kept) latest }, latest .done);
       }
 
   request-decided : approvalHolds (q .amount) (messageIn b) ≡ true
-      → TiedAfter l (onRequest good (messageIn b) q s j) (accountOf (decided good (messageIn b) head ∷ latest .rest) (a .last))
+      → TiedAfter l (onRequest good (messageIn b) q s (lent .journal)) (accountOf (decided good (messageIn b) head ∷ latest .rest) (a .last))
   unfolding onRequest decided
   request-decided n =
       rw (approves-alike (messageIn b), mac-alike good (messageIn b)) (go (approves (messageIn b)) (goodMac good (messageIn b)) refl)
     where
       go : (x y : Bool) → approves (messageIn b) ≡ x
           → TiedAfter l
-          (cond x (cond y (effects.approved q (approvedEntry q (messageIn b)) s j) (changed (pendingOrUnanswered BadMac q s) j))
-          (changed (inPhase Resting (counted Declined s)) j))
+          (cond x (cond y (effects.approved q (approvedEntry q (messageIn b)) s (lent .journal)) (changed (pendingOrUnanswered BadMac q s) (lent .journal)))
+          (changed (inPhase Resting (counted Declined s)) (lent .journal)))
           (accountOf
           (cond x (cond y (approvedFor (amountIn (head .message)) head) (history.pendingOrUnanswered head)) (becomes (ended declined) head)
           ∷ latest .rest)
           (a .last))
       go true true e = approved-tied n e
       go true false e =
-          pending-or-unanswered-tied l s j a deciding 0 refl (h .kept) latest BadMac q refl (h .shape .asks .kind-is)
-      go false y e = ended-tied l s j a deciding 0 refl (h .kept) latest declined refl
+          pending-or-unanswered-tied l s (lent .journal) a deciding 0 refl (h .kept) latest BadMac q refl (h .shape .asks .kind-is)
+      go false y e = ended-tied l s (lent .journal) a deciding 0 refl (h .kept) latest declined refl
 
   request-answered : isAnswer (s .settings) (s .batch) (q .trace) (awaited.Request q) (messageIn b) ≡ true
-      → TiedAfter l (onRequest good (messageIn b) q s j) (afterHeard l good b a)
+      → TiedAfter l (onRequest good (messageIn b) q s (lent .journal)) (afterHeard l good b a)
   unfolding whenHeard isAnswer
   request-answered e =
       let d = h .shape in
@@ -186,12 +187,12 @@ item-answered l good b s j a i h =
     (record { kept = rw (marked-totals (s .entries) i (cond (approves (messageIn b)) 2 3) j) (h .kept); shape = d .done })
 
 pub answered-tied : (w : Awaited) (l : ℕ) (good : Bool) (b : List ℕ) → readMessage b .outcome ≡ Read
-    → (s : State) (j m : List ℕ) (a : Account) → Fit (inPhase (Waiting w) s) j m → Tied l (inPhase (Waiting w) s) j a
-    → isAnswer (s .settings) (s .batch) (traceSent (entriesOf (s .entries) j) w) w (messageIn b) ≡ true
-    → TiedAfter l (answered good (messageIn b) w s j) (afterHeard l good b a)
+    → (s : State) (lent : Lent) (a : Account) → Fit (inPhase (Waiting w) s) lent → Tied l (inPhase (Waiting w) s) (lent .journal) a
+    → isAnswer (s .settings) (s .batch) (traceSent (entriesOf (s .entries) (lent .journal)) w) w (messageIn b) ≡ true
+    → TiedAfter l (answered good (messageIn b) w s (lent .journal)) (afterHeard l good b a)
 unfolding answered
-answered-tied (awaited.Request q) l good b r s j m a f h e = request-answered l good b r s j m a q f h e
-answered-tied (awaited.Reversal v) l good b r s j m a f h e = reversal-answered l good b r s j a v h e
-answered-tied (awaited.Settlement trace) l good b r s j m a f h e = settlement-answered l good b r s j a trace h e
-answered-tied (awaited.Item i) l good b r s j m a f h e = item-answered l good b s j a i h
-answered-tied (awaited.End trace) l good b r s j m a f h e = end-answered l good b r s j a trace h e
+answered-tied (awaited.Request q) l good b r s lent a f h e = request-answered l good b r s lent a q f h e
+answered-tied (awaited.Reversal v) l good b r s lent a f h e = reversal-answered l good b r s (lent .journal) a v h e
+answered-tied (awaited.Settlement trace) l good b r s lent a f h e = settlement-answered l good b r s (lent .journal) a trace h e
+answered-tied (awaited.Item i) l good b r s lent a f h e = item-answered l good b s (lent .journal) a i h
+answered-tied (awaited.End trace) l good b r s lent a f h e = end-answered l good b r s (lent .journal) a trace h e

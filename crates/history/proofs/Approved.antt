@@ -30,6 +30,7 @@ use Rattle.state.specs.declared.Awaited.the-variants as awaited
 use Rattle.state.specs.declared.Phase.the-variants.{Waiting}
 use Rattle.state.specs.declared.State.{State}
 use Rattle.state.specs.State.{inPhase}
+use Rattle.state.specs.Calls.{Lent}
 use Rattle.rules.specs.Rules.{requestKept}
 use Rattle.state_rules.specs.StateRules.{requestInForm}
 use Rattle.rules.proofs.InOrder.{Fit}
@@ -82,17 +83,17 @@ entry-in-form b q r f h e =
     (w .card-least) (w .card-most) (date-packed b r) n (reference-length b r n) (reference-printable b r n)
     (authorisation-printable b r)
 
-pub approved-totals : (b : List ℕ) (q : Request) (s : State) (j m : List ℕ) → readMessage b .outcome ≡ Read
-    → Fit (inPhase (Waiting (awaited.Request q)) s) j m → approvalHolds (q .amount) (messageIn b) ≡ true → approves (messageIn b) ≡ true
-    → totalsOf (entriesOf (s .entries + 1) (approved q (approvedEntry q (messageIn b)) s j .journal))
-    ≡ withEntry (totalsOf (entriesOf (s .entries) j)) (approvedEntry q (messageIn b))
+pub approved-totals : (b : List ℕ) (q : Request) (s : State) (lent : Lent) → readMessage b .outcome ≡ Read
+    → Fit (inPhase (Waiting (awaited.Request q)) s) lent → approvalHolds (q .amount) (messageIn b) ≡ true → approves (messageIn b) ≡ true
+    → totalsOf (entriesOf (s .entries + 1) (approved q (approvedEntry q (messageIn b)) s (lent .journal) .journal))
+    ≡ withEntry (totalsOf (entriesOf (s .entries) (lent .journal))) (approvedEntry q (messageIn b))
 unfolding approved
-approved-totals b q s j m r h n e =
+approved-totals b q s lent r h n e =
     let c = s .entries in
     let w = approvedEntry q (messageIn b) in
-    let k = originalVoided q (entriesOf c j) j in
-    let v = original-voided c q (entriesOf c j) j in
-    let p = place-left (s .settings .limit) c (entriesOf c j) q (h .order .phase-kept) in
+    let k = originalVoided q (entriesOf c (lent .journal)) (lent .journal) in
+    let v = original-voided c q (entriesOf c (lent .journal)) (lent .journal) in
+    let p = place-left (s .settings .limit) c (entriesOf c (lent .journal)) q (h .order .phase-kept) in
     let room : entrySize * c + entrySize ≤ length k = rw (v .room) (omega (arith, h .journal-room, p)) in
     let y : entriesOf (c + 1) (putEntry c w k) ≡ entriesOf c k ++ (w ∷ []) =
     rw (add-one c) (put-appends c w k (shaped q (messageIn b)) (entry-in-form b q r (h .order .state .phase-form) n e) room) in

@@ -15,7 +15,7 @@ use Rattle.state.specs.declared.State.{State}
 use borrow.Author.Tests.{not-false}
 use Rattle.state.specs.State.{inPhase, signed, waits}
 use Rattle.checks.specs.Checks.{firstBroken}
-use Rattle.state.specs.Calls.{refused}
+use Rattle.state.specs.Calls.{Lent, refused}
 use Rattle.checks.proofs.Choices.{passed}
 use Rattle.rules.specs.Rules.{rules12}
 use Rattle.rules.proofs.InOrder.{Fit, fit}
@@ -44,13 +44,13 @@ other-batch (Pending v) l x b c a w h = h
 other-batch Settling l x b c a w h = h
 other-batch Uploading l x b c a w h = h
 
-signed-after : (l : ℕ) (batch : Batch) (s : State) (j m : List ℕ) (a : Account) → Tied l s j a
-    → After l (signed-on batch) a (signedOn batch s j m)
+signed-after : (l : ℕ) (batch : Batch) (s : State) (lent : Lent) (a : Account) → Tied l s (lent .journal) a
+    → After l (signed-on batch) a (signedOn batch s lent)
 unfolding signedOn
-signed-after l batch s j m a h =
-    let rs = signedOnRules batch s j m in
+signed-after l batch s lent a h =
+    let rs = signedOnRules batch s lent in
     let c = cond (adopts s) batch (s .batch) in
-    judged-after l (signed-on batch) a (firstBroken rs) s j m _ h
+    judged-after l (signed-on batch) a (firstBroken rs) s lent _ h
     (λ z.
     record {
       tied =
@@ -75,66 +75,66 @@ silent-in Settling l s j a h = rw (silent-same l l (a .requests) (h .shape)) h
 silent-in Uploading l s j a h = rw (silent-same l l (a .requests) (h .shape)) h
 
 -- no answer
-silence-after : (l : ℕ) (s : State) (j m : List ℕ) (a : Account) → Tied l s j a → After l no-answer a (noAnswer s j m)
+silence-after : (l : ℕ) (s : State) (lent : Lent) (a : Account) → Tied l s (lent .journal) a → After l no-answer a (noAnswer s lent)
 unfolding noAnswer
-silence-after l s j m a h =
-    judged-after l no-answer a (firstBroken (noAnswerRules s j m)) s j m (quietly (silentIn (s .phase) s j) m) h
-    (λ z. record { tied = silent-in (s .phase) l s j a h; lawful = tt })
+silence-after l s lent a h =
+    judged-after l no-answer a (firstBroken (noAnswerRules s lent)) s lent (quietly (silentIn (s .phase) s (lent .journal)) lent) h
+    (λ z. record { tied = silent-in (s .phase) l s (lent .journal) a h; lawful = tt })
 
 -- power returned
 off-tied : (l : ℕ) (s : State) (j : List ℕ) (a : Account) → Tied l s j a → Tied l (signed false s) j a
 off-tied l s j a h = record { kept = h .kept; shape = h .shape }
 
-power-after : (l : ℕ) (s : State) (j m : List ℕ) (a : Account) → Tied l s j a → After l power-returned a (powerReturned s j m)
+power-after : (l : ℕ) (s : State) (lent : Lent) (a : Account) → Tied l s (lent .journal) a → After l power-returned a (powerReturned s lent)
 unfolding powerReturned
-power-after l s j m a h =
-    let c = silentIn (s .phase) s j in
-    judged-after l power-returned a (firstBroken (rules12 s j m)) s j m (withoutPower c m) h
+power-after l s lent a h =
+    let c = silentIn (s .phase) s (lent .journal) in
+    judged-after l power-returned a (firstBroken (rules12 s lent)) s lent (withoutPower c lent) h
     (λ z.
     record {
-      tied = off-tied l (c .state) (c .journal) (afterSilence l a) (silent-in (s .phase) l s j a h);
+      tied = off-tied l (c .state) (c .journal) (afterSilence l a) (silent-in (s .phase) l s (lent .journal) a h);
       lawful = tt;
     })
 
 -- an answer to what is awaited; rule 14 lets no other phase pass
-answered-in : (p : Phase) (l : ℕ) (b : List ℕ) (good : Bool) (s : State) (j m : List ℕ) (a : Account) → readMessage b .outcome ≡ Read
-    → Fit (inPhase p s) j m → Tied l (inPhase p s) j a → not (waits p) ≡ false
-    → answersIn p (entriesOf (s .entries) j) (inPhase p s) (messageIn b) ≡ true
-    → After l (answers b good) a (quietly (answeredIn p good (messageIn b) (inPhase p s) j) m)
-answered-in Resting l b good s j m a r f h w e = absurd (true≢false w)
-answered-in (Waiting x) l b good s j m a r f h w e =
-    record { tied = answered-tied x l good b r (inPhase (Waiting x) s) j m a f h e; lawful = tt }
-answered-in (Pending v) l b good s j m a r f h w e = absurd (true≢false w)
-answered-in Settling l b good s j m a r f h w e = absurd (true≢false w)
-answered-in Uploading l b good s j m a r f h w e = absurd (true≢false w)
+answered-in : (p : Phase) (l : ℕ) (b : List ℕ) (good : Bool) (s : State) (lent : Lent) (a : Account) → readMessage b .outcome ≡ Read
+    → Fit (inPhase p s) lent → Tied l (inPhase p s) (lent .journal) a → not (waits p) ≡ false
+    → answersIn p (entriesOf (s .entries) (lent .journal)) (inPhase p s) (messageIn b) ≡ true
+    → After l (answers b good) a (quietly (answeredIn p good (messageIn b) (inPhase p s) (lent .journal)) lent)
+answered-in Resting l b good s lent a r f h w e = absurd (true≢false w)
+answered-in (Waiting x) l b good s lent a r f h w e =
+    record { tied = answered-tied x l good b r (inPhase (Waiting x) s) lent a f h e; lawful = tt }
+answered-in (Pending v) l b good s lent a r f h w e = absurd (true≢false w)
+answered-in Settling l b good s lent a r f h w e = absurd (true≢false w)
+answered-in Uploading l b good s lent a r f h w e = absurd (true≢false w)
 
-answer-in : (l : ℕ) (b : List ℕ) (good : Bool) (s : State) (j m : List ℕ) (a : Account) → readMessage b .outcome ≡ Read
-    → Fit s j m → Tied l s j a → After l (answers b good) a (answerIn good (messageIn b) s j m)
-answer-in l b good s j m a r f h =
-    let rs = answerRules (messageIn b) s j in
-    judged-after l (answers b good) a (firstBroken rs) s j m (quietly (answeredIn (s .phase) good (messageIn b) s j) m) h
-    (λ z. answered-in (s .phase) l b good s j m a r f h (passed 14 rs refl z) (not-false _ (passed 22 rs refl z)))
+answer-in : (l : ℕ) (b : List ℕ) (good : Bool) (s : State) (lent : Lent) (a : Account) → readMessage b .outcome ≡ Read
+    → Fit s lent → Tied l s (lent .journal) a → After l (answers b good) a (answerIn good (messageIn b) s lent)
+answer-in l b good s lent a r f h =
+    let rs = answerRules (messageIn b) s (lent .journal) in
+    judged-after l (answers b good) a (firstBroken rs) s lent (quietly (answeredIn (s .phase) good (messageIn b) s (lent .journal)) lent) h
+    (λ z. answered-in (s .phase) l b good s lent a r f h (passed 14 rs refl z) (not-false _ (passed 22 rs refl z)))
 
-read-in : (o : Judgement) (l : ℕ) (b : List ℕ) (good : Bool) (s : State) (j m : List ℕ) (a : Account) → readMessage b .outcome ≡ o
-    → Fit s j m → Tied l s j a → After l (answers b good) a (readIn o good (messageIn b) s j m)
-read-in Read l b good s j m a r f h = answer-in l b good s j m a r f h
-read-in (Unread n) l b good s j m a r f h = refused-after l (answers b good) a n s j m h
+read-in : (o : Judgement) (l : ℕ) (b : List ℕ) (good : Bool) (s : State) (lent : Lent) (a : Account) → readMessage b .outcome ≡ o
+    → Fit s lent → Tied l s (lent .journal) a → After l (answers b good) a (readIn o good (messageIn b) s lent)
+read-in Read l b good s lent a r f h = answer-in l b good s lent a r f h
+read-in (Unread n) l b good s lent a r f h = refused-after l (answers b good) a n s lent h
 
-answer-after : (l : ℕ) (b : List ℕ) (good : Bool) (s : State) (j m : List ℕ) (a : Account) → Tied l s j a
-    → After l (answers b good) a (answer b good s j m)
+answer-after : (l : ℕ) (b : List ℕ) (good : Bool) (s : State) (lent : Lent) (a : Account) → Tied l s (lent .journal) a
+    → After l (answers b good) a (answer b good s lent)
 unfolding answer
-answer-after l b good s j m a h =
-    judged-after l (answers b good) a (firstBroken (rules12 s j m)) s j m
-    (readIn (readMessage b .outcome) good (readMessage b .message) s j m) h
-    (λ z. read-in (readMessage b .outcome) l b good s j m a refl (fit s j m z) h)
+answer-after l b good s lent a h =
+    judged-after l (answers b good) a (firstBroken (rules12 s lent)) s lent
+    (readIn (readMessage b .outcome) good (readMessage b .message) s lent) h
+    (λ z. read-in (readMessage b .outcome) l b good s lent a refl (fit s lent z) h)
 
 -- any call
-pub call-after : (e : Event) (l : ℕ) (s : State) (j m : List ℕ) (a : Account) → EventShaped e → Tied l s j a → After l e a (call e s j m)
-call-after (signed-on batch) l s j m a w h = signed-after l batch s j m a h
-call-after (starts d) l s j m a w h = start-after l d s j m a h (w .0) (w .1)
-call-after (answers b good) l s j m a w h = answer-after l b good s j m a h
-call-after no-answer l s j m a w h = silence-after l s j m a h
-call-after power-returned l s j m a w h = power-after l s j m a h
-call-after send-reversal l s j m a w h = reverse-after l s j m a h
-call-after settles l s j m a w h = settle-after l s j m a h
-call-after send-next-upload l s j m a w h = upload-after l s j m a h
+pub call-after : (e : Event) (l : ℕ) (s : State) (lent : Lent) (a : Account) → EventShaped e → Tied l s (lent .journal) a → After l e a (call e s lent)
+call-after (signed-on batch) l s lent a w h = signed-after l batch s lent a h
+call-after (starts d) l s lent a w h = start-after l d s lent a h (w .0) (w .1)
+call-after (answers b good) l s lent a w h = answer-after l b good s lent a h
+call-after no-answer l s lent a w h = silence-after l s lent a h
+call-after power-returned l s lent a w h = power-after l s lent a h
+call-after send-reversal l s lent a w h = reverse-after l s lent a h
+call-after settles l s lent a w h = settle-after l s lent a h
+call-after send-next-upload l s lent a w h = upload-after l s lent a h

@@ -31,7 +31,7 @@ use Rattle.journal.specs.declared.Found.{Found}
 use Rattle.journal.specs.declared.Found.the-variants.{At, Nowhere}
 use Rattle.state.specs.State.{fresh}
 use Rattle.checks.specs.Checks.{Rule, firstBroken}
-use Rattle.state.specs.Calls.{Result, judged, refused}
+use Rattle.state.specs.Calls.{Lent, lend, withMessage, Result, judged, refused}
 use Rattle.state.specs.declared.Outcome.{Outcome}
 use Rattle.state.specs.declared.Outcome.the-variants.{Send, Quiet, Refused}
 use Rattle.state.specs.declared.Phase.{Phase}
@@ -187,85 +187,85 @@ first-above (r ∷ rs) w h =
     go true l ih h = l
     go false l ih h = ih h
 
-module _ (s : State) (j m : List ℕ) (ready : Ready s j m) where
+module _ (s : State) (lent : Lent) (ready : Ready s lent) where
   -- rules 1 and 2 pass, and the others are asked
-  rules12-pass : (qs : List Rule) → firstBroken (rules12 s j m ++ qs) ≡ firstBroken qs
+  rules12-pass : (qs : List Rule) → firstBroken (rules12 s lent ++ qs) ≡ firstBroken qs
   unfolding firstBroken
   rules12-pass qs = rw (ready .long, ready .order)
 
   judged-above : (qs : List Rule) (done : Result) → allAbove qs ≡ true → Above (done .outcome)
-      → Above (judged (firstBroken (rules12 s j m ++ qs)) s j m done .outcome)
+      → Above (judged (firstBroken (rules12 s lent ++ qs)) s lent done .outcome)
   unfolding judged
   judged-above qs done w h = rw (rules12-pass qs) (go (eqb (firstBroken qs) 0) refl)
     where
-      go : (b : Bool) → eqb (firstBroken qs) 0 ≡ b → Above (cond b done (refused (firstBroken qs) s j m) .outcome)
+      go : (b : Bool) → eqb (firstBroken qs) 0 ≡ b → Above (cond b done (refused (firstBroken qs) s lent) .outcome)
       go true e = h
       go false e = first-above qs w (eqb-false (firstBroken qs) 0 e)
 
 -- what a call does once its rules have passed
-send-above : (p : Phase) (s : State) (j m : List ℕ) → Above (sendFrom p s j m .outcome)
-send-above Resting s j m = tt
-send-above (Waiting a) s j m = tt
-send-above (Pending v) s j m = tt
-send-above Settling s j m = tt
-send-above Uploading s j m = tt
+send-above : (p : Phase) (s : State) (lent : Lent) → Above (sendFrom p s lent .outcome)
+send-above Resting s lent = tt
+send-above (Waiting a) s lent = tt
+send-above (Pending v) s lent = tt
+send-above Settling s lent = tt
+send-above Uploading s lent = tt
 
-next-above : (f : Found) (s : State) (j m : List ℕ) → Above (sendsNext f s j m .outcome)
-next-above (At i) s j m = tt
-next-above Nowhere s j m = tt
+next-above : (f : Found) (s : State) (lent : Lent) → Above (sendsNext f s lent .outcome)
+next-above (At i) s lent = tt
+next-above Nowhere s lent = tt
 
-upload-above : (p : Phase) (s : State) (j m : List ℕ) → Above (uploadFrom p s j m .outcome)
-upload-above Resting s j m = tt
-upload-above (Waiting a) s j m = tt
-upload-above (Pending v) s j m = tt
-upload-above Settling s j m = tt
-upload-above Uploading s j m = next-above (nextDue (due Uploading) (entriesOf (s .entries) j)) s j m
+upload-above : (p : Phase) (s : State) (lent : Lent) → Above (uploadFrom p s lent .outcome)
+upload-above Resting s lent = tt
+upload-above (Waiting a) s lent = tt
+upload-above (Pending v) s lent = tt
+upload-above Settling s lent = tt
+upload-above Uploading s lent = next-above (nextDue (due Uploading) (entriesOf (s .entries) (lent .journal))) s lent
 
-answer-above : (good : Bool) (a : Message) (s : State) (j m : List ℕ) → Above (answerIn good a s j m .outcome)
+answer-above : (good : Bool) (a : Message) (s : State) (lent : Lent) → Above (answerIn good a s lent .outcome)
 unfolding judged
-answer-above good a s j m = go (eqb (firstBroken (answerRules a s j)) 0) refl
+answer-above good a s lent = go (eqb (firstBroken (answerRules a s (lent .journal))) 0) refl
   where
-    go : (b : Bool) → eqb (firstBroken (answerRules a s j)) 0 ≡ b
-        → Above (cond b (quietly (answeredIn (s .phase) good a s j) m) (refused (firstBroken (answerRules a s j)) s j m) .outcome)
+    go : (b : Bool) → eqb (firstBroken (answerRules a s (lent .journal))) 0 ≡ b
+        → Above (cond b (quietly (answeredIn (s .phase) good a s (lent .journal)) lent) (refused (firstBroken (answerRules a s (lent .journal))) s lent) .outcome)
     go true e = tt
-    go false e = first-above (answerRules a s j) refl (eqb-false (firstBroken (answerRules a s j)) 0 e)
+    go false e = first-above (answerRules a s (lent .journal)) refl (eqb-false (firstBroken (answerRules a s (lent .journal))) 0 e)
 
-read-above : (o : Judgement) → JudgementAbove o → (good : Bool) (a : Message) (s : State) (j m : List ℕ)
-    → Above (readIn o good a s j m .outcome)
-read-above Read h good a s j m = answer-above good a s j m
-read-above (Unread n) h good a s j m = h
+read-above : (o : Judgement) → JudgementAbove o → (good : Bool) (a : Message) (s : State) (lent : Lent)
+    → Above (readIn o good a s lent .outcome)
+read-above Read h good a s lent = answer-above good a s lent
+read-above (Unread n) h good a s lent = h
 
 -- a call of a terminal in order is not refused by 1 or 2
-call-above : (e : Event) (s : State) (j m : List ℕ) → Ready s j m → Above (call e s j m .outcome)
+call-above : (e : Event) (s : State) (lent : Lent) → Ready s lent → Above (call e s lent .outcome)
 unfolding signedOn start answer noAnswer powerReturned sendReversal settle sendNextUpload
-call-above (signed-on batch) s j m h = judged-above s j m h (drop 2 (signedOnRules batch s j m)) _ refl tt
-call-above (starts d) s j m h =
-    let es = entriesOf (s .entries) j in
-    judged-above s j m h (drop 2 (startRules d s es (entryOf (originalOf d es) es) j m)) _ refl tt
-call-above (answers b good) s j m h =
-    judged-above s j m h [] (readIn (readMessage b .outcome) good (readMessage b .message) s j m) refl
-    (read-above (readMessage b .outcome) (reading-above b) good (readMessage b .message) s j m)
-call-above no-answer s j m h = judged-above s j m h (drop 2 (noAnswerRules s j m)) _ refl tt
-call-above power-returned s j m h = judged-above s j m h [] _ refl tt
-call-above send-reversal s j m h =
-    judged-above s j m h (drop 2 (sendReversalRules s j m)) (sendFrom (s .phase) s j m) refl (send-above (s .phase) s j m)
-call-above settles s j m h = judged-above s j m h (drop 2 (settleRules s j m)) _ refl tt
-call-above send-next-upload s j m h =
-    judged-above s j m h (drop 2 (sendNextUploadRules s j m)) (uploadFrom (s .phase) s j m) refl (upload-above (s .phase) s j m)
+call-above (signed-on batch) s lent h = judged-above s lent h (drop 2 (signedOnRules batch s lent)) _ refl tt
+call-above (starts d) s lent h =
+    let es = entriesOf (s .entries) (lent .journal) in
+    judged-above s lent h (drop 2 (startRules d s es (entryOf (originalOf d es) es) lent)) _ refl tt
+call-above (answers b good) s lent h =
+    judged-above s lent h [] (readIn (readMessage b .outcome) good (readMessage b .message) s lent) refl
+    (read-above (readMessage b .outcome) (reading-above b) good (readMessage b .message) s lent)
+call-above no-answer s lent h = judged-above s lent h (drop 2 (noAnswerRules s lent)) _ refl tt
+call-above power-returned s lent h = judged-above s lent h [] _ refl tt
+call-above send-reversal s lent h =
+    judged-above s lent h (drop 2 (sendReversalRules s lent)) (sendFrom (s .phase) s lent) refl (send-above (s .phase) s lent)
+call-above settles s lent h = judged-above s lent h (drop 2 (settleRules s lent)) _ refl tt
+call-above send-next-upload s lent h =
+    judged-above s lent h (drop 2 (sendNextUploadRules s lent)) (uploadFrom (s .phase) s lent) refl (upload-above (s .phase) s lent)
 
 -- with any message buffer that has room
 abbrev AlwaysReady : Run → Type 0
-AlwaysReady r = (m : List ℕ) → largest ≤ length m → Ready (r .state) (r .journal) m
+AlwaysReady r = (m : List ℕ) → largest ≤ length m → Ready (r .state) (lend (r .journal) m)
 
-ready-again : (s : State) (j m n : List ℕ) → Ready s j m → largest ≤ length n → Ready s j n
-ready-again s j m n h l =
-    let f = ready-fits s j m h in
-    fit-ready s j n (record { message-room = l; journal-room = f .journal-room; order = f .order })
+ready-again : (s : State) (lent : Lent) (n : List ℕ) → Ready s lent → largest ≤ length n → Ready s (withMessage n lent)
+ready-again s lent n h l =
+    let f = ready-fits s lent h in
+    fit-ready s (withMessage n lent) (record { message-room = l; journal-room = f .journal-room; order = f .order })
 
-fresh-fits : (x : Settings) (j m : List ℕ) → settingsInForm x ≡ true → entrySize * x .limit ≤ length j → largest ≤ length m
-    → Fit (fresh x) j m
+fresh-fits : (x : Settings) (lent : Lent) → settingsInForm x ≡ true → entrySize * x .limit ≤ length (lent .journal) → largest ≤ length (lent .message)
+    → Fit (fresh x) lent
 unfolding sumsOf
-fresh-fits x j m f r l =
+fresh-fits x lent f r l =
     record {
       message-room = l;
       journal-room = r;
@@ -313,11 +313,11 @@ given-above (Refused n) m h = (λ e. let z : n ≡ 1 = cc in omega arith, λ e. 
 runs-fit : (ts : List Invocation) (r : Run) → BuffersSuffice ts → AlwaysReady r → Each NotUnfit (r .history) → Each NotUnfit (runs ts r .history)
 runs-fit [] r w h g = g
 runs-fit (t ∷ ts) r w h g =
-    let q = call (t .event) (r .state) (r .journal) (t .message) in
+    let q = call (t .event) (r .state) (lend (r .journal) (t .message)) in
     let p = h (t .message) (w .0) in
-    let k = keeping (t .event) (r .state) (r .journal) (t .message) p in
-    runs-fit ts (recorded t r q) (w .1) (λ m l. ready-again (q .state) (q .journal) (q .message) m k l)
-    (given-above (q .outcome) (q .message) (call-above (t .event) (r .state) (r .journal) (t .message) p), g)
+    let k = keeping (t .event) (r .state) (lend (r .journal) (t .message)) p in
+    runs-fit ts (recorded t r q) (w .1) (λ m l. ready-again (q .state) (q .lent) m k l)
+    (given-above (q .outcome) (q .lent .message) (call-above (t .event) (r .state) (lend (r .journal) (t .message)) p), g)
 
 pub never-first-refusal : NeverRefusedByRules12
-never-first-refusal x j ts f r w = runs-fit ts (begun x j) w (λ m l. fit-ready (fresh x) j m (fresh-fits x j m f r l)) tt
+never-first-refusal x j ts f r w = runs-fit ts (begun x j) w (λ m l. fit-ready (fresh x) (lend j m) (fresh-fits x (lend j m) f r l)) tt

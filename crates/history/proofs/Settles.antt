@@ -25,6 +25,7 @@ use Rattle.state.specs.declared.Phase.the-variants.{Resting, Waiting, Pending, 
 use Rattle.state.specs.declared.Settings.{Settings}
 use Rattle.state.specs.declared.State.{State}
 use Rattle.state.specs.State.{inPhase}
+use Rattle.state.specs.Calls.{Lent}
 use Rattle.checks.specs.Checks.{firstBroken}
 use Rattle.checks.proofs.Choices.{passed}
 use Rattle.rules.specs.Rules.{due}
@@ -49,8 +50,8 @@ use Rattle.history.proofs.Tied.{Tied}
 use Rattle.history.proofs.After.{LawfulMessage, After, refused-after, judged-after, no, sent-other, idle}
 use Rattle.history.proofs.Starts.{fit-first}
 
-settings-held : (l : ℕ) (s : State) (j m : List ℕ) (a : Account) → Tied l s j a → Fit s j m → SettingsHeld (s .settings)
-settings-held l s j m a h f =
+settings-held : (l : ℕ) (s : State) (lent : Lent) (a : Account) → Tied l s (lent .journal) a → Fit s lent → SettingsHeld (s .settings)
+settings-held l s lent a h f =
     record {
       terminal-length = h .kept .shaped .terminal-length;
       merchant-length = h .kept .shaped .merchant-length;
@@ -59,11 +60,11 @@ settings-held l s j m a h f =
     }
 
 -- field 48 has room for the totals of a journal in order
-sayable : (s : State) (j m : List ℕ) → Fit s j m → Sayable (totalsOf (entriesOf (s .entries) j))
+sayable : (s : State) (lent : Lent) → Fit s lent → Sayable (totalsOf (entriesOf (s .entries) (lent .journal)))
 unfolding sumsOf
-sayable s j m f =
-    let es = entriesOf (s .entries) j in
-    let n = length-entries-le (s .entries) j in
+sayable s lent f =
+    let es = entriesOf (s .entries) (lent .journal) in
+    let n = length-entries-le (s .entries) (lent .journal) in
     let k = f .order .state .few in
     let x = f .order .state .settings .limit-most in
     record {
@@ -111,24 +112,24 @@ module _ (l : ℕ) (s : State) (j : List ℕ) (a : Account) (h : Tied l s j a) (
         reversals = no (t .is-reversal);
       }
 
-pub settle-after : (l : ℕ) (s : State) (j m : List ℕ) (a : Account) → Tied l s j a → After l settles a (settle s j m)
+pub settle-after : (l : ℕ) (s : State) (lent : Lent) (a : Account) → Tied l s (lent .journal) a → After l settles a (settle s lent)
 unfolding settle
-settle-after l s j m a h =
-    let es = entriesOf (s .entries) j in
+settle-after l s lent a h =
+    let es = entriesOf (s .entries) (lent .journal) in
     let t = totalsOf es in
-    let rs = settleRules s j m in
+    let rs = settleRules s lent in
     let trace : Trace = record { 0 = taken es (s .next .0) } in
-    judged-after l settles a (firstBroken rs) s j m _ h
+    judged-after l settles a (firstBroken rs) s lent _ h
     (λ z.
-    let f = fit-first s j m _ refl z in
-    let w = settlement-settles (s .settings) (s .batch) m (f .message-room) (f .order .state .batch-most) trace t
-    (settings-held l s j m a h f) (sayable s j m f) in
+    let f = fit-first s lent _ refl z in
+    let w = settlement-settles (s .settings) (s .batch) (lent .message) (f .message-room) (f .order .state .batch-most) trace t
+    (settings-held l s lent a h f) (sayable s lent f) in
     let done = idle l (s .settings) (s .batch) a (s .phase) (passed 11 rs refl z) (passed 12 rs refl z) (h .shape) in
-    let b = handedOut (messageBytes (settlementMessage (s .settings) (s .batch) trace t)) m in
+    let b = handedOut (messageBytes (settlementMessage (s .settings) (s .batch) trace t)) (lent .message) in
     record {
-      tied = settlement-tied l s j a h done b trace (w .said);
+      tied = settlement-tied l s (lent .journal) a h done b trace (w .said);
       lawful =
-          settlement-lawful l s j a h done b (settlement-typed (messageIn b) (w .said .indicator))
+          settlement-lawful l s (lent .journal) a h done b (settlement-typed (messageIn b) (w .said .indicator))
           (carries w (h .kept .books .summed));
     })
 
@@ -156,35 +157,35 @@ entry-held n i j f =
       authorisation-printable = f .authorisation-printable;
     }
 
-module _ (l : ℕ) (s : State) (j m : List ℕ) (a : Account) (h : Tied l (inPhase Uploading s) j a) (f : Fit (inPhase Uploading s) j m) where
+module _ (l : ℕ) (s : State) (lent : Lent) (a : Account) (h : Tied l (inPhase Uploading s) (lent .journal) a) (f : Fit (inPhase Uploading s) lent) where
   held : SettingsHeld (s .settings)
-  held = settings-held l (inPhase Uploading s) j m a h f
+  held = settings-held l (inPhase Uploading s) lent a h f
 
-  item-after : (i : ℕ) → nextDue (due Uploading) (entriesOf (s .entries) j) ≡ At i → After l send-next-upload a (sendsNext (At i) (inPhase Uploading s) j m)
+  item-after : (i : ℕ) → nextDue (due Uploading) (entriesOf (s .entries) (lent .journal)) ≡ At i → After l send-next-upload a (sendsNext (At i) (inPhase Uploading s) lent)
   item-after i e =
-      let es = entriesOf (s .entries) j in
+      let es = entriesOf (s .entries) (lent .journal) in
       let x = entryAt es i in
       let k = next-at es i e in
       let g = in-form x (every-at (λ i e. inForm e) 0 es (f .order .journal .form) i (k .below)) in
-      let said = item-says (s .settings) (s .batch) m (f .message-room) (f .order .state .batch-most) x held (entry-held (s .entries) i j g)
+      let said = item-says (s .settings) (s .batch) (lent .message) (f .message-room) (f .order .state .batch-most) x held (entry-held (s .entries) i (lent .journal) g)
       (g .kind-listed) in
-      let b = handedOut (messageBytes (itemMessage (s .settings) (s .batch) x)) m in
+      let b = handedOut (messageBytes (itemMessage (s .settings) (s .batch) x)) (lent .message) in
       let t = item-typed (messageIn b) (said .indicator) (said .code-number) in
       record {
         tied =
             rw (sent-other send-next-upload (messageIn b) (a .requests) false false t)
             (record {
-              kept = rw (resent-totals (s .entries) i x j) (h .kept);
+              kept = rw (resent-totals (s .entries) i x (lent .journal)) (h .kept);
               shape = record { done = h .shape; never-closes = other-closes t };
             });
-        lawful = upload-lawful l (inPhase Uploading s) j a h (h .shape) b false t;
+        lawful = upload-lawful l (inPhase Uploading s) (lent .journal) a h (h .shape) b false t;
       }
 
-  end-after : After l send-next-upload a (sendsNext Nowhere (inPhase Uploading s) j m)
+  end-after : After l send-next-upload a (sendsNext Nowhere (inPhase Uploading s) lent)
   end-after =
-      let trace : Trace = record { 0 = taken (entriesOf (s .entries) j) (s .next .0) } in
-      let said = end-says (s .settings) (s .batch) m (f .message-room) (f .order .state .batch-most) trace held in
-      let b = handedOut (messageBytes (endMessage (s .settings) (s .batch) trace)) m in
+      let trace : Trace = record { 0 = taken (entriesOf (s .entries) (lent .journal)) (s .next .0) } in
+      let said = end-says (s .settings) (s .batch) (lent .message) (f .message-room) (f .order .state .batch-most) trace held in
+      let b = handedOut (messageBytes (endMessage (s .settings) (s .batch) trace)) (lent .message) in
       let t = end-typed (messageIn b) (said .indicator) (said .code-number) in
       record {
         tied =
@@ -193,23 +194,23 @@ module _ (l : ℕ) (s : State) (j m : List ℕ) (a : Account) (h : Tied l (inPha
               kept = h .kept;
               shape = record { done = h .shape; said = said };
             });
-        lawful = upload-lawful l (inPhase Uploading s) j a h (h .shape) b true t;
+        lawful = upload-lawful l (inPhase Uploading s) (lent .journal) a h (h .shape) b true t;
       }
 
-  next-after : (n : Found) → nextDue (due Uploading) (entriesOf (s .entries) j) ≡ n → After l send-next-upload a (sendsNext n (inPhase Uploading s) j m)
+  next-after : (n : Found) → nextDue (due Uploading) (entriesOf (s .entries) (lent .journal)) ≡ n → After l send-next-upload a (sendsNext n (inPhase Uploading s) lent)
   next-after (At i) e = item-after i e
   next-after Nowhere e = end-after
 
-upload-from : (p : Phase) (l : ℕ) (s : State) (j m : List ℕ) (a : Account) → Tied l (inPhase p s) j a → Fit (inPhase p s) j m
-    → After l send-next-upload a (uploadFrom p (inPhase p s) j m)
-upload-from Resting l s j m a h f = record { tied = h; lawful = tt }
-upload-from (Waiting w) l s j m a h f = record { tied = h; lawful = tt }
-upload-from (Pending v) l s j m a h f = record { tied = h; lawful = tt }
-upload-from Settling l s j m a h f = record { tied = h; lawful = tt }
-upload-from Uploading l s j m a h f = next-after l s j m a h f (nextDue (due Uploading) (entriesOf (s .entries) j)) refl
+upload-from : (p : Phase) (l : ℕ) (s : State) (lent : Lent) (a : Account) → Tied l (inPhase p s) (lent .journal) a → Fit (inPhase p s) lent
+    → After l send-next-upload a (uploadFrom p (inPhase p s) lent)
+upload-from Resting l s lent a h f = record { tied = h; lawful = tt }
+upload-from (Waiting w) l s lent a h f = record { tied = h; lawful = tt }
+upload-from (Pending v) l s lent a h f = record { tied = h; lawful = tt }
+upload-from Settling l s lent a h f = record { tied = h; lawful = tt }
+upload-from Uploading l s lent a h f = next-after l s lent a h f (nextDue (due Uploading) (entriesOf (s .entries) (lent .journal))) refl
 
-pub upload-after : (l : ℕ) (s : State) (j m : List ℕ) (a : Account) → Tied l s j a → After l send-next-upload a (sendNextUpload s j m)
+pub upload-after : (l : ℕ) (s : State) (lent : Lent) (a : Account) → Tied l s (lent .journal) a → After l send-next-upload a (sendNextUpload s lent)
 unfolding sendNextUpload
-upload-after l s j m a h =
-    judged-after l send-next-upload a (firstBroken (sendNextUploadRules s j m)) s j m (uploadFrom (s .phase) s j m) h
-    (λ z. upload-from (s .phase) l s j m a h (fit-first s j m _ refl z))
+upload-after l s lent a h =
+    judged-after l send-next-upload a (firstBroken (sendNextUploadRules s lent)) s lent (uploadFrom (s .phase) s lent) h
+    (λ z. upload-from (s .phase) l s lent a h (fit-first s lent _ refl z))

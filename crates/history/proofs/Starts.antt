@@ -16,7 +16,7 @@ use Rattle.state.specs.declared.Phase.the-variants.{Resting, Waiting, Pending, 
 use Rattle.state.specs.declared.State.{State}
 use Rattle.state.specs.State.{inPhase}
 use Rattle.checks.specs.Checks.{Rule, firstBroken}
-use Rattle.state.specs.Calls.{judged}
+use Rattle.state.specs.Calls.{Lent, judged}
 use Rattle.checks.proofs.Choices.{numbered, passed}
 use Rattle.rules.specs.Rules.{tooShort, keepsRule2, rules12}
 use Rattle.state_rules.specs.StateRules.{requestInForm}
@@ -44,13 +44,13 @@ use Rattle.history.proofs.Tied.{reversal-latest, Tied, one-reversing}
 use Rattle.history.proofs.After.{LawfulMessage, After, refused-after, judged-after, no, sent-request, sent-reversal, idle}
 
 -- rules 1 and 2 have passed where no rule of a call is broken
-pub fit-first : (s : State) (j m : List ℕ) (rs : List Rule) → numbered (rules12 s j m ++ rs) ≡ true
-    → firstBroken (rules12 s j m ++ rs) ≡ 0 → Fit s j m
+pub fit-first : (s : State) (lent : Lent) (rs : List Rule) → numbered (rules12 s lent ++ rs) ≡ true
+    → firstBroken (rules12 s lent ++ rs) ≡ 0 → Fit s lent
 unfolding firstBroken
-fit-first s j m rs n z =
-    let a : tooShort s j m ≡ false = passed 1 (rules12 s j m ++ rs) n z in
-    let b : not (keepsRule2 s (entriesOf (s .entries) j)) ≡ false = passed 2 (rules12 s j m ++ rs) n z in
-    fit s j m (rw (a, b))
+fit-first s lent rs n z =
+    let a : tooShort s lent ≡ false = passed 1 (rules12 s lent ++ rs) n z in
+    let b : not (keepsRule2 s (entriesOf (s .entries) (lent .journal))) ≡ false = passed 2 (rules12 s lent ++ rs) n z in
+    fit s lent (rw (a, b))
 
 -- a request leaves a terminal at which none waits
 module _ (l : ℕ) (e : Event) (s : State) (j : List ℕ) (a : Account) (q : Asked) (b : List ℕ) (h : Tied l s j a)
@@ -92,39 +92,39 @@ module _ (l : ℕ) (e : Event) (s : State) (j : List ℕ) (a : Account) (q : Ask
         reversals = no (t .is-reversal);
       }
 
-module _ (l : ℕ) (d : Desk) (s : State) (j m : List ℕ) (a : Account) (h : Tied l s j a) (authorisation : length (d .authorisation) ≡ 6)
+module _ (l : ℕ) (d : Desk) (s : State) (lent : Lent) (a : Account) (h : Tied l s (lent .journal) a) (authorisation : length (d .authorisation) ≡ 6)
     (reference : length (d .reference) ≡ 12) where
-  request-form : (let es = entriesOf (s .entries) j in let e = entryOf (originalOf d es) es in
-      firstBroken (startRules d s es e j m) ≡ 0 → Fit s j m → requestInForm (requestOf d e (taken es (s .next .0))) ≡ true)
+  request-form : (let es = entriesOf (s .entries) (lent .journal) in let e = entryOf (originalOf d es) es in
+      firstBroken (startRules d s es e lent) ≡ 0 → Fit s lent → requestInForm (requestOf d e (taken es (s .next .0))) ≡ true)
   unfolding start judged
-  request-form z f = (rw z at (start-fits d s j m f)) .order .state .phase-form
+  request-form z f = (rw z at (start-fits d s lent f)) .order .state .phase-form
 
-  pub start-after : After l (starts d) a (start d s j m)
+  pub start-after : After l (starts d) a (start d s lent)
   unfolding start
   start-after =
-      let es = entriesOf (s .entries) j in
+      let es = entriesOf (s .entries) (lent .journal) in
       let e = entryOf (originalOf d es) es in
       let q = requestOf d e (taken es (s .next .0)) in
       let o = namedBy d (s .batch) e in
-      let rs = startRules d s es e j m in
-      judged-after l (starts d) a (firstBroken rs) s j m _ h
+      let rs = startRules d s es e lent in
+      judged-after l (starts d) a (firstBroken rs) s lent _ h
       (λ z.
-      let u = unbroken d s e j m z in
-      let w = may-send d s j m (h .kept .shaped .terminal-length) (h .kept .shaped .merchant-length) reference authorisation
+      let u = unbroken d s e lent z in
+      let w = may-send d s lent (h .kept .shaped .terminal-length) (h .kept .shaped .merchant-length) reference authorisation
       (taken es (s .next .0)) u in
       let f = u .fits in
-      let asks = request-asks (s .settings) (s .batch) m (f .message-room) (f .order .state .batch-most) q o (w .card) (w .original)
+      let asks = request-asks (s .settings) (s .batch) (lent .message) (f .message-room) (f .order .state .batch-most) q o (w .card) (w .original)
       (request-holds q (request-form z f)) in
       let done = idle l (s .settings) (s .batch) a (s .phase) (passed 11 rs refl z) (passed 12 rs refl z) (h .shape) in
-      let b = handedOut (messageBytes (requestMessage (s .settings) (s .batch) q o)) m in
+      let b = handedOut (messageBytes (requestMessage (s .settings) (s .batch) q o)) (lent .message) in
       record {
-        tied = request-tied l (starts d) s j a q b h done asks;
-        lawful = request-lawful l (starts d) s j a q b h done asks;
+        tied = request-tied l (starts d) s (lent .journal) a q b h done asks;
+        lawful = request-lawful l (starts d) s (lent .journal) a q b h done asks;
       })
 
 -- a pending reversal leaves
-module _ (l : ℕ) (s : State) (j m : List ℕ) (a : Account) (v : Reversal) (h : Tied l (inPhase (Pending v) s) j a)
-    (f : Fit (inPhase (Pending v) s) j m) where
+module _ (l : ℕ) (s : State) (lent : Lent) (a : Account) (v : Reversal) (h : Tied l (inPhase (Pending v) s) (lent .journal) a)
+    (f : Fit (inPhase (Pending v) s) lent) where
   card-held : CardHeld (s .settings) (v .request)
   card-held =
       let w = reversal-holds v (f .order .state .phase-form) in
@@ -142,7 +142,7 @@ module _ (l : ℕ) (s : State) (j m : List ℕ) (a : Account) (v : Reversal) (h 
   few-more = let k = ltb-true (v .sendings) (s .settings .sendings) (f .order .phase-kept) in let t = h .kept .sendings-set in omega arith
 
   reversal-tied : (b : List ℕ) → Says (s .settings) (s .batch) (v .request .trace) 0x0400 (v .request .kind) 0 (messageIn b)
-      → Tied l (inPhase (Waiting (awaited.Reversal (again v))) s) j (whenGiven l (sent b) send-reversal a)
+      → Tied l (inPhase (Waiting (awaited.Reversal (again v))) s) (lent .journal) (whenGiven l (sent b) send-reversal a)
   reversal-tied b said =
       let d = h .shape in
       let t = reversal-typed (messageIn b) (said .indicator) in
@@ -182,24 +182,24 @@ module _ (l : ℕ) (s : State) (j m : List ℕ) (a : Account) (v : Reversal) (h 
         reversals = λ x. one-reversing l a pending (v .sendings) refl (h .shape);
       }
 
-  reversal-after : After l send-reversal a (sendFrom (Pending v) (inPhase (Pending v) s) j m)
+  reversal-after : After l send-reversal a (sendFrom (Pending v) (inPhase (Pending v) s) lent)
   reversal-after =
-      let said = reversal-says (s .settings) (s .batch) m (f .message-room) (f .order .state .batch-most) (again v) card-held
+      let said = reversal-says (s .settings) (s .batch) (lent .message) (f .message-room) (f .order .state .batch-most) (again v) card-held
       (reversal-holds v (f .order .state .phase-form)) in
-      let b = handedOut (messageBytes (reversalMessage (s .settings) (s .batch) (again v))) m in
+      let b = handedOut (messageBytes (reversalMessage (s .settings) (s .batch) (again v))) (lent .message) in
       record { tied = reversal-tied b said; lawful = reversal-lawful b (reversal-typed (messageIn b) (said .indicator)) }
 
-send-from : (p : Phase) (l : ℕ) (s : State) (j m : List ℕ) (a : Account) → Tied l (inPhase p s) j a → Fit (inPhase p s) j m
-    → After l send-reversal a (sendFrom p (inPhase p s) j m)
-send-from Resting l s j m a h f = record { tied = h; lawful = tt }
-send-from (Waiting w) l s j m a h f = record { tied = h; lawful = tt }
-send-from (Pending v) l s j m a h f = reversal-after l s j m a v h f
-send-from Settling l s j m a h f = record { tied = h; lawful = tt }
-send-from Uploading l s j m a h f = record { tied = h; lawful = tt }
+send-from : (p : Phase) (l : ℕ) (s : State) (lent : Lent) (a : Account) → Tied l (inPhase p s) (lent .journal) a → Fit (inPhase p s) lent
+    → After l send-reversal a (sendFrom p (inPhase p s) lent)
+send-from Resting l s lent a h f = record { tied = h; lawful = tt }
+send-from (Waiting w) l s lent a h f = record { tied = h; lawful = tt }
+send-from (Pending v) l s lent a h f = reversal-after l s lent a v h f
+send-from Settling l s lent a h f = record { tied = h; lawful = tt }
+send-from Uploading l s lent a h f = record { tied = h; lawful = tt }
 
-pub reverse-after : (l : ℕ) (s : State) (j m : List ℕ) (a : Account) → Tied l s j a → After l send-reversal a (sendReversal s j m)
+pub reverse-after : (l : ℕ) (s : State) (lent : Lent) (a : Account) → Tied l s (lent .journal) a → After l send-reversal a (sendReversal s lent)
 unfolding sendReversal
-reverse-after l s j m a h =
-    let rs = sendReversalRules s j m in
-    judged-after l send-reversal a (firstBroken rs) s j m (sendFrom (s .phase) s j m) h
-    (λ z. send-from (s .phase) l s j m a h (fit-first s j m _ refl z))
+reverse-after l s lent a h =
+    let rs = sendReversalRules s lent in
+    judged-after l send-reversal a (firstBroken rs) s lent (sendFrom (s .phase) s lent) h
+    (λ z. send-from (s .phase) l s lent a h (fit-first s lent _ refl z))

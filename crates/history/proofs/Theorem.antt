@@ -5,6 +5,7 @@ use mathlib.Core.Bool.{Bool, true}
 use Prim.Native.Nat.{ℕ, _≤_}
 use Rattle.message.specs.declared.Message.{Message}
 use Rattle.state.specs.declared.Settings.{Settings}
+use Rattle.state.specs.Calls.{lend}
 use Rattle.terminal.specs.Events.{call}
 use Rattle.terminal.specs.Shapes.{SettingsShaped, EventShaped}
 use Rattle.history.specs.Words.{messageIn, isRequest, isReversal, isSettlement}
@@ -27,9 +28,9 @@ begun-holds x j w =
     record { tied = record { kept = record { sendings-set = refl; shaped = w; books = no-books }; shape = tt }; lawful = tt; limited = tt }
 
 one-holds : (l : ℕ) (t : Invocation) (r : Run) → EventShaped (t .event) → Holds l r
-    → Holds l (recorded t r (call (t .event) (r .state) (r .journal) (t .message)))
+    → Holds l (recorded t r (call (t .event) (r .state) (lend (r .journal) (t .message))))
 one-holds l t r w h =
-    let k = call-after (t .event) l (r .state) (r .journal) (t .message) (account l (r .history)) w (h .tied) in
+    let k = call-after (t .event) l (r .state) (lend (r .journal) (t .message)) (account l (r .history)) w (h .tied) in
     record { tied = k .tied; lawful = (k .lawful, h .lawful); limited = (bounded (k .tied) .few, h .limited) }
 
 all-hold : (ts : List Invocation) (l : ℕ) (r : Run) → InvocationsShaped ts → Holds l r → Holds l (runs ts r)

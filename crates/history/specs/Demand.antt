@@ -9,7 +9,7 @@ use Rattle.message.specs.declared.Message.{Message}
 use Rattle.parts.specs.Parts.{partOf}
 use Rattle.parts.specs.declared.Part.the-variants as part
 use Rattle.state.specs.State.{fresh}
-use Rattle.state.specs.Calls.{Result}
+use Rattle.state.specs.Calls.{lend, Result}
 use Rattle.state.specs.declared.Counts.{Counts}
 use Rattle.state.specs.declared.Outcome.{Outcome}
 use Rattle.state.specs.declared.Outcome.the-variants.{Send, Quiet, Refused}
@@ -40,13 +40,13 @@ givenBy (Refused n) m = refused n
 abbrev pub recorded : Invocation → Run → Result → Run
 recorded t r q =
     record {
-      state = q .state; journal = q .journal;
-      history = record { event = t .event; given = givenBy (q .outcome) (q .message) } ∷ r .history }
+      state = q .state; journal = q .lent .journal;
+      history = record { event = t .event; given = givenBy (q .outcome) (q .lent .message) } ∷ r .history }
 
 -- each call gets the terminal and journal as the last one left them
 abbrev pub runs : List Invocation → Run → Run
 runs [] r = r
-runs (t ∷ ts) r = runs ts (recorded t r (call (t .event) (r .state) (r .journal) (t .message)))
+runs (t ∷ ts) r = runs ts (recorded t r (call (t .event) (r .state) (lend (r .journal) (t .message))))
 
 -- a fresh terminal of any settings, with any journal lent
 abbrev pub begun : Settings → List ℕ → Run

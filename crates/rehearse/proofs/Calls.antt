@@ -12,7 +12,7 @@ use Rattle.message.specs.declared.Message.{Message}
 use Rattle.writing.specs.Writing.{WriteResult as Writes, messageBytes, messageFault, written, writeMessage}
 use Rattle.writing.specs.declared.Writing.the-variants.{Written, Refused}
 use Rattle.outgoing.specs.Outgoing.{lengthOf}
-use Rattle.state.specs.Calls.{Result}
+use Rattle.state.specs.Calls.{Lent, Result}
 use Rattle.terminal.specs.Terminal.{stepResult}
 use Rattle.terminal.specs.declared.Step.{Step}
 use Rattle.texts.specs.Text.{Text}
@@ -23,15 +23,14 @@ use Rattle.rehearse.specs.Rehearsal.{Did, resulted, bytesOf}
 use Rattle.rehearse.specs.declared.commands.Acted.{Acted}
 
 -- what a method gave, and what was told of it, is what the call does
-pub did : (r : Rehearsal) (s : Step) {q : Result} {a : Acted} {j m o : List ℕ} → stepResult s j m ≡ q
-    → (a .rehearsal ≡ afterCall (s .outcome) (s .terminal .state) r) × Text (outcomeLine (s .outcome) m) (a .written) o
-    → Did (resulted q r) a j m o
-did r s {q} {a} {j} {m} {o} e h =
+pub did : (r : Rehearsal) (s : Step) {q : Result} {a : Acted} {lent : Lent} {o : List ℕ} → stepResult s lent ≡ q
+    → (a .rehearsal ≡ afterCall (s .outcome) (s .terminal .state) r) × Text (outcomeLine (s .outcome) (lent .message)) (a .written) o
+    → Did (resulted q r) a lent o
+did r s {q} {a} {lent} {o} e h =
     record {
       rehearsal-is = h .0 ∙ ap (λ (x : Result). afterCall (x .outcome) (x .state) r) e;
-      journal-is = ap (λ (x : Result). x .journal) e;
-      message-is = ap (λ (x : Result). x .message) e;
-      text-is = subst (λ (x : Result). Text (outcomeLine (x .outcome) (x .message)) (a .written) o) e (h .1);
+      lent-is = ap (λ (x : Result). x .lent) e;
+      text-is = subst (λ (x : Result). Text (outcomeLine (x .outcome) (x .lent .message)) (a .written) o) e (h .1);
     }
 
 -- a message that is written, or not, into a buffer that has room for any

@@ -12,6 +12,7 @@ use lib.Seq.{take-at}
 use borrow.Author.Tests.{eq-eqb, ne-eqb}
 use Rattle.message.specs.declared.Message.{Message}
 use Rattle.state.specs.declared.Settings.{Settings}
+use Rattle.state.specs.Calls.{Lent}
 use Rattle.hexadecimal.specs.Hexadecimal.{isHex, fromHex}
 use Rattle.hexadecimal.specs.Outcome.{hexOutcome, hexStored}
 use Rattle.hexadecimal.specs.declared.Hex.{Hex}
@@ -46,13 +47,13 @@ use Rattle.rehearse.specs.Commands.{fieldsText, shown, faultText, bytesI
 use Rattle.rehearse.specs.Asked.{errorAfter, callOr, askedBy, changedBy, answerBytes, saidBy, said}
 
 -- a line that only writes
-pub wrote : {a : Acted} {r : Rehearsal} {w o : List ℕ} (j m : List ℕ) → a .rehearsal ≡ r → Text w (a .written) o
-    → Did (writes w r j m) a j m o
-wrote j m e t = record { rehearsal-is = e; journal-is = refl; message-is = refl; text-is = t }
+pub wrote : {a : Acted} {r : Rehearsal} {w o : List ℕ} (lent : Lent) → a .rehearsal ≡ r → Text w (a .written) o
+    → Did (writes w r lent) a lent o
+wrote lent e t = record { rehearsal-is = e; lent-is = refl; text-is = t }
 
 -- what is shown where x is k
-pub shows : {n : ℕ} {o : List ℕ} {x k : Show} (r : Rehearsal) (j m : List ℕ) → x ≡ k → Text (shown k r j m) n o → Text (shown x r j m) n o
-shows {n} {o} r j m e t = subst (λ (y : Show). Text (shown y r j m) n o) (sym e) t
+pub shows : {n : ℕ} {o : List ℕ} {x k : Show} (r : Rehearsal) (lent : Lent) → x ≡ k → Text (shown k r lent) n o → Text (shown x r lent) n o
+shows {n} {o} r lent e t = subst (λ (y : Show). Text (shown y r lent) n o) (sym e) t
 
 -- the last message that left is q
 module _ (b : List ℕ) {q l : List ℕ} {n : ℕ} (e : q ≡ b) where
@@ -107,31 +108,31 @@ word-answers (Date d) w m date h = refl
 word-answers (Shows y) w m date h = refl
 word-answers (Wrong f) w m date h = refl
 
-says-nothing : (k : Command) (number : ℕ) (r : Rehearsal) (j m : List ℕ) → OneOf (0 ∷ 1 ∷ 2 ∷ 3 ∷ 4 ∷ []) (tagOf command.the-type k)
-    → saidBy k number r j m ≡ []
-says-nothing Terminal number r j m h = refl
-says-nothing (Calls c) number r j m h = refl
-says-nothing (Reply a b good) number r j m h = refl
-says-nothing (Reconcile digit) number r j m h = refl
-says-nothing (Date d) number r j m h = refl
-says-nothing (Shows y) number r j m h = absurd (miss (0 ∷ 1 ∷ 2 ∷ 3 ∷ 4 ∷ []) 5 tt h)
-says-nothing (Wrong f) number r j m h = absurd (miss (0 ∷ 1 ∷ 2 ∷ 3 ∷ 4 ∷ []) 6 tt h)
+says-nothing : (k : Command) (number : ℕ) (r : Rehearsal) (lent : Lent) → OneOf (0 ∷ 1 ∷ 2 ∷ 3 ∷ 4 ∷ []) (tagOf command.the-type k)
+    → saidBy k number r lent ≡ []
+says-nothing Terminal number r lent h = refl
+says-nothing (Calls c) number r lent h = refl
+says-nothing (Reply a b good) number r lent h = refl
+says-nothing (Reconcile digit) number r lent h = refl
+says-nothing (Date d) number r lent h = refl
+says-nothing (Shows y) number r lent h = absurd (miss (0 ∷ 1 ∷ 2 ∷ 3 ∷ 4 ∷ []) 5 tt h)
+says-nothing (Wrong f) number r lent h = absurd (miss (0 ∷ 1 ∷ 2 ∷ 3 ∷ 4 ∷ []) 6 tt h)
 
 -- what is said of an error, of a command y, and of one that says nothing
-module _ (error number : ℕ) (k : Command) (r : Rehearsal) (j m : List ℕ) {n : ℕ} {o : List ℕ} where
-  pub says-error : (error ≡ 0 → ⊥) → Text (errorLine number (row error errors)) n o → Text (said error number k r j m) n o
+module _ (error number : ℕ) (k : Command) (r : Rehearsal) (lent : Lent) {n : ℕ} {o : List ℕ} where
+  pub says-error : (error ≡ 0 → ⊥) → Text (errorLine number (row error errors)) n o → Text (said error number k r lent) n o
   unfolding said
   says-error z t = rw (ne-eqb error 0 z) t
 
-  pub says : {y : Command} → error ≡ 0 → k ≡ y → Text (saidBy y number r j m) n o → Text (said error number k r j m) n o
+  pub says : {y : Command} → error ≡ 0 → k ≡ y → Text (saidBy y number r lent) n o → Text (said error number k r lent) n o
   unfolding said
-  says z e t = rw (eq-eqb error 0 z) (subst (λ (x : Command). Text (saidBy x number r j m) n o) (sym e) t)
+  says z e t = rw (eq-eqb error 0 z) (subst (λ (x : Command). Text (saidBy x number r lent) n o) (sym e) t)
 
-pub keeps-silent : (error number : ℕ) (k : Command) (r : Rehearsal) (j m o : List ℕ) → error ≡ 0
-    → OneOf (0 ∷ 1 ∷ 2 ∷ 3 ∷ 4 ∷ []) (tagOf command.the-type k) → Text (said error number k r j m) 0 o
+pub keeps-silent : (error number : ℕ) (k : Command) (r : Rehearsal) (lent : Lent) (o : List ℕ) → error ≡ 0
+    → OneOf (0 ∷ 1 ∷ 2 ∷ 3 ∷ 4 ∷ []) (tagOf command.the-type k) → Text (said error number k r lent) 0 o
 unfolding said
-keeps-silent error number k r j m o z h =
-    rw (eq-eqb error 0 z) (subst (λ (w : List ℕ). Text w 0 o) (sym (says-nothing k number r j m h)) (start o))
+keeps-silent error number k r lent o z h =
+    rw (eq-eqb error 0 z) (subst (λ (w : List ℕ). Text w 0 o) (sym (says-nothing k number r lent h)) (start o))
 
 -- word k is wrong, in three pieces after `error line` and the number
 pub word-line : (p d : List ℕ)
@@ -149,14 +150,14 @@ unfolding errorLine
 word-fault number k {n} {o} t = subst (λ (w : List ℕ). Text w n o) (word-line (text "error line " ++ decimal number) (decimal k)) t
 
 -- line number, of words s
-module _ (number : ℕ) (s : List ℕ) (r : Rehearsal) (j m : List ℕ) where
+module _ (number : ℕ) (s : List ℕ) (r : Rehearsal) (lent : Lent) where
   -- what it does by what it asks for
   abbrev doneAs : Asked → Command → Line → Done
-  doneAs (asked.Call c) k line = called (eventOf c (line .desk) (answerBytes k (wordAt 1 s) (messageIn (last r m)) (r .date))) r j m
-  doneAs (asked.Error e) k line = writes (said e number k r j m) (changedBy k (line .settings) r) j m
+  doneAs (asked.Call c) k line = called (eventOf c (line .desk) (answerBytes k (wordAt 1 s) (messageIn (last r (lent .message))) (r .date))) r lent
+  doneAs (asked.Error e) k line = writes (said e number k r lent) (changedBy k (line .settings) r) lent
 
   asked-done : (k : Command) (line : Line) (has-terminal : Bool) (l : Left)
-      → cond (eqb (lineError k has-terminal l) 0) (commandDone k line number s r j m) (writes (errorLine number (row (lineError k has-terminal l) errors)) r j m)
+      → cond (eqb (lineError k has-terminal l) 0) (commandDone k line number s r lent) (writes (errorLine number (row (lineError k has-terminal l) errors)) r lent)
       ≡ doneAs (askedBy k has-terminal l) k line
   unfolding lineError errorAfter callOr said
   asked-done Terminal line true l = refl
@@ -183,28 +184,28 @@ module _ (number : ℕ) (s : List ℕ) (r : Rehearsal) (j m : List ℕ) where
   asked-done (Wrong f) line false l = refl
 
   -- the last message that left is x and left as l
-  module _ {line : Line} {x : Message} {l : Left} {a : Asked} (e : line ≡ parsed s) (h : x ≡ messageIn (last r m))
+  module _ {line : Line} {x : Message} {l : Left} {a : Asked} (e : line ≡ parsed s) (h : x ≡ messageIn (last r (lent .message)))
       (q : l ≡ leftAs (x .indicator)) (t : a ≡ askedBy (line .command) (r .begun) l) where
-    is-done : done number s r j m ≡ doneAs a (line .command) line
+    is-done : done number s r lent ≡ doneAs a (line .command) line
     unfolding done
     is-done =
-        asked-done (parsed s .command) (parsed s) (r .begun) (leftAs (messageIn (last r m) .indicator))
-        ∙ ap (λ (z : Line). doneAs (askedBy (z .command) (r .begun) (leftAs (messageIn (last r m) .indicator))) (z .command) z) (sym e)
+        asked-done (parsed s .command) (parsed s) (r .begun) (leftAs (messageIn (last r (lent .message)) .indicator))
+        ∙ ap (λ (z : Line). doneAs (askedBy (z .command) (r .begun) (leftAs (messageIn (last r (lent .message)) .indicator))) (z .command) z) (sym e)
         ∙ ap (λ (z : Message). doneAs (askedBy (line .command) (r .begun) (leftAs (z .indicator))) (line .command) line) (sym h)
         ∙ ap (λ (z : Left). doneAs (askedBy (line .command) (r .begun) z) (line .command) line) (sym q)
         ∙ ap (λ (z : Asked). doneAs z (line .command) line) (sym t)
 
     module _ {d : Acted} {o : List ℕ} where
-      pub call-done : {c : Call} {b j₂ m₂ : List ℕ} → a ≡ asked.Call c → b ≡ answerBytes (line .command) (wordAt 1 s) x (r .date)
-          → Did (called (eventOf c (line .desk) b) r j m) d j₂ m₂ o → Did (done number s r j m) d j₂ m₂ o
-      call-done {c} {b} {j₂} {m₂} g p u =
-          subst (λ (z : Done). Did z d j₂ m₂ o)
-          (ap (λ (y : List ℕ). called (eventOf c (line .desk) y) r j m)
+      pub call-done : {c : Call} {b : List ℕ} {after : Lent} → a ≡ asked.Call c → b ≡ answerBytes (line .command) (wordAt 1 s) x (r .date)
+          → Did (called (eventOf c (line .desk) b) r lent) d after o → Did (done number s r lent) d after o
+      call-done {c} {b} {after} g p u =
+          subst (λ (z : Done). Did z d after o)
+          (ap (λ (y : List ℕ). called (eventOf c (line .desk) y) r lent)
           (p ∙ ap (λ (z : Message). answerBytes (line .command) (wordAt 1 s) z (r .date)) h)
           ∙ sym (is-done ∙ ap (λ (z : Asked). doneAs z (line .command) line) g))
           u
 
       pub no-call-done : {error : ℕ} → a ≡ asked.Error error → d .rehearsal ≡ changedBy (line .command) (line .settings) r
-          → Text (said error number (line .command) r j m) (d .written) o → Did (done number s r j m) d j m o
+          → Text (said error number (line .command) r lent) (d .written) o → Did (done number s r lent) d lent o
       no-call-done g u v =
-          subst (λ (z : Done). Did z d j m o) (sym (is-done ∙ ap (λ (z : Asked). doneAs z (line .command) line) g)) (wrote j m u v)
+          subst (λ (z : Done). Did z d lent o) (sym (is-done ∙ ap (λ (z : Asked). doneAs z (line .command) line) g)) (wrote lent u v)

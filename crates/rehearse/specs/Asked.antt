@@ -5,6 +5,7 @@ use Prim.Native.Nat.{ℕ}
 use lib.Dec.{eqb}
 use Rattle.message.specs.declared.Message.{Message}
 use Rattle.state.specs.declared.Settings.{Settings}
+use Rattle.state.specs.Calls.{Lent}
 use Rattle.calls.specs.declared.Call.{Call}
 use Rattle.calls.specs.declared.Call.the-variants as call
 use Rattle.words.specs.Rows.{row}
@@ -58,14 +59,14 @@ answerBytes (command.Show x) w m date = bytesIn w
 answerBytes (command.Wrong f) w m date = bytesIn w
 
 -- what line number writes where it makes no call
-abbrev pub saidBy : Command → ℕ → Rehearsal → List ℕ → List ℕ → List ℕ
-saidBy command.Terminal number r j m = []
-saidBy (command.Call c) number r j m = []
-saidBy (command.Reply a b good) number r j m = []
-saidBy (command.Reconcile digit) number r j m = []
-saidBy (command.Date d) number r j m = []
-saidBy (command.Show x) number r j m = shown x r j m
-saidBy (command.Wrong f) number r j m = errorLine number (faultText f)
+abbrev pub saidBy : Command → ℕ → Rehearsal → Lent → List ℕ
+saidBy command.Terminal number r lent = []
+saidBy (command.Call c) number r lent = []
+saidBy (command.Reply a b good) number r lent = []
+saidBy (command.Reconcile digit) number r lent = []
+saidBy (command.Date d) number r lent = []
+saidBy (command.Show x) number r lent = shown x r lent
+saidBy (command.Wrong f) number r lent = errorLine number (faultText f)
 
-unfoldable pub said : ℕ → ℕ → Command → Rehearsal → List ℕ → List ℕ → List ℕ
-said error number k r j m = cond (eqb error 0) (saidBy k number r j m) (errorLine number (row error errors))
+unfoldable pub said : ℕ → ℕ → Command → Rehearsal → Lent → List ℕ
+said error number k r lent = cond (eqb error 0) (saidBy k number r lent) (errorLine number (row error errors))

@@ -33,6 +33,7 @@ use Rattle.centre_types.specs.declared.Left.{Left}
 use Rattle.centre_types.specs.declared.Left.the-variants as left
 use Rattle.stage.specs.declared.Rehearsal.{Rehearsal}
 use Rattle.stage.specs.Stage.{begun, dated}
+use Rattle.state.specs.Calls.{Lent}
 use Rattle.rehearse.specs.Rehearsal.{Done, writes, last, messageIn, called, bytesOf}
 
 -- the last message as decode shows it
@@ -40,13 +41,13 @@ unfoldable pub fieldsText : List ℕ → List ℕ
 fieldsText b = cond (eqb (length b) 0) (text "message none\n") (messageText (messageIn b) (length b))
 
 -- what is shown; totals are what a settlement would carry now
-abbrev pub shown : Show → Rehearsal → List ℕ → List ℕ → List ℕ
-shown show.Counts r j m = countsLine (r .terminal .state .counts) (waiting (r .terminal .state .phase))
-shown show.Totals r j m = totalsLine (totalsOf (entriesOf (r .terminal .state .entries) j))
-shown show.State r j m = stateLine (r .terminal .state)
-shown show.Journal r j m = journalText (r .terminal .state .entries) (entriesOf (r .terminal .state .entries) j)
-shown show.Message r j m = messageLine (last r m)
-shown show.Fields r j m = fieldsText (last r m)
+abbrev pub shown : Show → Rehearsal → Lent → List ℕ
+shown show.Counts r lent = countsLine (r .terminal .state .counts) (waiting (r .terminal .state .phase))
+shown show.Totals r lent = totalsLine (totalsOf (entriesOf (r .terminal .state .entries) (lent .journal)))
+shown show.State r lent = stateLine (r .terminal .state)
+shown show.Journal r lent = journalText (r .terminal .state .entries) (entriesOf (r .terminal .state .entries) (lent .journal))
+shown show.Message r lent = messageLine (last r (lent .message))
+shown show.Fields r lent = fieldsText (last r (lent .message))
 
 -- what is wrong with a line
 abbrev pub faultText : Fault → List ℕ
@@ -112,22 +113,22 @@ unfoldable pub lineError : Command → Bool → Left → ℕ
 lineError c has-terminal l = cond (has-terminal || standsAlone c) (commandError c l) 1
 
 -- what a line of words s that is obeyed does
-abbrev pub commandDone : Command → Line → ℕ → List ℕ → Rehearsal → List ℕ → List ℕ → Done
-commandDone command.Terminal line number s r j m = writes [] (begun (line .settings) r) j m
-commandDone (command.Call c) line number s r j m = called (eventOf c (line .desk) (bytesIn (wordAt 1 s))) r j m
-commandDone (command.Reply a b good) line number s r j m =
-    called (answers (bytesOf (reply (messageIn (last r m)) (r .date) (a ∷ b ∷ []))) good) r j m
-commandDone (command.Reconcile digit) line number s r j m =
-    called (answers (bytesOf (reconciliation (messageIn (last r m)) digit)) true) r j m
-commandDone (command.Date d) line number s r j m = writes [] (dated d r) j m
-commandDone (command.Show x) line number s r j m = writes (shown x r j m) r j m
-commandDone (command.Wrong f) line number s r j m = writes (errorLine number (faultText f)) r j m
+abbrev pub commandDone : Command → Line → ℕ → List ℕ → Rehearsal → Lent → Done
+commandDone command.Terminal line number s r lent = writes [] (begun (line .settings) r) lent
+commandDone (command.Call c) line number s r lent = called (eventOf c (line .desk) (bytesIn (wordAt 1 s))) r lent
+commandDone (command.Reply a b good) line number s r lent =
+    called (answers (bytesOf (reply (messageIn (last r (lent .message))) (r .date) (a ∷ b ∷ []))) good) r lent
+commandDone (command.Reconcile digit) line number s r lent =
+    called (answers (bytesOf (reconciliation (messageIn (last r (lent .message))) digit)) true) r lent
+commandDone (command.Date d) line number s r lent = writes [] (dated d r) lent
+commandDone (command.Show x) line number s r lent = writes (shown x r lent) r lent
+commandDone (command.Wrong f) line number s r lent = writes (errorLine number (faultText f)) r lent
 
-abbrev pub obeyed : ℕ → Line → ℕ → List ℕ → Rehearsal → List ℕ → List ℕ → Done
-obeyed error line number s r j m =
-    cond (eqb error 0) (commandDone (line .command) line number s r j m) (writes (errorLine number (row error errors)) r j m)
+abbrev pub obeyed : ℕ → Line → ℕ → List ℕ → Rehearsal → Lent → Done
+obeyed error line number s r lent =
+    cond (eqb error 0) (commandDone (line .command) line number s r lent) (writes (errorLine number (row error errors)) r lent)
 
 -- line number, of words s
-unfoldable pub done : ℕ → List ℕ → Rehearsal → List ℕ → List ℕ → Done
-done number s r j m =
-    obeyed (lineError (parsed s .command) (r .begun) (leftAs (messageIn (last r m) .indicator))) (parsed s) number s r j m
+unfoldable pub done : ℕ → List ℕ → Rehearsal → Lent → Done
+done number s r lent =
+    obeyed (lineError (parsed s .command) (r .begun) (leftAs (messageIn (last r (lent .message)) .indicator))) (parsed s) number s r lent

@@ -7,7 +7,7 @@ use Rattle.message.specs.Message.{largest}
 use Rattle.message.specs.declared.Message.{Message}
 use Rattle.reading.specs.Reading.{readMessage}
 use Rattle.writing.specs.Writing.{writeMessage}
-use Rattle.state.specs.Calls.{Result}
+use Rattle.state.specs.Calls.{Lent, Result}
 use Rattle.outgoing.specs.Outgoing.{lengthOf}
 use Rattle.terminal.specs.Events.{Event, call}
 use Rattle.texts.specs.Text.{Text}
@@ -16,23 +16,21 @@ use Rattle.stage.specs.declared.Rehearsal.{Rehearsal}
 use Rattle.stage.specs.Stage.{afterCall}
 use Rattle.rehearse.specs.declared.commands.Acted.{Acted}
 
--- a rehearsal, its journal and message buffer after a line of a script, and what the line wrote
+-- a rehearsal and what was lent to it after a line of a script, and what the line wrote
 pub record Done : Type 0 where
   pub rehearsal : Rehearsal
-  pub journal : List ℕ
-  pub message : List ℕ
+  pub lent : Lent
   pub written : List ℕ
 
--- a function did this: what it gave back and left in journal, message buffer and text buffer
-pub record Did (d : Done) (a : Acted) (j m o : List ℕ) : Type 0 where
+-- a function did this: what it gave back and left in what was lent and in the text buffer
+pub record Did (d : Done) (a : Acted) (lent : Lent) (o : List ℕ) : Type 0 where
   pub rehearsal-is : a .rehearsal ≡ d .rehearsal
-  pub journal-is : j ≡ d .journal
-  pub message-is : m ≡ d .message
+  pub lent-is : lent ≡ d .lent
   pub text-is : Text (d .written) (a .written) o
 
 -- a line that changes nothing
-abbrev pub writes : List ℕ → Rehearsal → List ℕ → List ℕ → Done
-writes w r j m = record { rehearsal = r; journal = j; message = m; written = w }
+abbrev pub writes : List ℕ → Rehearsal → Lent → Done
+writes w r lent = record { rehearsal = r; lent = lent; written = w }
 
 -- the last message that left, which a quiet or refused call leaves in the message buffer
 abbrev pub last : Rehearsal → List ℕ → List ℕ
@@ -45,11 +43,11 @@ messageIn b = readMessage b .message
 abbrev pub resulted : Result → Rehearsal → Done
 resulted q r =
     record {
-      rehearsal = afterCall (q .outcome) (q .state) r; journal = q .journal; message = q .message;
-      written = outcomeLine (q .outcome) (q .message) }
+      rehearsal = afterCall (q .outcome) (q .state) r; lent = q .lent;
+      written = outcomeLine (q .outcome) (q .lent .message) }
 
-abbrev pub called : Event → Rehearsal → List ℕ → List ℕ → Done
-called e r j m = resulted (call e (r .terminal .state) j m) r
+abbrev pub called : Event → Rehearsal → Lent → Done
+called e r lent = resulted (call e (r .terminal .state) lent) r
 
 -- the bytes of a message of the simulated centre
 unfoldable pub bytesOf : Message → List ℕ

@@ -11,6 +11,7 @@ use terminal::Step;
 ghost use mathlib.Core.Path.{_≡_};
 ghost use Prim.Native.Nat.{_≤_};
 ghost use lib.ListN.{length, take};
+ghost use Rattle.state.specs.Calls.{lend};
 ghost use Rattle.texts.specs.Text.{Text};
 ghost use Rattle.screen.specs.Outcomes.{outcomeLine};
 ghost use Rattle.stage.specs.Stage.{afterCall};
@@ -40,7 +41,7 @@ pub fn act(
     message: &mut [u8],
     out: &mut [u8],
 ) -> Acted
-    ensures { λ d. ⌜ Did (done number (now (s .entry)) r (now (journal .entry)) (now (message .entry))) d (now (journal .exit)) (now (message .exit)) (now (out .exit)) ⌝ }
+    ensures { λ d. ⌜ Did (done number (now (s .entry)) r (lend (now (journal .entry)) (now (message .entry)))) d (lend (now (journal .exit)) (now (message .exit))) (now (out .exit)) ⌝ }
 {
     let line = script::parse(s);
     let command = line.command;

@@ -5,6 +5,7 @@ use script::Command;
 use script::Show;
 use stage::Rehearsal;
 ghost use mathlib.Core.Path.{_≡_};
+ghost use Rattle.state.specs.Calls.{lend};
 ghost use Rattle.texts.specs.Text.{Text};
 ghost use Rattle.grammar.specs.declared.Fault.the-variants.{Word};
 ghost use Rattle.screen.specs.Outcomes.{errorLine};
@@ -45,7 +46,7 @@ pub fn say(
     message: &[u8],
     out: &mut [u8],
 ) -> usize
-    ensures { λ n. ⌜ Text (said error number command r (now (journal .entry)) (now (message .entry))) n (now (out .exit)) ⌝ }
+    ensures { λ n. ⌜ Text (said error number command r (lend (now (journal .entry)) (now (message .entry)))) n (now (out .exit)) ⌝ }
 {
     if error != 0 {
         let errors = ERRORS;
@@ -60,7 +61,7 @@ pub fn say(
 
 // Writes what is shown of the terminal.
 fn show(x: Show, r: Rehearsal, journal: &[u8], message: &[u8], out: &mut [u8]) -> usize
-    ensures { λ n. ⌜ Text (shown x r (now (journal .entry)) (now (message .entry))) n (now (out .exit)) ⌝ }
+    ensures { λ n. ⌜ Text (shown x r (lend (now (journal .entry)) (now (message .entry)))) n (now (out .exit)) ⌝ }
 {
     let terminal = r.terminal;
     let state = terminal.state;

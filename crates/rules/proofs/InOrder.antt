@@ -15,6 +15,7 @@ use Rattle.entry.specs.Form.{inForm, keepsVoided, keepsUnmarked, keepsResends, 
 use Rattle.entry.specs.declared.Entry.{Entry}
 use Rattle.journal.specs.Journal.{entriesOf, every, totalsOf, distinct, isAt}
 use Rattle.state.specs.declared.State.{State}
+use Rattle.state.specs.Calls.{Lent}
 use Rattle.checks.specs.Checks.{firstBroken}
 use Rattle.state_rules.proofs.Holds.{StateHolds, each, state-holds}
 use Rattle.rules.specs.Rules.{tooShort, journalClauses, journalKept, inUpload, due, awaitedItem, phaseKept, keepsRule2, rules12}
@@ -63,10 +64,10 @@ keeps-rule2 s es e =
     record { state = state-holds s (b .0); journal = journal-holds _ _ _ _ es (b .1); phase-kept = a .1 }
 
 -- the buffers are long enough
-pub record Fit (s : State) (j m : List ℕ) : Type 0 where
-  pub message-room : largest ≤ length m
-  pub journal-room : entrySize * s .settings .limit ≤ length j
-  pub order : InOrder s (entriesOf (s .entries) j)
+pub record Fit (s : State) (lent : Lent) : Type 0 where
+  pub message-room : largest ≤ length (lent .message)
+  pub journal-room : entrySize * s .settings .limit ≤ length (lent .journal)
+  pub order : InOrder s (entriesOf (s .entries) (lent .journal))
 
 not-false : (b : Bool) → not b ≡ false → b ≡ true
 not-false true e = refl
@@ -76,17 +77,17 @@ or-false : (a b : Bool) → (a || b) ≡ false → (a ≡ false) × (b ≡ false
 or-false true b e = absurd (true≢false e)
 or-false false b e = (refl, e)
 
-pub fit : (s : State) (j m : List ℕ) → firstBroken (rules12 s j m) ≡ 0 → Fit s j m
+pub fit : (s : State) (lent : Lent) → firstBroken (rules12 s lent) ≡ 0 → Fit s lent
 unfolding firstBroken tooShort
-fit s j m e = go (tooShort s j m) (keepsRule2 s (entriesOf (s .entries) j)) refl refl e
+fit s lent e = go (tooShort s lent) (keepsRule2 s (entriesOf (s .entries) (lent .journal))) refl refl e
   where
-    go : (a b : Bool) → tooShort s j m ≡ a → keepsRule2 s (entriesOf (s .entries) j) ≡ b → _≡_ {A = ℕ} (cond a 1 (cond (not b) 2 0)) 0 → Fit s j m
+    go : (a b : Bool) → tooShort s lent ≡ a → keepsRule2 s (entriesOf (s .entries) (lent .journal)) ≡ b → _≡_ {A = ℕ} (cond a 1 (cond (not b) 2 0)) 0 → Fit s lent
     go true b p q e = absurd (omega arith)
     go false false p q e = absurd (omega arith)
     go false true p q e =
-        let h = or-false (ltb (length m) largest) (ltb (length j) (entrySize * s .settings .limit)) p in
+        let h = or-false (ltb (length (lent .message)) largest) (ltb (length (lent .journal)) (entrySize * s .settings .limit)) p in
         record {
-          message-room = ltb-false (length m) largest (h .0);
-          journal-room = ltb-false (length j) (entrySize * s .settings .limit) (h .1);
-          order = keeps-rule2 s (entriesOf (s .entries) j) q;
+          message-room = ltb-false (length (lent .message)) largest (h .0);
+          journal-room = ltb-false (length (lent .journal)) (entrySize * s .settings .limit) (h .1);
+          order = keeps-rule2 s (entriesOf (s .entries) (lent .journal)) q;
         }

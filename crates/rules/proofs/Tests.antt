@@ -16,6 +16,7 @@ use Rattle.journal.specs.declared.Found.the-variants.{At, Nowhere}
 use Rattle.journal.proofs.Traces.{absent-first, first-absent}
 use Rattle.state.specs.declared.Request.{Request}
 use Rattle.state.specs.declared.State.{State}
+use Rattle.state.specs.Calls.{Lent}
 use Rattle.checks.specs.Checks.{firstBroken}
 use Rattle.rules.specs.Rules.{journalKept, inUpload, due, awaitedItem, originalUnvoided, requestKept, phaseKept, tooShort, keepsRule2, rules12}
 use Rattle.state_rules.specs.StateRules.{stateKept, sumsKept, past}
@@ -96,25 +97,26 @@ state-right s es false e h p q = absurd (true≢false h)
 state-right s es true e h p q = rw (← e, ← p, ← q)
 
 -- rules 1 and 2, one after another
-pub short-message : (s : State) (j m : List ℕ) → length m < largest → 1 ≡ firstBroken (rules12 s j m)
+pub short-message : (s : State) (lent : Lent) → length (lent .message) < largest → 1 ≡ firstBroken (rules12 s lent)
 unfolding firstBroken tooShort
-short-message s j m h = rw (lt-ltb (length m) largest h)
+short-message s lent h = rw (lt-ltb (length (lent .message)) largest h)
 
-pub short-journal : (s : State) (j m : List ℕ) → largest ≤ length m → length j < entrySize * s .settings .limit → 1 ≡ firstBroken (rules12 s j m)
+pub short-journal : (s : State) (lent : Lent) → largest ≤ length (lent .message) → length (lent .journal) < entrySize * s .settings .limit
+    → 1 ≡ firstBroken (rules12 s lent)
 unfolding firstBroken tooShort
-short-journal s j m g h = rw (le-ltb (length m) largest g, lt-ltb (length j) (entrySize * s .settings .limit) h)
+short-journal s lent g h = rw (le-ltb (length (lent .message)) largest g, lt-ltb (length (lent .journal)) (entrySize * s .settings .limit) h)
 
-pub no-order : (s : State) (j m : List ℕ) (r : Bool) → largest ≤ length m → entrySize * s .settings .limit ≤ length j
-    → r ≡ keepsRule2 s (entriesOf (s .entries) j) → not r ≡ true → 2 ≡ firstBroken (rules12 s j m)
+pub no-order : (s : State) (lent : Lent) (r : Bool) → largest ≤ length (lent .message) → entrySize * s .settings .limit ≤ length (lent .journal)
+    → r ≡ keepsRule2 s (entriesOf (s .entries) (lent .journal)) → not r ≡ true → 2 ≡ firstBroken (rules12 s lent)
 unfolding firstBroken tooShort
-no-order s j m true g h e t = absurd (true≢false (sym t))
-no-order s j m false g h e t = rw (le-ltb (length m) largest g, le-ltb (length j) (entrySize * s .settings .limit) h, ← e)
+no-order s lent true g h e t = absurd (true≢false (sym t))
+no-order s lent false g h e t = rw (le-ltb (length (lent .message)) largest g, le-ltb (length (lent .journal)) (entrySize * s .settings .limit) h, ← e)
 
-pub all-kept : (s : State) (j m : List ℕ) (r : Bool) → largest ≤ length m → entrySize * s .settings .limit ≤ length j
-    → r ≡ keepsRule2 s (entriesOf (s .entries) j) → not r ≡ false → 0 ≡ firstBroken (rules12 s j m)
+pub all-kept : (s : State) (lent : Lent) (r : Bool) → largest ≤ length (lent .message) → entrySize * s .settings .limit ≤ length (lent .journal)
+    → r ≡ keepsRule2 s (entriesOf (s .entries) (lent .journal)) → not r ≡ false → 0 ≡ firstBroken (rules12 s lent)
 unfolding firstBroken tooShort
-all-kept s j m false g h e t = absurd (true≢false t)
-all-kept s j m true g h e t = rw (le-ltb (length m) largest g, le-ltb (length j) (entrySize * s .settings .limit) h, ← e)
+all-kept s lent false g h e t = absurd (true≢false t)
+all-kept s lent true g h e t = rw (le-ltb (length (lent .message)) largest g, le-ltb (length (lent .journal)) (entrySize * s .settings .limit) h, ← e)
 
 -- an awaited request's tests, where its trace is looked for
 pub request-kept-is : (limit n : ℕ) (es : List Entry) (q : Request)

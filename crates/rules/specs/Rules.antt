@@ -22,11 +22,12 @@ use Rattle.state.specs.declared.Settings.{Settings}
 use Rattle.state.specs.declared.State.{State}
 use Rattle.checks.specs.Checks.{Rule, rule}
 use Rattle.state.specs.State.{isWaiting}
+use Rattle.state.specs.Calls.{Lent}
 use Rattle.state_rules.specs.StateRules.{allOf, stateKept, past, sumsKept}
 
 -- 1. The message buffer is below 248 bytes, or the journal below 48 times the entry limit.
-unfoldable pub tooShort : State → List ℕ → List ℕ → Bool
-tooShort s j m = ltb (length m) largest || ltb (length j) (entrySize * s .settings .limit)
+unfoldable pub tooShort : State → Lent → Bool
+tooShort s lent = ltb (length (lent .message)) largest || ltb (length (lent .journal)) (entrySize * s .settings .limit)
 
 -- 2. Settings, state or journal break a rule: in three parts, each in the page's order.
 
@@ -128,9 +129,9 @@ keepsRule2 s es =
     && phaseKept (s .settings) (s .entries) es (s .phase)
 
 -- rules 1 and 2, which every call on a terminal begins with
-abbrev pub rules12 : State → List ℕ → List ℕ → List Rule
-rules12 s j m = rule 1 (tooShort s j m) ∷ rule 2 (not (keepsRule2 s (entriesOf (s .entries) j))) ∷ []
+abbrev pub rules12 : State → Lent → List Rule
+rules12 s lent = rule 1 (tooShort s lent) ∷ rule 2 (not (keepsRule2 s (entriesOf (s .entries) (lent .journal)))) ∷ []
 
 -- and 10 and 11: signed on, and nothing awaited
-abbrev pub idleRules : State → List ℕ → List ℕ → List Rule
-idleRules s j m = rules12 s j m ++ (rule 10 (not (s .«signed_on»)) ∷ rule 11 (isWaiting s) ∷ [])
+abbrev pub idleRules : State → Lent → List Rule
+idleRules s lent = rules12 s lent ++ (rule 10 (not (s .«signed_on»)) ∷ rule 11 (isWaiting s) ∷ [])

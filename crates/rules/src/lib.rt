@@ -12,6 +12,7 @@ ghost use mathlib.Core.Path.{_≡_};
 ghost use Rattle.entry.specs.Form.{dueEntry};
 ghost use Rattle.journal.specs.Journal.{entriesOf};
 ghost use Rattle.checks.specs.Checks.{firstBroken};
+ghost use Rattle.state.specs.Calls.{lend};
 ghost use Rattle.rules.specs.Rules.{journalKept, awaitedInUpload, inUpload, itemIn, awaitedItem, unvoidedAt, originalUnvoided, requestKept, awaitedKept, phaseKept, keepsRule2, rules12, idleRules};
 
 // Rule 2, the journal of n entries: by the sendings set, whether it is the upload, and the place of the awaited item.
@@ -45,7 +46,7 @@ pub fn keeps_rule2(s: State, journal: &[u8]) -> bool
 
 // The number of the first of rules 1 and 2 that is broken, 0 for none.
 pub fn first_refusal(s: State, journal: &[u8], message: &[u8]) -> u8
-    ensures { λ r. ⌜ r ≡ firstBroken (rules12 s (now (journal .entry)) (now (message .entry))) ⌝ }
+    ensures { λ r. ⌜ r ≡ firstBroken (rules12 s (lend (now (journal .entry)) (now (message .entry)))) ⌝ }
 {
     let settings = s.settings;
     let limit = settings.limit as usize;
@@ -63,7 +64,7 @@ pub fn first_refusal(s: State, journal: &[u8], message: &[u8]) -> u8
 
 // The number of the first of rules 1, 2, 10 and 11 that is broken, 0 for none.
 pub fn idle_refusal(s: State, journal: &[u8], message: &[u8]) -> u8
-    ensures { λ r. ⌜ r ≡ firstBroken (idleRules s (now (journal .entry)) (now (message .entry))) ⌝ }
+    ensures { λ r. ⌜ r ≡ firstBroken (idleRules s (lend (now (journal .entry)) (now (message .entry)))) ⌝ }
 {
     let number = first_refusal(s, journal, message);
     if number != 0 {

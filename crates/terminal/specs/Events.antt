@@ -4,7 +4,7 @@ use mathlib.Core.Bool.{Bool}
 use Prim.Native.Nat.{ℕ}
 use Rattle.numbers.specs.declared.Batch.{Batch}
 use Rattle.state.specs.declared.State.{State}
-use Rattle.state.specs.Calls.{Result}
+use Rattle.state.specs.Calls.{Lent, Result}
 use Rattle.call_sign_on.specs.SignOn.{signedOn}
 use Rattle.call_start.specs.Start.{start}
 use Rattle.desk.specs.declared.Desk.{Desk}
@@ -25,17 +25,17 @@ pub data Event : Type 0 where
   send-next-upload : Event
 
 -- what a call gives
-abbrev pub call : Event → State → List ℕ → List ℕ → Result
-call (signed-on batch) s j m = signedOn batch s j m
-call (starts d) s j m = start d s j m
-call (answers b good) s j m = answer b good s j m
-call no-answer s j m = noAnswer s j m
-call power-returned s j m = powerReturned s j m
-call send-reversal s j m = sendReversal s j m
-call settles s j m = settle s j m
-call send-next-upload s j m = sendNextUpload s j m
+abbrev pub call : Event → State → Lent → Result
+call (signed-on batch) s lent = signedOn batch s lent
+call (starts d) s lent = start d s lent
+call (answers b good) s lent = answer b good s lent
+call no-answer s lent = noAnswer s lent
+call power-returned s lent = powerReturned s lent
+call send-reversal s lent = sendReversal s lent
+call settles s lent = settle s lent
+call send-next-upload s lent = sendNextUpload s lent
 
--- each call gets state, journal and message buffer as the last one left them
+-- each call gets the state and what is lent as the last one left them
 abbrev pub run : List Event → Result → Result
 run [] r = r
-run (e ∷ es) r = run es (call e (r .state) (r .journal) (r .message))
+run (e ∷ es) r = run es (call e (r .state) (r .lent))

@@ -9,6 +9,7 @@ use state::Settings;
 use state::State;
 ghost use mathlib.Core.Path.{_≡_};
 ghost use Rattle.state.specs.State.{fresh};
+ghost use Rattle.state.specs.Calls.{lend};
 ghost use Rattle.call_sign_on.specs.SignOn.{signedOn};
 ghost use Rattle.call_start.specs.Start.{start};
 ghost use Rattle.call_answer.specs.Answer.{answer, noAnswer, powerReturned};
@@ -50,7 +51,7 @@ impl Terminal {
 
     // The outer program has signed on, and the centre has told the batch number.
     pub fn signed_on(self, batch: Batch, journal: &mut [u8], message: &mut [u8]) -> Step
-        ensures { λ r. ⌜ stepResult r (now (journal .exit)) (now (message .exit)) ≡ signedOn batch (self .state) (now (journal .entry)) (now (message .entry)) ⌝ }
+        ensures { λ r. ⌜ stepResult r (lend (now (journal .exit)) (now (message .exit))) ≡ signedOn batch (self .state) (lend (now (journal .entry)) (now (message .entry))) ⌝ }
     {
         let state = self.state;
         step_of(call_sign_on::signed_on(state, batch, journal, message))
@@ -58,7 +59,7 @@ impl Terminal {
 
     // A card request leaves.
     pub fn start(self, desk: Desk, journal: &mut [u8], message: &mut [u8]) -> Step
-        ensures { λ r. ⌜ stepResult r (now (journal .exit)) (now (message .exit)) ≡ start desk (self .state) (now (journal .entry)) (now (message .entry)) ⌝ }
+        ensures { λ r. ⌜ stepResult r (lend (now (journal .exit)) (now (message .exit))) ≡ start desk (self .state) (lend (now (journal .entry)) (now (message .entry))) ⌝ }
     {
         let state = self.state;
         step_of(call_start::start(state, desk, journal, message))
@@ -66,7 +67,7 @@ impl Terminal {
 
     // The centre's bytes, and the key pad's word on the MAC.
     pub fn answer(self, bytes: &[u8], good: bool, journal: &mut [u8], message: &mut [u8]) -> Step
-        ensures { λ r. ⌜ stepResult r (now (journal .exit)) (now (message .exit)) ≡ answer (now (bytes .entry)) good (self .state) (now (journal .entry)) (now (message .entry)) ⌝ }
+        ensures { λ r. ⌜ stepResult r (lend (now (journal .exit)) (now (message .exit))) ≡ answer (now (bytes .entry)) good (self .state) (lend (now (journal .entry)) (now (message .entry))) ⌝ }
     {
         let state = self.state;
         step_of(call_answer::answer(state, bytes, good, journal, message))
@@ -74,7 +75,7 @@ impl Terminal {
 
     // The line has fallen silent.
     pub fn no_answer(self, journal: &mut [u8], message: &mut [u8]) -> Step
-        ensures { λ r. ⌜ stepResult r (now (journal .exit)) (now (message .exit)) ≡ noAnswer (self .state) (now (journal .entry)) (now (message .entry)) ⌝ }
+        ensures { λ r. ⌜ stepResult r (lend (now (journal .exit)) (now (message .exit))) ≡ noAnswer (self .state) (lend (now (journal .entry)) (now (message .entry))) ⌝ }
     {
         let state = self.state;
         step_of(call_answer::no_answer(state, journal, message))
@@ -82,7 +83,7 @@ impl Terminal {
 
     // Power has returned.
     pub fn power_returned(self, journal: &mut [u8], message: &mut [u8]) -> Step
-        ensures { λ r. ⌜ stepResult r (now (journal .exit)) (now (message .exit)) ≡ powerReturned (self .state) (now (journal .entry)) (now (message .entry)) ⌝ }
+        ensures { λ r. ⌜ stepResult r (lend (now (journal .exit)) (now (message .exit))) ≡ powerReturned (self .state) (lend (now (journal .entry)) (now (message .entry))) ⌝ }
     {
         let state = self.state;
         step_of(call_answer::power_returned(state, journal, message))
@@ -90,7 +91,7 @@ impl Terminal {
 
     // The pending reversal leaves.
     pub fn send_reversal(self, journal: &mut [u8], message: &mut [u8]) -> Step
-        ensures { λ r. ⌜ stepResult r (now (journal .exit)) (now (message .exit)) ≡ sendReversal (self .state) (now (journal .entry)) (now (message .entry)) ⌝ }
+        ensures { λ r. ⌜ stepResult r (lend (now (journal .exit)) (now (message .exit))) ≡ sendReversal (self .state) (lend (now (journal .entry)) (now (message .entry))) ⌝ }
     {
         let state = self.state;
         step_of(call_reversal::send_reversal(state, journal, message))
@@ -98,7 +99,7 @@ impl Terminal {
 
     // The batch's totals leave.
     pub fn settle(self, journal: &mut [u8], message: &mut [u8]) -> Step
-        ensures { λ r. ⌜ stepResult r (now (journal .exit)) (now (message .exit)) ≡ settle (self .state) (now (journal .entry)) (now (message .entry)) ⌝ }
+        ensures { λ r. ⌜ stepResult r (lend (now (journal .exit)) (now (message .exit))) ≡ settle (self .state) (lend (now (journal .entry)) (now (message .entry))) ⌝ }
     {
         let state = self.state;
         step_of(call_settle::settle(state, journal, message))
@@ -106,7 +107,7 @@ impl Terminal {
 
     // The next due entry leaves, or the upload's end.
     pub fn send_next_upload(self, journal: &mut [u8], message: &mut [u8]) -> Step
-        ensures { λ r. ⌜ stepResult r (now (journal .exit)) (now (message .exit)) ≡ sendNextUpload (self .state) (now (journal .entry)) (now (message .entry)) ⌝ }
+        ensures { λ r. ⌜ stepResult r (lend (now (journal .exit)) (now (message .exit))) ≡ sendNextUpload (self .state) (lend (now (journal .entry)) (now (message .entry))) ⌝ }
     {
         let state = self.state;
         step_of(call_upload::send_next_upload(state, journal, message))

@@ -30,7 +30,7 @@ use Rattle.state.specs.declared.State.{State}
 use Rattle.state.specs.declared.Outcome.the-variants.{Send, Refused}
 use Rattle.state.specs.State.{fresh}
 use Rattle.checks.specs.Checks.{firstBroken}
-use Rattle.state.specs.Calls.{Result, judged, quiet, sends}
+use Rattle.state.specs.Calls.{Lent, lend, withJournal, Result, judged, quiet, sends}
 use Rattle.rules.specs.Rules.{tooShort, keepsRule2, journalKept}
 use Rattle.state_rules.specs.StateRules.{settingsInForm, stateInForm, past, sumsKept, balanced, stateKept}
 use Rattle.rules.proofs.InOrder.{Fit}
@@ -56,12 +56,12 @@ use Rattle.worked.proofs.Starts.{at, desk, saleBytes, goes, goes-not}
 abbrev entry : ℕ → Entry
 entry n = approvedEntry (asked 9999999999 (suc n)) (answered (suc n))
 
-taken-in : (n : ℕ) (j m : List ℕ) → Fit (requested (at n) (asked 9999999999 (suc n))) j m
-    → answer (approvalBytes (suc n)) true (requested (at n) (asked 9999999999 (suc n))) j m
-    ≡ quiet (oneMore (requested (at n) (asked 9999999999 (suc n)))) (putEntry n (entry n) j) m
+taken-in : (n : ℕ) (lent : Lent) → Fit (requested (at n) (asked 9999999999 (suc n))) lent
+    → answer (approvalBytes (suc n)) true (requested (at n) (asked 9999999999 (suc n))) lent
+    ≡ quiet (oneMore (requested (at n) (asked 9999999999 (suc n)))) (withJournal (putEntry n (entry n) (lent .journal)) lent)
 unfolding answer judged firstBroken answeredBy onRequest approved originalVoided takesOriginal
-taken-in n j m fit =
-    let r = fit-ready (requested (at n) (asked 9999999999 (suc n))) j m fit in
+taken-in n lent fit =
+    let r = fit-ready (requested (at n) (asked 9999999999 (suc n))) lent fit in
     rw (r .long, r .order, reads (suc n) .outcome, is-answer (suc n), approving (suc n), good-mac (suc n))
 
 one-more : (n : ℕ) → n < 999998 → oneMore (requested (at n) (asked 9999999999 (suc n))) ≡ at (suc n)
@@ -113,41 +113,41 @@ unfolding past
 is-past amount n j s h = rw (s .sums, is-sale) (lt-ltb 999999999999 (n * 9999999999 + amount) h)
 
 -- what the terminal is after n of them
-record After (n : ℕ) (s : State) (j m : List ℕ) : Type 0 where
+record After (n : ℕ) (s : State) (lent : Lent) : Type 0 where
   state : s ≡ at n
-  fits : Fit s j m
-  sold : Sold n j
+  fits : Fit s lent
+  sold : Sold n (lent .journal)
 
 largest-form : within 1 9999999999 9999999999 ≡ true
 unfolding within
 largest-form = refl
 
 abbrev Holds : ℕ → Result → Type 0
-Holds n r = After n (r .state) (r .journal) (r .message)
+Holds n r = After n (r .state) (r .lent)
 
 -- a sale and its approval
-one-after : (n : ℕ) (j m : List ℕ) → n < 100 → Fit (at n) j m → Sold n j
-    → Holds (suc n) (run (sale 9999999999 ∷ approval 22 9999999999 (suc n) ∷ []) (quiet (at n) j m))
-one-after n j m small fit sold =
+one-after : (n : ℕ) (lent : Lent) → n < 100 → Fit (at n) lent → Sold n (lent .journal)
+    → Holds (suc n) (run (sale 9999999999 ∷ approval 22 9999999999 (suc n) ∷ []) (quiet (at n) lent))
+one-after n lent small fit sold =
     let q = asked 9999999999 (suc n) in
-    let g = goes 9999999999 n j m fit (omega arith) largest-form (sold .free (suc n) (omega arith))
-    (not-past 9999999999 n j sold (omega arith)) in
-    let r = sends (saleBytes 9999999999 (suc n)) (requested (at n) q) j m in
-    let f : Fits r = rw g at (start-fits (desk 9999999999) (at n) j m fit) in
-    let a = taken-in n j (r .message) f in
-    let h : Fits (quiet (oneMore (requested (at n) q)) (putEntry n (entry n) j) (r .message)) =
-    rw a at (answer-fits (approvalBytes (suc n)) true (requested (at n) q) j (r .message) f) in
-    rw (g, a) (record { state = one-more n (omega arith); fits = h; sold = one-sold n j small (fit .journal-room) sold })
+    let g = goes 9999999999 n lent fit (omega arith) largest-form (sold .free (suc n) (omega arith))
+    (not-past 9999999999 n (lent .journal) sold (omega arith)) in
+    let r = sends (saleBytes 9999999999 (suc n)) (requested (at n) q) lent in
+    let f : Fits r = rw g at (start-fits (desk 9999999999) (at n) lent fit) in
+    let a = taken-in n (r .lent) f in
+    let h : Fits (quiet (oneMore (requested (at n) q)) (withJournal (putEntry n (entry n) (lent .journal)) (r .lent))) =
+    rw a at (answer-fits (approvalBytes (suc n)) true (requested (at n) q) (r .lent) f) in
+    rw (g, a) (record { state = one-more n (omega arith); fits = h; sold = one-sold n (lent .journal) small (fit .journal-room) sold })
 
-next-after : (n : ℕ) (s : State) (j m : List ℕ) → n < 100 → After n s j m
-    → Holds (suc n) (run (sale 9999999999 ∷ approval 22 9999999999 (suc n) ∷ []) (quiet s j m))
-next-after n s j m small h =
-    rw (h .state) (one-after n j m small (rw (h .state) at (h .fits)) (h .sold))
+next-after : (n : ℕ) (s : State) (lent : Lent) → n < 100 → After n s lent
+    → Holds (suc n) (run (sale 9999999999 ∷ approval 22 9999999999 (suc n) ∷ []) (quiet s lent))
+next-after n s lent small h =
+    rw (h .state) (one-after n lent small (rw (h .state) at (h .fits)) (h .sold))
 
 all-after : (n : ℕ) (r : Result) → n ≤ 100 → Holds 0 r → Holds n (sales n r)
 all-after zero r h b = b
 all-after (suc n) r h b =
-    let x = sales n r in next-after n (x .state) (x .journal) (x .message) (omega arith) (all-after n r (omega arith) b)
+    let x = sales n r in next-after n (x .state) (x .lent) (omega arith) (all-after n r (omega arith) b)
 
 -- a fresh terminal that has signed on
 fresh-order : keepsRule2 (fresh (settings 300)) [] ≡ true
@@ -158,26 +158,26 @@ one-number : within 1 1 999999 ≡ true
 unfolding within
 one-number = refl
 
-module _ (j m : List ℕ) (long : entrySize * 300 ≤ length j) (room : largest ≤ length m) where
-  both-fit : tooShort (fresh (settings 300)) j m ≡ false
+module _ (lent : Lent) (long : entrySize * 300 ≤ length (lent .journal)) (room : largest ≤ length (lent .message)) where
+  both-fit : tooShort (fresh (settings 300)) lent ≡ false
   unfolding tooShort
-  both-fit = rw (le-ltb (length m) largest room, le-ltb (length j) (entrySize * 300) long)
+  both-fit = rw (le-ltb (length (lent .message)) largest room, le-ltb (length (lent .journal)) (entrySize * 300) long)
 
-  signs : signedOn (record { 0 = 1 }) (fresh (settings 300)) j m ≡ quiet (at 0) j m
+  signs : signedOn (record { 0 = 1 }) (fresh (settings 300)) lent ≡ quiet (at 0) lent
   unfolding signedOn judged firstBroken adopts
   signs = rw (both-fit, fresh-order, one-number)
 
-  opened-after : Holds 0 (signedOn (record { 0 = 1 }) (fresh (settings 300)) j m)
+  opened-after : Holds 0 (signedOn (record { 0 = 1 }) (fresh (settings 300)) lent)
   opened-after =
       let s = fresh (settings 300) in
-      let f = signed-on-fits (record { 0 = 1 }) s j m (ready-fits s j m (record { long = both-fit; order = fresh-order })) in
-      let g : Fits (quiet (at 0) j m) = rw signs at f in
-      rw signs (record { state = refl; fits = g; sold = none-sold j })
+      let f = signed-on-fits (record { 0 = 1 }) s lent (ready-fits s lent (record { long = both-fit; order = fresh-order })) in
+      let g : Fits (quiet (at 0) lent) = rw signs at f in
+      rw signs (record { state = refl; fits = g; sold = none-sold (lent .journal) })
 
 hundred-after : Holds 100 hundred
 hundred-after =
     all-after 100 (opened 300) (omega arith)
-    (opened-after (replicate (entrySize * 300) 0) (replicate largest 0) (rw length-replicate (omega arith)) (rw length-replicate (omega arith)))
+    (opened-after (lend (replicate (entrySize * 300) 0) (replicate largest 0)) (rw length-replicate (omega arith)) (rw length-replicate (omega arith)))
 
 -- the sale after them, by its message and by rule 21
 sale-length : length (saleBytes 99 101) ≡ 76
@@ -189,25 +189,25 @@ amount-form : (within 1 99 9999999999 ≡ true) × (within 1 100 9999999999 ≡ 
 unfolding within
 amount-form = (refl, refl)
 
-one-goes : (s : State) (j m : List ℕ) → After 100 s j m → run (sale 99 ∷ []) (quiet s j m) .outcome ≡ Send 76
-one-goes s j m h =
+one-goes : (s : State) (lent : Lent) → After 100 s lent → run (sale 99 ∷ []) (quiet s lent) .outcome ≡ Send 76
+one-goes s lent h =
     rw (
       h .state,
-      goes 99 100 j m (rw (h .state) at (h .fits)) (omega arith) (amount-form .0) (h .sold .free 101 (omega arith))
-          (not-past 99 100 j (h .sold) (omega arith)),
+      goes 99 100 lent (rw (h .state) at (h .fits)) (omega arith) (amount-form .0) (h .sold .free 101 (omega arith))
+          (not-past 99 100 (lent .journal) (h .sold) (omega arith)),
       sale-length,
     )
 
-one-is-refused : (s : State) (j m : List ℕ) → After 100 s j m → run (sale 100 ∷ []) (quiet s j m) .outcome ≡ Refused 21
-one-is-refused s j m h =
+one-is-refused : (s : State) (lent : Lent) → After 100 s lent → run (sale 100 ∷ []) (quiet s lent) .outcome ≡ Refused 21
+one-is-refused s lent h =
     rw (
       h .state,
-      goes-not 100 100 j m (rw (h .state) at (h .fits)) (omega arith) (amount-form .1)
-          (is-past 100 100 j (h .sold) (omega arith)),
+      goes-not 100 100 lent (rw (h .state) at (h .fits)) (omega arith) (amount-form .1)
+          (is-past 100 100 (lent .journal) (h .sold) (omega arith)),
     )
 
 pub i : run (sale 99 ∷ []) hundred .outcome ≡ Send 76
-i = one-goes (hundred .state) (hundred .journal) (hundred .message) hundred-after
+i = one-goes (hundred .state) (hundred .lent) hundred-after
 
 pub i-refused : run (sale 100 ∷ []) hundred .outcome ≡ Refused 21
-i-refused = one-is-refused (hundred .state) (hundred .journal) (hundred .message) hundred-after
+i-refused = one-is-refused (hundred .state) (hundred .lent) hundred-after

@@ -14,7 +14,7 @@ use Rattle.journal.specs.Journal.{entriesOf, absent, totalsOf, takenFrom, taken
 use Rattle.state.specs.declared.State.{State}
 use Rattle.state.specs.declared.Phase.the-variants.{Resting}
 use Rattle.checks.specs.Checks.{firstBroken}
-use Rattle.state.specs.Calls.{judged, refused, sends}
+use Rattle.state.specs.Calls.{Lent, judged, refused, sends}
 use Rattle.state_rules.specs.StateRules.{isCard, past}
 use Rattle.rules.proofs.InOrder.{Fit}
 use Rattle.outgoing.specs.Outgoing.{requestMessage}
@@ -78,12 +78,12 @@ unfolding taken
 taken-free es x h = taken-from (length es) es x h
 
 -- a sale after n of them: judged by rule 21 alone
-module _ (amount n : ℕ) (j m : List ℕ) (fit : Fit (at n) j m) (few : n < 300) (form : within 1 amount 9999999999 ≡ true) where
-  pub goes : absent (suc n) (entriesOf n j) ≡ true → past 22 amount (totalsOf (entriesOf n j)) ≡ false
-      → start (desk amount) (at n) j m ≡ sends (saleBytes amount (suc n)) (requested (at n) (asked amount (suc n))) j m
+module _ (amount n : ℕ) (lent : Lent) (fit : Fit (at n) lent) (few : n < 300) (form : within 1 amount 9999999999 ≡ true) where
+  pub goes : absent (suc n) (entriesOf n (lent .journal)) ≡ true → past 22 amount (totalsOf (entriesOf n (lent .journal))) ≡ false
+      → start (desk amount) (at n) lent ≡ sends (saleBytes amount (suc n)) (requested (at n) (asked amount (suc n))) lent
   unfolding start judged firstBroken takesOriginal
   goes free p =
-      let r = fit-ready (at n) j m fit in
+      let r = fit-ready (at n) lent fit in
       rw (
         r .long,
         r .order,
@@ -92,11 +92,11 @@ module _ (amount n : ℕ) (j m : List ℕ) (fit : Fit (at n) j m) (few : n < 300
         lt-leb 300 n few,
         lt-leb 900000 n (omega arith),
         p,
-        taken-free (entriesOf n j) (suc n) free,
+        taken-free (entriesOf n (lent .journal)) (suc n) free,
       )
 
-  pub goes-not : past 22 amount (totalsOf (entriesOf n j)) ≡ true → start (desk amount) (at n) j m ≡ refused 21 (at n) j m
+  pub goes-not : past 22 amount (totalsOf (entriesOf n (lent .journal))) ≡ true → start (desk amount) (at n) lent ≡ refused 21 (at n) lent
   unfolding start judged firstBroken takesOriginal
   goes-not p =
-      let r = fit-ready (at n) j m fit in
+      let r = fit-ready (at n) lent fit in
       rw (r .long, r .order, form, desk-form amount, lt-leb 300 n few, lt-leb 900000 n (omega arith), p)

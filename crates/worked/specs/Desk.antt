@@ -11,7 +11,7 @@ use Rattle.entry.specs.Entry.{entrySize}
 use Rattle.journal.specs.Journal.{entriesOf, totalsOf}
 use Rattle.kinds.specs.declared.Totals.{Totals}
 use Rattle.state.specs.State.{fresh}
-use Rattle.state.specs.Calls.{Result, quiet}
+use Rattle.state.specs.Calls.{lend, Result, quiet}
 use Rattle.state.specs.declared.Settings.{Settings}
 use Rattle.desk.specs.declared.Desk.{Desk}
 use Rattle.outgoing.specs.Outgoing.{field60}
@@ -26,7 +26,7 @@ settings limit =
 abbrev pub opened : ℕ → Result
 opened limit =
     run (signed-on (record { 0 = 1 }) ∷ [])
-      (quiet (fresh (settings limit)) (replicate (entrySize * limit) 0) (replicate largest 0))
+      (quiet (fresh (settings limit)) (lend (replicate (entrySize * limit) 0) (replicate largest 0)))
 
 -- what the desk keys
 abbrev pub keyed : ℕ → ℕ → ℕ → Event
@@ -57,4 +57,4 @@ toReversal trace a b = reply 0x0410 22 trace a b []
 
 -- debit and credit of the journal
 abbrev pub totals : Result → Totals
-totals r = totalsOf (entriesOf (r .state .entries) (r .journal))
+totals r = totalsOf (entriesOf (r .state .entries) (r .lent .journal))

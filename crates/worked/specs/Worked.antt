@@ -87,7 +87,7 @@ firstSale =
 
 -- the settlement request that would leave now, 80 bytes, as it is read
 abbrev pub settlementOf : Result → Message
-settlementOf r = readMessage (take 80 (run (settles ∷ []) r .message)) .message
+settlementOf r = readMessage (take 80 (run (settles ∷ []) r .lent .message)) .message
 
 -- *i: n sales of the largest amount, each approved
 abbrev pub sales : ℕ → Result → Result

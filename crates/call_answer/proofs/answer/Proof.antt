@@ -19,7 +19,7 @@ same-length-2 c = search needs
 returns : tie.Need-returns
 returns c =
     let at-first-refusal = c .before .before .first-refusal in
-    answer-first-refusal _ _ _ _ (at-first-refusal .ensures) _ _ _ (c .before .if1 .taken) (c .refused .ensures)
+    answer-first-refusal _ _ _ (at-first-refusal .ensures) _ _ _ (c .before .if1 .taken) (c .refused .ensures)
 
 read-requires : tie.Need-read-requires
 read-requires c κs = search needs
@@ -48,14 +48,14 @@ returns-2 c =
     let at-if1 = c .before .before .before .before .before .if1 in
     let at-read = c .before .before .before .before .read in
     let at-enum-told2 = c .before .before .enum-told2 in
-    answer-unread _ _ _ _ (at-first-refusal .ensures) _ _ _ _ _ (at-if1 .left) (at-read .ensures) (at-enum-told2 .given .1)
+    answer-unread _ _ _ (at-first-refusal .ensures) _ _ _ _ _ (at-if1 .left) (at-read .ensures) (at-enum-told2 .given .1)
     (rw (c .refused2 .ensures, c .before .reading-number .ensures, at-enum-told2 .given .1))
 
 answer-in-requires : tie.Need-answer-in-requires
 answer-in-requires c κs =
     let at-first-refusal = c .before .before .before .before .before .before .first-refusal in
     let at-if1 = c .before .before .before .before .before .if1 in
-    bounded _ _ _ _ (at-first-refusal .ensures) (at-if1 .left)
+    bounded _ _ _ (at-first-refusal .ensures) (at-if1 .left)
 
 same-length-5 : tie.Need-same-length-5
 same-length-5 c = search needs
@@ -70,7 +70,7 @@ returns-3 c =
     let at-read = c .before .before .before .before .before .before .before .read in
     let at-enum-told = c .before .before .before .before .before .enum-told in
     let at-answer-in = c .before .before .answer-in in
-    answer-read _ _ _ _ (at-first-refusal .ensures) _ _ _ _ _ (at-if1 .left) (at-read .ensures) (at-enum-told .given .1)
+    answer-read _ _ _ (at-first-refusal .ensures) _ _ _ _ _ (at-if1 .left) (at-read .ensures) (at-enum-told .given .1)
     (at-answer-in .ensures)
 
 pub answer-spec : {M : Type 1} → statement M

@@ -20,7 +20,7 @@ same-length-2 c = search needs
 returns : tie.Need-returns
 returns c =
     let at-first-refusal = c .before .before .first-refusal in
-    no-answer-first-refusal _ _ _ _ (at-first-refusal .ensures) _ (c .before .if1 .taken) (c .refused .ensures)
+    no-answer-first-refusal _ _ _ (at-first-refusal .ensures) _ (c .before .if1 .taken) (c .refused .ensures)
 
 enum-known-phase : tie.Need-enum-known-phase
 enum-known-phase c = search needs
@@ -39,7 +39,7 @@ returns-2 c =
     let at-args = c .before .before .before .before .before .before .before .before .args in
     let at-first-refusal = c .before .before .before .first-refusal in
     let at-if1 = c .before .before .if1 in
-    no-answer-unawaited (at-args .s) _ _ _ (at-first-refusal .ensures) _ (at-if1 .left)
+    no-answer-unawaited (at-args .s) _ _ (at-first-refusal .ensures) _ (at-if1 .left)
     (not-waiting (at-args .s .phase) (c .before .match .keys2)) (c .refused2 .ensures)
 
 silent-requires : tie.Need-silent-requires
@@ -60,7 +60,7 @@ returns-3 c =
     let at-if1 = c .before .before .before .before .before .before .before .before .if1 in
     let at-phase = c .before .before .before .before .before .before .phase in
     let at-silent = c .before .before .before .silent in
-    no-answer-changes _ _ _ _ (at-first-refusal .ensures) _ _ _ _ (at-if1 .left) (at-phase .given .1) (at-silent .ensures (bounded _ _ _ _ (at-first-refusal .ensures) (at-if1 .left)))
+    no-answer-changes _ _ _ (at-first-refusal .ensures) _ _ _ _ (at-if1 .left) (at-phase .given .1) (at-silent .ensures (bounded _ _ _ (at-first-refusal .ensures) (at-if1 .left)))
     (c .quiet .ensures)
 
 pub no-answer-spec : {M : Type 1} → statement M

@@ -19,7 +19,7 @@ same-length-2 c = search needs
 returns : tie.Need-returns
 returns c =
     let at-first-refusal = c .before .before .first-refusal in
-    power-first-refusal _ _ _ _ (at-first-refusal .ensures) _ (c .before .if1 .taken) (c .refused .ensures)
+    power-first-refusal _ _ _ (at-first-refusal .ensures) _ (c .before .if1 .taken) (c .refused .ensures)
 
 silent-in-requires : tie.Need-silent-in-requires
 silent-in-requires c κs = search needs
@@ -41,7 +41,7 @@ returns-2 c =
     let at-first-refusal = c .before .before .before .before .before .before .before .first-refusal in
     let at-if1 = c .before .before .before .before .before .before .if1 in
     let at-silent-in = c .before .before .before .before .silent-in in
-    power-changes _ _ _ _ (at-first-refusal .ensures) _ _ _ _ (at-if1 .left) (at-silent-in .ensures (bounded _ _ _ _ (at-first-refusal .ensures) (at-if1 .left))) (c .before .signed .ensures)
+    power-changes _ _ _ (at-first-refusal .ensures) _ _ _ _ (at-if1 .left) (at-silent-in .ensures (bounded _ _ _ (at-first-refusal .ensures) (at-if1 .left))) (c .before .signed .ensures)
     (c .quiet .ensures)
 
 pub power-returned-spec : {M : Type 1} → statement M

@@ -26,7 +26,7 @@ returns c =
     let at-reversal-message = c .before .before .before .before .before .before .reversal-message in
     let at-write-outgoing = c .before .before .before .before .write-outgoing in
     let at-in-phase = c .before .in-phase in
-    rw (c .sends .ensures) (left (at-args .s) _ (at-args .v) _ _ _ _ _ (at-pre .0) (at-pre .1) (at-reversal-message .ensures)
+    rw (c .sends .ensures) (left (at-args .s) _ (at-args .v) _ _ _ _ (at-pre .0) (at-pre .1) (at-reversal-message .ensures)
     (at-write-outgoing .ensures .0)
     (at-write-outgoing .ensures .1) (at-in-phase .ensures))
 

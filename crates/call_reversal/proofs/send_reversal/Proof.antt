@@ -23,7 +23,7 @@ returns : tie.Need-returns
 returns c =
     let at-args = c .before .before .before .before .before .before .before .args in
     let at-idle-refusal = c .before .before .idle-refusal in
-    turned-down (at-args .s) _ _ _ (at-idle-refusal .ensures) _ (c .before .if1 .taken) (c .refused .ensures)
+    turned-down (at-args .s) _ _ (at-idle-refusal .ensures) _ (c .before .if1 .taken) (c .refused .ensures)
 
 enum-known-phase : tie.Need-enum-known-phase
 enum-known-phase c = search needs
@@ -42,7 +42,7 @@ returns-2 c =
     let at-args = c .before .before .before .before .before .before .before .before .args in
     let at-idle-refusal = c .before .before .before .idle-refusal in
     let at-if1 = c .before .before .if1 in
-    nothing-pending (at-args .s) _ _ _ (at-idle-refusal .ensures) _ (at-if1 .left)
+    nothing-pending (at-args .s) _ _ (at-idle-refusal .ensures) _ (at-if1 .left)
     (not-pending (at-args .s .phase) (c .before .match .keys2))
     (c .refused2 .ensures)
 
@@ -59,8 +59,8 @@ send-requires c κs =
     let at-if1 = c .before .before .before .before .before .before .if1 in
     let at-phase = c .before .before .before .before .phase in
     let at-again = c .before .before .again in (
-      held (at-args .s) _ _ _ (at-idle-refusal .ensures) _ _ (at-if1 .left) (at-phase .given .1) (at-again .ensures (few (at-args .s) _ _ _ (at-idle-refusal .ensures) _ (at-if1 .left) (at-phase .given .1))) l k,
-      room (at-args .s) _ _ _ (at-idle-refusal .ensures) (at-if1 .left),
+      held (at-args .s) _ _ (at-idle-refusal .ensures) _ _ (at-if1 .left) (at-phase .given .1) (at-again .ensures (few (at-args .s) _ _ (at-idle-refusal .ensures) _ (at-if1 .left) (at-phase .given .1))) l k,
+      room (at-args .s) _ _ (at-idle-refusal .ensures) (at-if1 .left),
     )
 
 same-length-5 : tie.Need-same-length-5
@@ -78,7 +78,7 @@ returns-3 c =
     let at-phase = c .before .before .before .before .before .before .before .phase in
     let at-again = c .before .before .before .before .before .again in
     let at-send = c .before .before .send in
-    goes-out (at-args .s) _ _ _ (at-idle-refusal .ensures) _ _ _ _ (at-if1 .left) (at-phase .given .1) (at-again .ensures (few (at-args .s) _ _ _ (at-idle-refusal .ensures) _ (at-if1 .left) (at-phase .given .1)))
+    goes-out (at-args .s) _ _ (at-idle-refusal .ensures) _ _ _ _ (at-if1 .left) (at-phase .given .1) (at-again .ensures (few (at-args .s) _ _ (at-idle-refusal .ensures) _ (at-if1 .left) (at-phase .given .1)))
     (at-send .ensures)
 
 pub send-reversal-spec : {M : Type 1} → statement M

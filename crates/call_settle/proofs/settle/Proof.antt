@@ -22,7 +22,7 @@ returns : tie.Need-returns
 returns c =
     let at-args = c .before .before .before .before .before .before .before .args in
     let at-refusal = c .before .before .refusal in
-    rw (c .refused .ensures) (is-refused (at-args .s) _ _ _ (at-refusal .ensures) (c .before .if1 .taken))
+    rw (c .refused .ensures) (is-refused (at-args .s) _ _ (at-refusal .ensures) (c .before .if1 .taken))
 
 take-requires : tie.Need-take-requires
 take-requires c κs = search needs
@@ -66,7 +66,7 @@ returns-2 c =
     let k : length (at-args-s .settings .merchant) ≡ 15 = search needs in
     let at-settles = c .before .settles in
     rw (c .sends .ensures)
-    (is-sent at-args-s _ _ _ at-refusal-ensures at-if1-left l k _ _ _ _ _ _ at-take-ensures at-totals-of-ensures
+    (is-sent at-args-s _ _ at-refusal-ensures at-if1-left l k _ _ _ _ _ _ at-take-ensures at-totals-of-ensures
     at-settlement-message-ensures (at-write-outgoing-ensures .0) (at-write-outgoing-ensures .1) (at-settles .ensures))
 
 pub settle-spec : {M : Type 1} → statement M

@@ -10,7 +10,7 @@ first-refusal-requires c κs = search needs
 returns : tie.Need-returns
 returns c =
     let at-args = c .before .before .before .before .args in
-    stops (at-args .batch) (at-args .s) _ _ _ (c .before .first-refusal .ensures) (c .if1 .taken)
+    stops (at-args .batch) (at-args .s) _ _ (c .before .first-refusal .ensures) (c .if1 .taken)
 
 is-waiting-requires : tie.Need-is-waiting-requires
 is-waiting-requires c κs = search needs
@@ -24,7 +24,7 @@ returns-2 c =
     let at-first-refusal = c .before .before .before .before .first-refusal in
     let at-if1 = c .before .before .before .if1 in
     let at-is-waiting = c .before .before .is-waiting in
-    waits (at-args .batch) (at-args .s) _ _ _ (at-first-refusal .ensures) _ (at-if1 .left) (at-is-waiting .ensures) (c .if2 .taken)
+    waits (at-args .batch) (at-args .s) _ _ (at-first-refusal .ensures) _ (at-if1 .left) (at-is-waiting .ensures) (c .if2 .taken)
 
 returns-3 : tie.Need-returns-3
 returns-3 c =
@@ -33,7 +33,7 @@ returns-3 c =
     let at-if1 = c .before .before .before .before .if1 in
     let at-is-waiting = c .before .before .before .is-waiting in
     let at-is-number = c .before .before .is-number in
-    out-of-range (at-args .batch) (at-args .s) _ _ _ (at-first-refusal .ensures) _ _ (at-if1 .left) (at-is-waiting .ensures)
+    out-of-range (at-args .batch) (at-args .s) _ _ (at-first-refusal .ensures) _ _ (at-if1 .left) (at-is-waiting .ensures)
     (c .before .if2 .left) (at-is-number .ensures) (c .if3 .taken)
 
 returns-4 : tie.Need-returns-4
@@ -43,7 +43,7 @@ returns-4 c =
     let at-if1 = c .before .before .before .before .if1 in
     let at-is-waiting = c .before .before .before .is-waiting in
     let at-is-number = c .before .before .is-number in
-    none (at-args .batch) (at-args .s) _ _ _ (at-first-refusal .ensures) _ _ (at-if1 .left) (at-is-waiting .ensures) (c .before .if2 .left)
+    none (at-args .batch) (at-args .s) _ _ (at-first-refusal .ensures) _ _ (at-if1 .left) (at-is-waiting .ensures) (c .before .if2 .left)
     (at-is-number .ensures) (c .if3 .left)
 
 pub refusal-spec : {M : Type 1} → statement M

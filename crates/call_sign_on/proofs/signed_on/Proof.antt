@@ -20,7 +20,7 @@ returns : tie.Need-returns
 returns c =
     let at-args = c .before .before .before .before .before .before .before .args in
     let at-refusal = c .before .before .refusal in
-    rw (c .refused .ensures) (turned-down (at-args .batch) (at-args .s) _ _ _ (at-refusal .ensures) (c .before .if1 .taken))
+    rw (c .refused .ensures) (turned-down (at-args .batch) (at-args .s) _ _ (at-refusal .ensures) (c .before .if1 .taken))
 
 adopts-requires : tie.Need-adopts-requires
 adopts-requires c κs = search needs
@@ -46,7 +46,7 @@ returns-2 c =
     let at-if2 = c .before .before .if2 in
     let at-on = c .before .on in
     rw (c .quiet .ensures)
-    (adopted (at-args .batch) (at-args .s) _ _ _ (at-refusal .ensures) _ _ (at-if1 .left) (at-adopts .ensures) (at-if2 .taken)
+    (adopted (at-args .batch) (at-args .s) _ _ (at-refusal .ensures) _ _ (at-if1 .left) (at-adopts .ensures) (at-if2 .taken)
     (at-on .ensures))
 
 on-requires-2 : tie.Need-on-requires-2
@@ -70,7 +70,7 @@ returns-3 c =
     let at-if2 = c .before .before .if2 in
     let at-on2 = c .before .on2 in
     rw (c .quiet2 .ensures)
-    (kept (at-args .batch) (at-args .s) _ _ _ (at-refusal .ensures) _ _ (at-if1 .left) (at-adopts .ensures) (at-if2 .left)
+    (kept (at-args .batch) (at-args .s) _ _ (at-refusal .ensures) _ _ (at-if1 .left) (at-adopts .ensures) (at-if2 .left)
     (at-on2 .ensures))
 
 pub signed-on-spec : {M : Type 1} → statement M

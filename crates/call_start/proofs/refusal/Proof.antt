@@ -2,6 +2,7 @@
 use borrow.Author.Needs.{needs}
 use denote.Ref.{now}
 use Rattle.journal.specs.Journal.{entriesOf}
+use Rattle.state.specs.Calls.{lend}
 use Rattle.call_start.proofs.Refusals.{stops-first-refusal, stops-rest, stops-desk, asks-journal}
 use Rattle.call_start.proofs.refusal.Statement.{statement}
 use Rattle.call_start.proofs.refusal.Tie as tie
@@ -13,7 +14,7 @@ returns : tie.Need-returns
 returns c =
     let at-args = c .before .before .before .before .before .args in
     stops-first-refusal (at-args .d) (at-args .s) (entriesOf (at-args .s .entries) (now (at-args .journal))) (at-args .place) (at-args .e)
-    (now (at-args .journal)) (now (at-args .message)) _ (c .before .first-refusal .ensures) (c .if1 .taken)
+    (lend (now (at-args .journal)) (now (at-args .message))) _ (c .before .first-refusal .ensures) (c .if1 .taken)
 
 rest-refusal-requires : tie.Need-rest-refusal-requires
 rest-refusal-requires c κs = search needs
@@ -24,7 +25,7 @@ returns-2 c =
     let at-first-refusal = c .before .before .before .first-refusal in
     let at-if1 = c .before .before .if1 in
     stops-rest (at-args .d) (at-args .s) (entriesOf (at-args .s .entries) (now (at-args .journal))) (at-args .place) (at-args .e)
-    (now (at-args .journal)) (now (at-args .message)) _ _ (at-first-refusal .ensures) (at-if1 .left) (c .before .rest-refusal .ensures)
+    (lend (now (at-args .journal)) (now (at-args .message))) _ _ (at-first-refusal .ensures) (at-if1 .left) (c .before .rest-refusal .ensures)
     (c .if2 .taken)
 
 desk-refusal-requires : tie.Need-desk-refusal-requires
@@ -38,7 +39,7 @@ returns-3 c =
     let at-rest-refusal = c .before .before .before .rest-refusal in
     let at-if2 = c .before .before .if2 in
     stops-desk (at-args .d) (at-args .s) (entriesOf (at-args .s .entries) (now (at-args .journal))) (at-args .place) (at-args .e)
-    (now (at-args .journal)) (now (at-args .message)) _ _ _ (at-first-refusal .ensures) (at-if1 .left) (at-rest-refusal .ensures)
+    (lend (now (at-args .journal)) (now (at-args .message))) _ _ _ (at-first-refusal .ensures) (at-if1 .left) (at-rest-refusal .ensures)
     (at-if2 .left) (c .before .desk-refusal .ensures) (c .if3 .taken)
 
 totals-of-requires : tie.Need-totals-of-requires
@@ -57,7 +58,7 @@ returns-4 c =
     let at-if2 = c .before .before .before .before .if2 in
     let at-desk-refusal = c .before .before .before .desk-refusal in
     asks-journal (at-args .d) (at-args .s) (entriesOf (at-args .s .entries) (now (at-args .journal))) (at-args .place) (at-args .e)
-    (now (at-args .journal)) (now (at-args .message)) _ _ _ _ at-pre (at-first-refusal .ensures) (at-if1 .left) (at-rest-refusal .ensures)
+    (lend (now (at-args .journal)) (now (at-args .message))) _ _ _ _ at-pre (at-first-refusal .ensures) (at-if1 .left) (at-rest-refusal .ensures)
     (at-if2 .left) (at-desk-refusal .ensures) (c .before .before .if3 .left)
     (rw (c .before .totals-of .ensures) at (c .journal-refusal .ensures))
 

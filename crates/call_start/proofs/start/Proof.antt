@@ -3,6 +3,7 @@ use mathlib.Core.Path.{_≡_}
 use borrow.Author.Needs.{needs}
 use denote.Ref.{now}
 use lib.ListN.{length}
+use Rattle.state.specs.Calls.{lend}
 use Rattle.call_start.proofs.Results.{is-refused, left-may, is-left}
 use Rattle.call_start.proofs.start.Statement.{statement}
 use Rattle.call_start.proofs.start.Tie as tie
@@ -32,7 +33,7 @@ returns c =
     let at-entry-of = c .before .before .before .before .before .entry-of in
     let at-refusal = c .before .before .refusal in
     rw (c .refused .ensures)
-    (is-refused (at-args .d) (at-args .s) (now (at-args .journal)) (now (at-args .message)) (at-original-of .result) (at-entry-of .result) _
+    (is-refused (at-args .d) (at-args .s) (lend (now (at-args .journal)) (now (at-args .message))) (at-original-of .result) (at-entry-of .result) _
     (at-original-of .ensures)
     (at-entry-of .ensures) (at-refusal .ensures) (c .before .if1 .taken))
 
@@ -68,7 +69,7 @@ send-requires c κs =
     .before .before .good .1 .0 .1 .1 .1 .1 .1 .1 .1 .1 in
     let reference : length (at-args .d .reference) ≡ 12 = search needs in
     let authorisation : length (at-args .d .authorisation) ≡ 6 = search needs in
-    left-may (at-args .d) (at-args .s) (now (at-args .journal)) (now (at-args .message)) at-original-of-result at-entry-of-result _
+    left-may (at-args .d) (at-args .s) (lend (now (at-args .journal)) (now (at-args .message))) at-original-of-result at-entry-of-result _
     at-original-of-ensures at-entry-of-ensures at-refusal-ensures
     terminal merchant reference authorisation at-if1-left at-take-result _ _ at-request-of-ensures (c .before .named-by .ensures)
 
@@ -92,7 +93,7 @@ returns-2 c =
     let at-request-of = c .before .before .before .before .before .request-of in
     let at-named-by = c .before .before .before .before .named-by in
     let at-send = c .before .before .send in
-    is-left (at-args .d) (at-args .s) (now (at-args .journal)) (now (at-args .message)) (at-original-of .result) (at-entry-of .result) _
+    is-left (at-args .d) (at-args .s) (lend (now (at-args .journal)) (now (at-args .message))) (at-original-of .result) (at-entry-of .result) _
     (at-original-of .ensures) (at-entry-of .ensures) (at-refusal .ensures)
     (at-if1 .left) (at-take .result) _ _ _ _ (at-take .ensures) (at-request-of .ensures) (at-named-by .ensures) (at-send .ensures)
 

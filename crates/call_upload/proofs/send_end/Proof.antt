@@ -27,7 +27,7 @@ returns c =
     let at-write-outgoing = c .before .before .before .before .write-outgoing in
     let at-ending = c .before .ending in
     rw (c .sends .ensures)
-    (end-left (at-args .s) _ (at-args .trace) _ _ _ _ _ (at-pre .0) (at-pre .1) (at-end-message .ensures) (at-write-outgoing .ensures .0)
+    (end-left (at-args .s) _ (at-args .trace) _ _ _ _ (at-pre .0) (at-pre .1) (at-end-message .ensures) (at-write-outgoing .ensures .0)
     (at-write-outgoing .ensures .1) (at-ending .ensures))
 
 pub send-end-spec : {M : Type 1} → statement M

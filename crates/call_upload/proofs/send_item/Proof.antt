@@ -36,7 +36,7 @@ returns c =
     let at-resend = c .before .before .before .before .resend in
     let at-in-phase = c .before .in-phase in
     rw (c .sends .ensures)
-    (item-left (at-args .s) _ _ (at-args .e) _ _ _ _ _ _ (at-pre .1 .0) (at-pre .1 .1) (at-item-message .ensures)
+    (item-left (at-args .s) _ _ (at-args .e) _ _ _ _ _ (at-pre .1 .0) (at-pre .1 .1) (at-item-message .ensures)
     (at-write-outgoing .ensures .0) (at-write-outgoing .ensures .1) (at-resend .ensures (at-pre .0)) (at-in-phase .ensures))
 
 pub send-item-spec : {M : Type 1} → statement M

@@ -25,8 +25,8 @@ send-item-requires c κs =
     let g = c .before .before .before .before .before .before .before .before .before .before .before .good .0 .1 .1 .0 in
     let l : length (at-args-s .settings .terminal) ≡ 8 = search needs in
     let k : length (at-args-s .settings .merchant) ≡ 15 = search needs in (
-      resends-low at-args-s _ _ at-pre _ _ _ at-next-due-ensures (at-i-given .1) at-entry-at-ensures,
-      (item-fields at-args-s _ _ at-pre l k _ _ _ at-next-due-ensures (at-i-given .1) at-entry-at-ensures, room at-args-s _ _ at-pre),
+      resends-low at-args-s _ at-pre _ _ _ at-next-due-ensures (at-i-given .1) at-entry-at-ensures,
+      (item-fields at-args-s _ at-pre l k _ _ _ at-next-due-ensures (at-i-given .1) at-entry-at-ensures, room at-args-s _ at-pre),
     )
 
 enum-told : tie.Need-enum-told
@@ -42,7 +42,7 @@ send-end-requires c κs =
     let g = c .before .before .before .before .before .before .before .before .before .before .before .good .0 .1 .1 .0 in
     let l : length (at-args .s .settings .terminal) ≡ 8 = search needs in
     let k : length (at-args .s .settings .merchant) ≡ 15 = search needs in
-    (end-fields (at-args .s) _ _ at-pre l k _, room (at-args .s) _ _ at-pre)
+    (end-fields (at-args .s) _ at-pre l k _, room (at-args .s) _ at-pre)
 
 same-length : tie.Need-same-length
 same-length c = search needs
@@ -58,7 +58,7 @@ returns c =
     let at-i = c .before .before .before .before .before .before .before .before .before .before .i in
     let at-entry-at = c .before .before .before .before .before .before .before .entry-at in
     let at-send-item = c .before .before .before .before .send-item in
-    item-next (at-args .s) _ _ _ _ _ _ _ _ (at-next-due .ensures) (at-i .given .1) (at-entry-at .ensures) (at-send-item .ensures)
+    item-next (at-args .s) _ _ _ _ _ _ (at-next-due .ensures) (at-i .given .1) (at-entry-at .ensures) (at-send-item .ensures)
 
 same-length-3 : tie.Need-same-length-3
 same-length-3 c = search needs
@@ -73,7 +73,7 @@ returns-2 c =
     let at-enum-told = c .before .before .before .before .before .before .before .before .enum-told in
     let at-take = c .before .before .before .before .before .take in
     let at-send-end = c .before .before .send-end in
-    end-next (at-args .s) _ _ _ _ _ _ (at-next-due .ensures) (at-enum-told .given .1) (at-take .ensures) (at-send-end .ensures)
+    end-next (at-args .s) _ _ _ _ _ (at-next-due .ensures) (at-enum-told .given .1) (at-take .ensures) (at-send-end .ensures)
 
 pub send-next-spec : {M : Type 1} → statement M
 send-next-spec =

@@ -22,7 +22,7 @@ returns : tie.Need-returns
 returns c =
     let at-args = c .before .before .before .before .before .before .before .args in
     let at-idle-refusal = c .before .before .idle-refusal in
-    turned-down (at-args .s) _ _ _ (at-idle-refusal .ensures) _ (c .before .if1 .taken) (c .refused .ensures)
+    turned-down (at-args .s) _ _ (at-idle-refusal .ensures) _ (c .before .if1 .taken) (c .refused .ensures)
 
 enum-told : tie.Need-enum-told
 enum-told c = search needs
@@ -41,7 +41,7 @@ returns-2 c =
     let at-args = c .before .before .before .before .before .before .before .before .args in
     let at-idle-refusal = c .before .before .before .idle-refusal in
     let at-if1 = c .before .before .if1 in
-    no-upload (at-args .s) _ _ _ (at-idle-refusal .ensures) _ (at-if1 .left) (not-uploading (at-args .s .phase) (c .before .match .keys2))
+    no-upload (at-args .s) _ _ (at-idle-refusal .ensures) _ (at-if1 .left) (not-uploading (at-args .s .phase) (c .before .match .keys2))
     (c .refused2 .ensures)
 
 send-next-requires : tie.Need-send-next-requires
@@ -64,7 +64,7 @@ returns-3 c =
     let at-if1 = c .before .before .before .before .before .before .before .before .before .if1 in
     let at-enum-told = c .before .before .before .before .before .before .before .enum-told in
     let at-send-next = c .before .before .before .before .send-next in
-    goes-out (at-args .s) _ _ _ (at-idle-refusal .ensures) _ _ _ (at-if1 .left) (at-enum-told .given .1) (at-send-next .ensures)
+    goes-out (at-args .s) _ _ (at-idle-refusal .ensures) _ _ (at-if1 .left) (at-enum-told .given .1) (at-send-next .ensures)
 
 pub send-next-upload-spec : {M : Type 1} → statement M
 send-next-upload-spec =

@@ -21,10 +21,10 @@ keeps-rule2-requires : tie.Need-keeps-rule2-requires
 keeps-rule2-requires c κs = search needs
 
 returns-3 : tie.Need-returns-3
-returns-3 c = no-order _ _ _ _ (omega arith) (omega arith) (c .before .keeps-rule2 .ensures) (c .if3 .taken)
+returns-3 c = no-order _ _ _ (omega arith) (omega arith) (c .before .keeps-rule2 .ensures) (c .if3 .taken)
 
 returns-4 : tie.Need-returns-4
-returns-4 c = all-kept _ _ _ _ (omega arith) (omega arith) (c .before .keeps-rule2 .ensures) (c .if3 .left)
+returns-4 c = all-kept _ _ _ (omega arith) (omega arith) (c .before .keeps-rule2 .ensures) (c .if3 .left)
 
 pub first-refusal-spec : {M : Type 1} → statement M
 first-refusal-spec =

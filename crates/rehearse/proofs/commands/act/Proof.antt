@@ -4,6 +4,7 @@ use lib.Seq.{length-take-le}
 use Rattle.rehearse.proofs.Calls.{did}
 use Rattle.rehearse.proofs.Laws.{call-done, no-call-done}
 use borrow.Author.Needs.{needs}
+use Rattle.state.specs.Calls.{lend}
 use Rattle.rehearse.proofs.commands.act.Statement.{statement}
 use Rattle.rehearse.proofs.commands.act.Tie as tie
 
@@ -84,7 +85,7 @@ returns c =
     .answer-into in
     let at-make = c .before .before .before .before .before .before .before .before .before .make in
     let at-told = c .before .before .told in
-    call-done (at-args .number) (at-args .s .now) (at-args .r) (at-args .journal .now) (at-args .message .now) (at-parse .ensures)
+    call-done (at-args .number) (at-args .s .now) (at-args .r) (lend (at-args .journal .now) (at-args .message .now)) (at-parse .ensures)
     (at-last-message .ensures) (at-left-as .ensures) (at-asked-by .ensures) (at-a .given .1)
     (rw (at-word .ensures) at (at-answer-into .ensures .1)) (did (at-args .r) (at-make .result)
     (at-make .ensures) (at-told .ensures))
@@ -110,7 +111,7 @@ returns-2 c =
     let at-a2 = c .before .before .before .before .before .before .before .before .a2 in
     let at-changed = c .before .before .before .before .before .before .changed in
     let at-say = c .before .before .say in
-    no-call-done (at-args .number) (at-args .s .now) (at-args .r) (at-args .journal .now) (at-args .message .now)
+    no-call-done (at-args .number) (at-args .s .now) (at-args .r) (lend (at-args .journal .now) (at-args .message .now))
     (at-parse .ensures) (at-last-message .ensures) (at-left-as .ensures) (at-asked-by .ensures) (at-a2 .given .1)
     (at-changed .ensures) (at-say .ensures)
 

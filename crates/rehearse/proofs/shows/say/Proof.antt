@@ -3,6 +3,7 @@ use mathlib.Core.List.{[]}
 use Rattle.texts.proofs.Texts.{start}
 use Rattle.rehearse.proofs.Laws.{says-error, says, keeps-silent}
 use borrow.Author.Needs.{needs}
+use Rattle.state.specs.Calls.{lend}
 use Rattle.rehearse.proofs.shows.say.Statement.{statement}
 use Rattle.rehearse.proofs.shows.say.Tie as tie
 
@@ -24,7 +25,7 @@ returns c =
     let at-if1 = c .before .before .before .before .before .before .if1 in
     let at-row = c .before .before .before .before .row in
     let at-add-error = c .before .before .add-error in
-    says-error (at-args .error) (at-args .number) (at-args .command) (at-args .r) (at-args .journal .now) (at-args .message .now)
+    says-error (at-args .error) (at-args .number) (at-args .command) (at-args .r) (lend (at-args .journal .now) (at-args .message .now))
     (at-if1 .taken) (rw (at-row .ensures) at
     (at-add-error .ensures [] (start _)))
 
@@ -49,7 +50,7 @@ returns-2 c =
     let at-if1 = c .before .before .before .before .before .before .before .if1 in
     let at-command = c .before .before .before .before .before .command in
     let at-show = c .before .before .show in
-    says (at-args .error) (at-args .number) (at-args .command) (at-args .r) (at-args .journal .now) (at-args .message .now)
+    says (at-args .error) (at-args .number) (at-args .command) (at-args .r) (lend (at-args .journal .now) (at-args .message .now))
     (at-if1 .left) (at-command .given .1) (at-show .ensures)
 
 same-length-3 : tie.Need-same-length-3
@@ -61,13 +62,13 @@ returns-3 c =
     let at-if1 = c .before .before .before .before .before .before .before .if1 in
     let at-command2 = c .before .before .before .before .before .command2 in
     let at-add-fault = c .before .before .add-fault in
-    says (at-args .error) (at-args .number) (at-args .command) (at-args .r) (at-args .journal .now) (at-args .message .now)
+    says (at-args .error) (at-args .number) (at-args .command) (at-args .r) (lend (at-args .journal .now) (at-args .message .now))
     (at-if1 .left) (at-command2 .given .1) (at-add-fault .ensures)
 
 returns-4 : tie.Need-returns-4
 returns-4 c =
     let at-args = c .before .before .before .before .before .args in
-    keeps-silent (at-args .error) (at-args .number) (at-args .command) (at-args .r) (at-args .journal .now) (at-args .message .now)
+    keeps-silent (at-args .error) (at-args .number) (at-args .command) (at-args .r) (lend (at-args .journal .now) (at-args .message .now))
     (at-args .out .now) (c .before .if1 .left) (c .match .keys3)
 
 pub say-spec : {M : Type 1} → statement M

@@ -3,6 +3,7 @@ use Rattle.rehearse.proofs.Laws.{shows}
 use mathlib.Core.List.{[]}
 use Rattle.texts.proofs.Texts.{start}
 use borrow.Author.Needs.{needs}
+use Rattle.state.specs.Calls.{lend}
 use Rattle.rehearse.proofs.shows.show.Statement.{statement}
 use Rattle.rehearse.proofs.shows.show.Tie as tie
 
@@ -56,7 +57,7 @@ returns c =
     let at-args = c .before .before .before .before .before .before .before .before .before .before .before .before .args in
     let at-enum-told = c .before .before .before .before .enum-told in
     let at-add-counts = c .before .before .add-counts in
-    shows (at-args .r) (at-args .journal .now) (at-args .message .now) (at-enum-told .given .1) (at-add-counts .ensures [] (start _))
+    shows (at-args .r) (lend (at-args .journal .now) (at-args .message .now)) (at-enum-told .given .1) (at-add-counts .ensures [] (start _))
 
 same-length-2 : tie.Need-same-length-2
 same-length-2 c = search needs
@@ -67,7 +68,7 @@ returns-2 c =
     let at-enum-told2 = c .before .before .before .before .before .enum-told2 in
     let at-totals-of = c .before .before .before .before .totals-of in
     let at-add-totals = c .before .before .add-totals in
-    shows (at-args .r) (at-args .journal .now) (at-args .message .now)
+    shows (at-args .r) (lend (at-args .journal .now) (at-args .message .now))
     (at-enum-told2 .given .1) (rw (at-totals-of .ensures) at
     (at-add-totals .ensures [] (start _)))
 
@@ -79,7 +80,7 @@ returns-3 c =
     let at-args = c .before .before .before .before .before .before .before .before .before .before .before .before .args in
     let at-enum-told3 = c .before .before .before .before .enum-told3 in
     let at-add-state = c .before .before .add-state in
-    shows (at-args .r) (at-args .journal .now) (at-args .message .now) (at-enum-told3 .given .1) (at-add-state .ensures [] (start _))
+    shows (at-args .r) (lend (at-args .journal .now) (at-args .message .now)) (at-enum-told3 .given .1) (at-add-state .ensures [] (start _))
 
 same-length-4 : tie.Need-same-length-4
 same-length-4 c = search needs
@@ -89,7 +90,7 @@ returns-4 c =
     let at-args = c .before .before .before .before .before .before .before .before .before .before .before .before .args in
     let at-enum-told4 = c .before .before .before .before .enum-told4 in
     let at-add-journal = c .before .before .add-journal in
-    shows (at-args .r) (at-args .journal .now) (at-args .message .now) (at-enum-told4 .given .1) (at-add-journal .ensures [] (start _))
+    shows (at-args .r) (lend (at-args .journal .now) (at-args .message .now)) (at-enum-told4 .given .1) (at-add-journal .ensures [] (start _))
 
 same-length-5 : tie.Need-same-length-5
 same-length-5 c = search needs
@@ -100,7 +101,7 @@ returns-5 c =
     let at-enum-told5 = c .before .before .before .before .before .enum-told5 in
     let at-last = c .before .before .before .before .last in
     let at-add-message = c .before .before .add-message in
-    shows (at-args .r) (at-args .journal .now) (at-args .message .now)
+    shows (at-args .r) (lend (at-args .journal .now) (at-args .message .now))
     (at-enum-told5 .given .1) (rw (at-last .ensures) at
     (at-add-message .ensures [] (start _)))
 
@@ -112,7 +113,7 @@ returns-6 c =
     let at-args = c .before .before .before .before .before .before .before .before .before .before .before .before .args in
     let at-enum-told6 = c .before .before .before .before .enum-told6 in
     let at-put-fields = c .before .before .put-fields in
-    shows (at-args .r) (at-args .journal .now) (at-args .message .now) (at-enum-told6 .given .1) (at-put-fields .ensures)
+    shows (at-args .r) (lend (at-args .journal .now) (at-args .message .now)) (at-enum-told6 .given .1) (at-put-fields .ensures)
 
 pub show-spec : {M : Type 1} → statement M
 show-spec =
