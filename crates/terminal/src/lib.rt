@@ -10,13 +10,8 @@ use state::State;
 ghost use mathlib.Core.Path.{_≡_};
 ghost use Rattle.state.specs.State.{fresh};
 ghost use Rattle.state.specs.Calls.{lend};
-ghost use Rattle.call_sign_on.specs.SignOn.{signedOn};
-ghost use Rattle.call_start.specs.Start.{start};
-ghost use Rattle.call_answer.specs.Answer.{answer, noAnswer, powerReturned};
-ghost use Rattle.call_reversal.specs.SendReversal.{sendReversal};
-ghost use Rattle.call_settle.specs.Settle.{settle};
-ghost use Rattle.call_upload.specs.SendNextUpload.{sendNextUpload};
 ghost use Rattle.terminal.specs.Terminal.{stepResult, stepOf};
+ghost use Rattle.terminal.specs.Events.{call, signed-on, starts, answers, no-answer, power-returned, send-reversal, settles, send-next-upload};
 
 pub struct Terminal {
     pub state: State,
@@ -51,7 +46,7 @@ impl Terminal {
 
     // The outer program has signed on, and the centre has told the batch number.
     pub fn signed_on(self, batch: Batch, journal: &mut [u8], message: &mut [u8]) -> Step
-        ensures { λ r. ⌜ stepResult r (lend (now (journal .exit)) (now (message .exit))) ≡ signedOn batch (self .state) (lend (now (journal .entry)) (now (message .entry))) ⌝ }
+        ensures { λ r. ⌜ stepResult r (lend (now (journal .exit)) (now (message .exit))) ≡ call (signed-on batch) (self .state) (lend (now (journal .entry)) (now (message .entry))) ⌝ }
     {
         let state = self.state;
         step_of(call_sign_on::signed_on(state, batch, journal, message))
@@ -59,7 +54,7 @@ impl Terminal {
 
     // A card request leaves.
     pub fn start(self, desk: Desk, journal: &mut [u8], message: &mut [u8]) -> Step
-        ensures { λ r. ⌜ stepResult r (lend (now (journal .exit)) (now (message .exit))) ≡ start desk (self .state) (lend (now (journal .entry)) (now (message .entry))) ⌝ }
+        ensures { λ r. ⌜ stepResult r (lend (now (journal .exit)) (now (message .exit))) ≡ call (starts desk) (self .state) (lend (now (journal .entry)) (now (message .entry))) ⌝ }
     {
         let state = self.state;
         step_of(call_start::start(state, desk, journal, message))
@@ -67,7 +62,7 @@ impl Terminal {
 
     // The centre's bytes, and the key pad's word on the MAC.
     pub fn answer(self, bytes: &[u8], good: bool, journal: &mut [u8], message: &mut [u8]) -> Step
-        ensures { λ r. ⌜ stepResult r (lend (now (journal .exit)) (now (message .exit))) ≡ answer (now (bytes .entry)) good (self .state) (lend (now (journal .entry)) (now (message .entry))) ⌝ }
+        ensures { λ r. ⌜ stepResult r (lend (now (journal .exit)) (now (message .exit))) ≡ call (answers (now (bytes .entry)) good) (self .state) (lend (now (journal .entry)) (now (message .entry))) ⌝ }
     {
         let state = self.state;
         step_of(call_answer::answer(state, bytes, good, journal, message))
@@ -75,7 +70,7 @@ impl Terminal {
 
     // The line has fallen silent.
     pub fn no_answer(self, journal: &mut [u8], message: &mut [u8]) -> Step
-        ensures { λ r. ⌜ stepResult r (lend (now (journal .exit)) (now (message .exit))) ≡ noAnswer (self .state) (lend (now (journal .entry)) (now (message .entry))) ⌝ }
+        ensures { λ r. ⌜ stepResult r (lend (now (journal .exit)) (now (message .exit))) ≡ call no-answer (self .state) (lend (now (journal .entry)) (now (message .entry))) ⌝ }
     {
         let state = self.state;
         step_of(call_answer::no_answer(state, journal, message))
@@ -83,7 +78,7 @@ impl Terminal {
 
     // Power has returned.
     pub fn power_returned(self, journal: &mut [u8], message: &mut [u8]) -> Step
-        ensures { λ r. ⌜ stepResult r (lend (now (journal .exit)) (now (message .exit))) ≡ powerReturned (self .state) (lend (now (journal .entry)) (now (message .entry))) ⌝ }
+        ensures { λ r. ⌜ stepResult r (lend (now (journal .exit)) (now (message .exit))) ≡ call power-returned (self .state) (lend (now (journal .entry)) (now (message .entry))) ⌝ }
     {
         let state = self.state;
         step_of(call_answer::power_returned(state, journal, message))
@@ -91,7 +86,7 @@ impl Terminal {
 
     // The pending reversal leaves.
     pub fn send_reversal(self, journal: &mut [u8], message: &mut [u8]) -> Step
-        ensures { λ r. ⌜ stepResult r (lend (now (journal .exit)) (now (message .exit))) ≡ sendReversal (self .state) (lend (now (journal .entry)) (now (message .entry))) ⌝ }
+        ensures { λ r. ⌜ stepResult r (lend (now (journal .exit)) (now (message .exit))) ≡ call send-reversal (self .state) (lend (now (journal .entry)) (now (message .entry))) ⌝ }
     {
         let state = self.state;
         step_of(call_reversal::send_reversal(state, journal, message))
@@ -99,7 +94,7 @@ impl Terminal {
 
     // The batch's totals leave.
     pub fn settle(self, journal: &mut [u8], message: &mut [u8]) -> Step
-        ensures { λ r. ⌜ stepResult r (lend (now (journal .exit)) (now (message .exit))) ≡ settle (self .state) (lend (now (journal .entry)) (now (message .entry))) ⌝ }
+        ensures { λ r. ⌜ stepResult r (lend (now (journal .exit)) (now (message .exit))) ≡ call settles (self .state) (lend (now (journal .entry)) (now (message .entry))) ⌝ }
     {
         let state = self.state;
         step_of(call_settle::settle(state, journal, message))
@@ -107,7 +102,7 @@ impl Terminal {
 
     // The next due entry leaves, or the upload's end.
     pub fn send_next_upload(self, journal: &mut [u8], message: &mut [u8]) -> Step
-        ensures { λ r. ⌜ stepResult r (lend (now (journal .exit)) (now (message .exit))) ≡ sendNextUpload (self .state) (lend (now (journal .entry)) (now (message .entry))) ⌝ }
+        ensures { λ r. ⌜ stepResult r (lend (now (journal .exit)) (now (message .exit))) ≡ call send-next-upload (self .state) (lend (now (journal .entry)) (now (message .entry))) ⌝ }
     {
         let state = self.state;
         step_of(call_upload::send_next_upload(state, journal, message))
