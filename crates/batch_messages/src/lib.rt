@@ -19,12 +19,12 @@ pub fn settlement_message(x: Settings, batch: Batch, trace: Trace, t: Totals) ->
     let terminal = x.terminal;
     let merchant = x.merchant;
     let currency = [b'1', b'5', b'6'];
-    let m60 = outgoing::with_field60(compose::typed(0x0500), 0, batch, 201);
-    let m49 = compose::with_bytes(m60, 49, &currency);
-    let m48 = with_field48(m49, t);
-    let m42 = compose::with_bytes(m48, 42, &merchant);
-    let m41 = compose::with_bytes(m42, 41, &terminal);
-    compose::with_number(m41, 11, 6, trace.0 as u64)
+    let m11 = compose::with_number(compose::typed(0x0500), 11, 6, trace.0 as u64);
+    let m41 = compose::with_bytes(m11, 41, &terminal);
+    let m42 = compose::with_bytes(m41, 42, &merchant);
+    let m48 = with_field48(m42, t);
+    let m49 = compose::with_bytes(m48, 49, &currency);
+    outgoing::with_field60(m49, 0, batch, 201)
 }
 
 // An upload item: an entry as it was approved.
@@ -37,17 +37,17 @@ pub fn item_message(x: Settings, batch: Batch, e: Entry) -> Message
     let authorisation = e.authorisation;
     let reference = e.reference;
     let currency = [b'1', b'5', b'6'];
-    let m60 = outgoing::with_field60(compose::typed(0x0320), e.kind, batch, 201);
-    let m49 = compose::with_bytes(m60, 49, &currency);
-    let m42 = compose::with_bytes(m49, 42, &merchant);
-    let m41 = compose::with_bytes(m42, 41, &terminal);
-    let m38 = compose::with_bytes(m41, 38, &authorisation);
-    let m37 = compose::with_bytes(m38, 37, &reference);
-    let m11 = compose::with_number(m37, 11, 6, trace.0 as u64);
-    let m4 = compose::with_number(m11, 4, 12, e.amount);
-    let m3 = compose::with_number(m4, 3, 6, kinds::processing_of(e.kind) as u64);
     let card = approval::card_of(e);
-    compose::with_number(m3, 2, card.length, card.number)
+    let m2 = compose::with_number(compose::typed(0x0320), 2, card.length, card.number);
+    let m3 = compose::with_number(m2, 3, 6, kinds::processing_of(e.kind) as u64);
+    let m4 = compose::with_number(m3, 4, 12, e.amount);
+    let m11 = compose::with_number(m4, 11, 6, trace.0 as u64);
+    let m37 = compose::with_bytes(m11, 37, &reference);
+    let m38 = compose::with_bytes(m37, 38, &authorisation);
+    let m41 = compose::with_bytes(m38, 41, &terminal);
+    let m42 = compose::with_bytes(m41, 42, &merchant);
+    let m49 = compose::with_bytes(m42, 49, &currency);
+    outgoing::with_field60(m49, e.kind, batch, 201)
 }
 
 // The upload's end.
@@ -56,10 +56,10 @@ pub fn end_message(x: Settings, batch: Batch, trace: Trace) -> Message
 {
     let terminal = x.terminal;
     let merchant = x.merchant;
-    let m60 = outgoing::with_field60(compose::typed(0x0320), 0, batch, 202);
-    let m42 = compose::with_bytes(m60, 42, &merchant);
-    let m41 = compose::with_bytes(m42, 41, &terminal);
-    compose::with_number(m41, 11, 6, trace.0 as u64)
+    let m11 = compose::with_number(compose::typed(0x0320), 11, 6, trace.0 as u64);
+    let m41 = compose::with_bytes(m11, 41, &terminal);
+    let m42 = compose::with_bytes(m41, 42, &merchant);
+    outgoing::with_field60(m42, 0, batch, 202)
 }
 
 fn with_field48(m: Message, t: Totals) -> Message

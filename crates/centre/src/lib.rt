@@ -14,8 +14,8 @@ pub fn reply(sent: Message, date: u16, code: [u8; 2]) -> Message
 {
     let left = centre_types::left_as(sent.indicator);
     let m = compose::typed(centre_types::answer_type(sent.indicator));
-    let also = with_also(m, left, sent, date, code);
-    compose::with_bytes(with_sent_fields(also, sent), 39, &code)
+    let m39 = compose::with_bytes(m, 39, &code);
+    with_also(with_sent_fields(m39, sent), left, sent, date, code)
 }
 
 // The answer to a settlement, with this reconciliation digit.
@@ -23,7 +23,7 @@ pub fn reconciliation(sent: Message, digit: u8) -> Message
     ensures { λ r. ⌜ r ≡ reconciliation sent digit ⌝ }
 {
     let m = compose::typed(centre_types::answer_type(sent.indicator));
-    with_field48(with_sent_fields(m, sent), sent, digit)
+    with_sent_fields(with_field48(m, sent, digit), sent)
 }
 
 // The message with field n as sent, of so many digits.
@@ -44,14 +44,14 @@ fn with_bytes_sent(m: Message, n: u8, count: usize, sent: Message) -> Message
     compose::with_bytes(m, n, &b[..count])
 }
 
-// Fields 11, 41, 42, 60 as sent, from the last to the first.
+// Fields 11, 41, 42, 60 as sent.
 fn with_sent_fields(m: Message, sent: Message) -> Message
     ensures { λ r. ⌜ r ≡ withAll (sentFields sent) m ⌝ }
 {
-    let m60 = with_digits_sent(m, 60, 11, sent);
-    let m42 = with_bytes_sent(m60, 42, 15, sent);
-    let m41 = with_bytes_sent(m42, 41, 8, sent);
-    with_digits_sent(m41, 11, 6, sent)
+    let m11 = with_digits_sent(m, 11, 6, sent);
+    let m41 = with_bytes_sent(m11, 41, 8, sent);
+    let m42 = with_bytes_sent(m41, 42, 15, sent);
+    with_digits_sent(m42, 60, 11, sent)
 }
 
 fn trace_sent(sent: Message) -> u64
@@ -93,10 +93,10 @@ fn with_mac(m: Message) -> Message
 fn with_approval_fields(m: Message, sent: Message, date: u16, code: [u8; 2]) -> Message
     ensures { λ r. ⌜ r ≡ withAll (approvalFields sent date code) m ⌝ }
 {
-    let m38 = with_authorisation(with_mac(m), sent, code);
-    let m37 = with_trace_figures(m38, 37, 6, sent);
-    let m13 = compose::with_number(m37, 13, 4, date as u64);
-    with_digits_sent(m13, 4, 12, sent)
+    let m4 = with_digits_sent(m, 4, 12, sent);
+    let m13 = compose::with_number(m4, 13, 4, date as u64);
+    let m37 = with_trace_figures(m13, 37, 6, sent);
+    with_mac(with_authorisation(m37, sent, code))
 }
 
 fn with_also(m: Message, left: Left, sent: Message, date: u16, code: [u8; 2]) -> Message

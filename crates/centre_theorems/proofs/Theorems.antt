@@ -12,7 +12,7 @@ use Rattle.digits.specs.Numbers.{digitsOf}
 use Rattle.digits.specs.Packed.{numeral}
 use Rattle.field.specs.Contents.{allowed}
 use Rattle.field.specs.Table.{formats}
-use Rattle.message.specs.Build.{digits, bytes, messageOf}
+use Rattle.message.specs.Build.{Item, digits, bytes, messageOf}
 use Rattle.message.specs.Message.{fieldOf}
 use Rattle.message.specs.declared.Message.{Message}
 use Rattle.reading.specs.Reading.{readMessage}
@@ -22,14 +22,14 @@ use Rattle.parts.proofs.Laid.{laid-digits}
 use Rattle.compose.specs.Compose.{mayHold, allHeld}
 use Rattle.compose.proofs.Items.{number-held, digits-held}
 use Rattle.compose.proofs.Composed.{all-composed}
+use Rattle.compose.proofs.Held.{apart, held-append}
 use Rattle.outgoing.proofs.Fields.{amount-held, trace-held, reference-held, authorisation-held, reason-held, terminal-held, merchant-held, mac-held}
-use Rattle.outgoing.proofs.Leaving.{held-append}
 use Rattle.outgoing_theorems.specs.Theorems.{outgoingBytes, Reads}
 use Rattle.terminal.specs.Events.{call}
 use Rattle.call_theorems.proofs.Facts.{sent-reads}
 use Rattle.centre_types.specs.Types.{leftAs, answerType, isApproval}
 use Rattle.centre_totals.specs.Totals.{sentPart, field48With}
-use Rattle.centre.specs.Centre.{sentNumber, sentFields, traceFigures, macField, authorisationField, alsoTo, replyFields, reply, reconciliationFields, reconciliation}
+use Rattle.centre.specs.Centre.{sentNumber, digitsSent, sentFields, traceFigures, macField, alsoTo, replyFields, reply, reconciliationFields, reconciliation}
 use Rattle.centre_types.specs.declared.Left.{Left}
 use Rattle.centre_types.specs.declared.Left.the-variants.{Nothing, Request, Reversal, Settlement, Upload}
 use Rattle.history.specs.Words as words
@@ -74,29 +74,55 @@ sent-held b left =
       batch-held (sentNumber 60 0 11 m),
     )
 
--- the fields beside them
-authorisation-may : (m : Message) (t : Bool) → allHeld (cond t (bytes 38 (traceFigures 6 m) ∷ []) []) ≡ true
-authorisation-may m true = rw (authorisation-held (traceFigures 6 m) (figures-length 6 m) (figures-printable 6 m))
-authorisation-may m false = refl
+-- the fields beside them, and those of an approval or of another answer to a card request
+abbrev approvals : Message → ℕ → Bool → List Item
+approvals m date t =
+    digitsSent 4 12 m
+    ∷ digits 13 (digitsOf 4 date)
+    ∷ bytes 37 (traceFigures 12 m)
+    ∷ (cond t (bytes 38 (traceFigures 6 m) ∷ []) [] ++ macField)
 
-also-held : (l : Left) (m : Message) (date : ℕ) (code : List ℕ) → allHeld (alsoTo l m date code) ≡ true
-also-held Nothing m date code = refl
-also-held Request m date code =
+approvals-held : (m : Message) (date : ℕ) (t : Bool) → allHeld (approvals m date t) ≡ true
+approvals-held m date true =
     rw (
       amount-held (sentNumber 4 0 12 m),
       date-held date,
       reference-held (traceFigures 12 m) (figures-length 12 m) (figures-printable 12 m),
+      authorisation-held (traceFigures 6 m) (figures-length 6 m) (figures-printable 6 m),
+      mac-held,
     )
-    (held-append (authorisationField m code) macField (authorisation-may m (isApproval code)) (rw mac-held))
+approvals-held m date false =
+    rw (
+      amount-held (sentNumber 4 0 12 m),
+      date-held date,
+      reference-held (traceFigures 12 m) (figures-length 12 m) (figures-printable 12 m),
+      mac-held,
+    )
+
+also-held : (l : Left) (m : Message) (date : ℕ) (code : List ℕ) → allHeld (alsoTo l m date code) ≡ true
+also-held Nothing m date code = refl
+also-held Request m date code = approvals-held m date (isApproval code)
 also-held Reversal m date code = rw mac-held
 also-held Settlement m date code = refl
 also-held Upload m date code = refl
 
+approvals-apart : (m : Message) (date : ℕ) (code : List ℕ) (t : Bool) → apart (bytes 39 code ∷ sentFields m) (approvals m date t) ≡ true
+approvals-apart m date code true = refl
+approvals-apart m date code false = refl
+
+also-apart : (l : Left) (m : Message) (date : ℕ) (code : List ℕ) → apart (bytes 39 code ∷ sentFields m) (alsoTo l m date code) ≡ true
+also-apart Nothing m date code = refl
+also-apart Request m date code = approvals-apart m date code (isApproval code)
+also-apart Reversal m date code = refl
+also-apart Settlement m date code = refl
+also-apart Upload m date code = refl
+
 reply-held : (b : List ℕ) (date : ℕ) (code : List ℕ) → HasLeft b → IsCode code → allHeld (replyFields (messageIn b) date code) ≡ true
 reply-held b date code left c =
     let m = messageIn b in
-    rw (reason-held code (c .two) (c .printable))
-    (held-append (sentFields m) (alsoTo (leftAs (m .indicator)) m date code) (sent-held b left) (also-held (leftAs (m .indicator)) m date code))
+    let l = leftAs (m .indicator) in
+    held-append (bytes 39 code ∷ sentFields m) (alsoTo l m date code) (also-apart l m date code)
+    (rw (reason-held code (c .two) (c .printable)) (sent-held b left)) (also-held l m date code)
 
 -- what left is of a type that leaves
 not-nothing : (l : Left) (m : Message) → HoldsIts l m → l ≡ Nothing → ⊥

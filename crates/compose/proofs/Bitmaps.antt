@@ -1,5 +1,5 @@
 -- The bitmap of a list of items: which fields it names, and the bitmap of one item more.
-use mathlib.Core.Path.{_≡_, refl, ap, sym, _∙_}
+use mathlib.Core.Path.{_≡_, refl, ap, sym, _∙_, fun-ext}
 use mathlib.Core.List.{List, [], _∷_}
 use mathlib.Core.Bool.{Bool, true, false, cond}
 use Prim.Native.Nat.{ℕ, zero, suc, _+_, _-_, _*_, _/_, _%_, _^_, _≤_, _<_}
@@ -10,6 +10,7 @@ use lib.Dec.{eqb}
 use lib.ListN.{length, getD, set, length-set}
 use lib.Seq.{ext-getD, getD-set-same, getD-set-other}
 use borrow.Author.Tests.{eq-eqb, ne-eqb, lt-ltb, eqb-true, eqb-false}
+use Rattle.digits.specs.Lists.{tabulate}
 use Rattle.digits.proofs.Lists.{getD-tabulate, all-at}
 use Rattle.field.specs.Bitmap.{bit, names}
 use Rattle.message.specs.Build.{Item, has, bits, bitmapFor}
@@ -55,6 +56,9 @@ module _ (bm : List ℕ) (n : ℕ) {t : Bool} (q : t ≡ names bm n) where
 bits-same : (xs ys : List Item) → ((m : ℕ) → has ys m ≡ has xs m) → (n k : ℕ) → bits ys n k ≡ bits xs n k
 bits-same xs ys e n zero = refl
 bits-same xs ys e n (suc k) = rw (bits-same xs ys e (n - 1) k, e n)
+
+pub bitmap-same : (xs ys : List Item) → ((m : ℕ) → has ys m ≡ has xs m) → bitmapFor ys ≡ bitmapFor xs
+bitmap-same xs ys e = ap (tabulate 8) (fun-ext (λ j. bits-same xs ys e (8 * j + 8) 8))
 
 -- the bits after b, k of them, where the list has one item more
 module _ (x : Item) (xs : List Item) where
@@ -152,9 +156,7 @@ bitmap-more x xs p l = rw (names-has xs n p l) (go (has xs n) refl)
         getD-set-other (bitmapFor xs) j i _ 0 e ∙ byte-at xs i k ∙ sym (bits-other x xs (8 * i) 8 (λ t. omega arith))
 
     go : (t : Bool) → has xs n ≡ t → cond t (bitmapFor xs) more ≡ bitmapFor (x ∷ xs)
-    go true h =
-        ext-getD 0 (bitmapFor xs) (bitmapFor (x ∷ xs)) refl
-        (λ i k. byte-at xs i k ∙ sym (byte-at (x ∷ xs) i k ∙ bits-same xs (x ∷ xs) (has-again x xs h) (8 * i + 8) 8))
+    go true h = sym (bitmap-same xs (x ∷ xs) (has-again x xs h))
     go false h =
         ext-getD 0 more (bitmapFor (x ∷ xs)) (length-set (bitmapFor xs) j _)
         (λ i k. let s : i < 8 = omega (arith, length-set (bitmapFor xs) j (getD (bitmapFor xs) j 0 + 2 ^ (7 - (n - 1) % 8))) in

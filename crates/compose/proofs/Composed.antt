@@ -1,7 +1,7 @@
--- A message with one item more is the message of a list with one item more.
-use mathlib.Core.Path.{_≡_, refl, sym, ap}
-use mathlib.Core.List.{List, [], _∷_, _++_}
-use mathlib.Core.Bool.{Bool, true, false, cond, _||_, and-eq-true-iff}
+-- A message with one item more is the message of a list with one item more, and the message with all items is that of their list.
+use mathlib.Core.Path.{_≡_, refl, sym, ap, _∙_}
+use mathlib.Core.List.{List, [], _∷_, _++_, append-nil}
+use mathlib.Core.Bool.{Bool, true, false, cond, _||_, or-true, true≢false}
 use Prim.Native.Nat.{ℕ}
 use native.Mathlib.Omega.{arith}
 use lib.Dec.{eqb}
@@ -10,11 +10,11 @@ use borrow.Author.Tests.{eq-eqb, ne-eqb, eqb-true, eqb-false}
 use Rattle.field.specs.Table.{among, formats, numbers}
 use Rattle.field.specs.Contents.{room}
 use Rattle.field.specs.declared.Format.{Format}
-use Rattle.message.specs.Build.{Item, find, padded, countsFor, contentsFor, messageOf}
+use Rattle.message.specs.Build.{Item, has, find, padded, bitmapFor, countsFor, contentsFor, messageOf}
 use Rattle.message.specs.declared.Message.{Message}
 use Rattle.compose.specs.Compose.{mayHold, allHeld, withCount, withContents, withItem, withAll}
-use Rattle.compose.proofs.Bitmaps.{bitmap-more}
-use Rattle.compose.proofs.Held.{distinct, distinct-formats, first-distinct, Fitting, fitting-formats, fitting-tail, fitting-stored, stored-take, stored-drop, held-number}
+use Rattle.compose.proofs.Bitmaps.{bitmap-more, bitmap-same}
+use Rattle.compose.proofs.Held.{distinct, distinct-formats, first-distinct, held-all, FindsHeld, finds-none, finds-more, Fitting, fitting-tail, fitting-stored, stored-take, stored-drop, held-number}
 
 module _ (x : Item) (xs : List Item) where
   found-new : (n : ℕ) → n ≡ x .number → find (x ∷ xs) n ≡ x .field
@@ -66,18 +66,65 @@ module _ (x : Item) (xs : List Item) where
           let n = found-old (f .number) (eqb-false (f .number) (x .number) q) in
           (rw (n, ih .0), rw (s (contentsFor fs xs), stored-take (fitting-stored f fs xs r) (contentsFor fs xs), n, ih .1))
 
-pub composed : (i : ℕ) (xs : List Item) (x : Item) → allHeld (x ∷ xs) ≡ true → withItem x (messageOf i xs) ≡ messageOf i (x ∷ xs)
+composed : (i : ℕ) (xs : List Item) (x : Item) → mayHold formats x ≡ true → FindsHeld xs → withItem x (messageOf i xs) ≡ messageOf i (x ∷ xs)
 unfolding withItem
-composed i xs x h =
-    let a = and-eq-true-iff (mayHold formats x) (allHeld xs) .0 h in
-    let n = held-number x (a .0) in
-    let t = table-composed x xs formats distinct-formats (fitting-formats xs (a .1)) in
-    rw (a .0, bitmap-more x xs (n .0) (n .1), t .0, t .1)
+composed i xs x h r =
+    let n = held-number x h in
+    let t = table-composed x xs formats distinct-formats (λ k g l. r k g) in
+    rw (h, bitmap-more x xs (n .0) (n .1), t .0, t .1)
+
+-- a message goes by what is found of a list
+module _ (xs ys : List Item) (f : (n : ℕ) → find ys n ≡ find xs n) where
+  counts-same : (fs : List Format) → countsFor fs ys ≡ countsFor fs xs
+  counts-same [] = refl
+  counts-same (g ∷ fs) = rw (f (g .number), counts-same fs)
+
+  contents-same : (fs : List Format) → contentsFor fs ys ≡ contentsFor fs xs
+  contents-same [] = refl
+  contents-same (g ∷ fs) = rw (f (g .number), contents-same fs)
+
+  message-same : (i : ℕ) → ((n : ℕ) → has ys n ≡ has xs n) → messageOf i ys ≡ messageOf i xs
+  message-same i h = rw (bitmap-same xs ys h, counts-same formats, contents-same formats)
+
+or-swap : (a b c : Bool) → (a || (b || c)) ≡ (b || (a || c))
+or-swap true b c = sym (or-true b)
+or-swap false b c = refl
+
+or-none : (a b : Bool) → (a || b) ≡ false → (a ≡ false) × (b ≡ false)
+or-none true b h = absurd (true≢false h)
+or-none false b h = (refl, h)
+
+-- an item behind others is found as if it stood in front of them, where they do not have its field
+module _ (x : Item) (ys : List Item) (n : ℕ) where
+  has-moved : (xs : List Item) → has (xs ++ (x ∷ ys)) n ≡ has (x ∷ (xs ++ ys)) n
+  has-moved [] = refl
+  has-moved (y ∷ xs) = rw (has-moved xs) (or-swap (eqb (y .number) n) (eqb (x .number) n) (has (xs ++ ys) n))
+
+  find-moved : (xs : List Item) → has xs (x .number) ≡ false → find (xs ++ (x ∷ ys)) n ≡ find (x ∷ (xs ++ ys)) n
+  find-moved [] h = refl
+  find-moved (y ∷ xs) h =
+      let o = or-none (eqb (y .number) (x .number)) (has xs (x .number)) h in
+      rw (find-moved xs (o .1)) (go (eqb (x .number) n) (eqb (y .number) n) refl refl (eqb-false (y .number) (x .number) (o .0)))
+    where
+      go : (s t : Bool) → eqb (x .number) n ≡ s → eqb (y .number) n ≡ t → (y .number ≡ x .number → ⊥)
+          → cond t (y .field) (cond s (x .field) (find (xs ++ ys) n)) ≡ cond s (x .field) (cond t (y .field) (find (xs ++ ys) n))
+      go true true p q e = absurd (e (eqb-true (y .number) n q ∙ sym (eqb-true (x .number) n p)))
+      go true false p q e = refl
+      go false true p q e = refl
+      go false false p q e = refl
+
+-- the items of a list put onto the message of another
+composed-onto : (i : ℕ) (xs ys : List Item) → allHeld xs ≡ true → FindsHeld ys → withAll xs (messageOf i ys) ≡ messageOf i (xs ++ ys)
+composed-onto i [] ys h r = refl
+composed-onto i (x ∷ xs) ys h r =
+    let t = held-all x xs h in
+    rw (composed i ys x (t .first) r)
+    (composed-onto i xs (x ∷ ys) (t .later) (finds-more x ys (t .first) r)
+    ∙ message-same (x ∷ (xs ++ ys)) (xs ++ (x ∷ ys)) (λ n. find-moved x ys n xs (t .once)) i (λ n. has-moved x ys n xs))
 
 pub all-composed : (i : ℕ) (xs : List Item) → allHeld xs ≡ true → withAll xs (messageOf i []) ≡ messageOf i xs
-all-composed i [] h = refl
-all-composed i (x ∷ xs) h = rw (all-composed i xs (and-eq-true-iff (mayHold formats x) (allHeld xs) .0 h .1)) (composed i xs x h)
+all-composed i xs h = rw append-nil at (composed-onto i xs [] h finds-none)
 
-pub all-append : (xs ys : List Item) (m : Message) → withAll (xs ++ ys) m ≡ withAll xs (withAll ys m)
+pub all-append : (xs ys : List Item) (m : Message) → withAll (xs ++ ys) m ≡ withAll ys (withAll xs m)
 all-append [] ys m = refl
-all-append (x ∷ xs) ys m = ap (withItem x) (all-append xs ys m)
+all-append (x ∷ xs) ys m = all-append xs ys (withItem x m)

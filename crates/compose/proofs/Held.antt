@@ -1,7 +1,7 @@
 -- What the fields of a table hold of a list of items.
 use mathlib.Core.Path.{_≡_, refl, sym, _∙_}
 use mathlib.Core.List.{List, [], _∷_, _++_, append-assoc}
-use mathlib.Core.Bool.{Bool, true, false, cond, not, _&&_, _||_, and-eq-true-iff}
+use mathlib.Core.Bool.{Bool, true, false, cond, not, _&&_, _||_, and-eq-true-iff, or-assoc}
 use Prim.Native.Nat.{ℕ, _-_, _≤_, _<_}
 use native.Mathlib.Omega.{arith}
 use lib.Dec.{eqb}
@@ -66,17 +66,51 @@ find-none (x ∷ xs) n h = go (eqb (x .number) n) h (find-none xs n)
     go true h ih = let z : _≡_ {A = ℕ} 0 1 = cc in absurd (omega arith)
     go false h ih = ih h
 
--- what is found may be held
-pub found-held : (xs : List Item) (n : ℕ) → allHeld xs ≡ true → has xs n ≡ true → mayHold formats (named n (find xs n)) ≡ true
-found-held [] n a h = let z : _≡_ {A = ℕ} 0 1 = cc in absurd (omega arith)
-found-held (x ∷ xs) n a h =
-    let t = and-eq-true-iff (mayHold formats x) (allHeld xs) .0 a in
-    go (eqb (x .number) n) refl h (t .0) (found-held xs n (t .1))
+-- all items are held: the first, and those after it
+pub record Held (x : Item) (xs : List Item) : Type 0 where
+  pub once : has xs (x .number) ≡ false
+  pub first : mayHold formats x ≡ true
+  pub later : allHeld xs ≡ true
+
+pub held-all : (x : Item) (xs : List Item) → allHeld (x ∷ xs) ≡ true → Held x xs
+held-all x xs h =
+    let a = and-eq-true-iff (not (has xs (x .number))) (mayHold formats x && allHeld xs) .0 h in
+    let b = and-eq-true-iff (mayHold formats x) (allHeld xs) .0 (a .1) in
+    record { once = not-true _ (a .0); first = b .0; later = b .1 }
+
+-- no field of one list stands in another
+abbrev pub apart : List Item → List Item → Bool
+apart [] ys = true
+apart (x ∷ xs) ys = not (has ys (x .number)) && apart xs ys
+
+has-append : (xs ys : List Item) (n : ℕ) → has (xs ++ ys) n ≡ (has xs n || has ys n)
+has-append [] ys n = refl
+has-append (x ∷ xs) ys n = rw (has-append xs ys n) (sym (or-assoc (eqb (x .number) n) (has xs n) (has ys n)))
+
+pub held-append : (xs ys : List Item) → apart xs ys ≡ true → allHeld xs ≡ true → allHeld ys ≡ true → allHeld (xs ++ ys) ≡ true
+held-append [] ys d a b = b
+held-append (x ∷ xs) ys d a b =
+    let t = held-all x xs a in
+    let e = and-eq-true-iff (not (has ys (x .number))) (apart xs ys) .0 d in
+    rw (has-append xs ys (x .number), t .once, not-true (has ys (x .number)) (e .0), t .first, held-append xs ys (e .1) (t .later) b)
+
+-- what is found of a list may be held
+abbrev pub FindsHeld : List Item → Type 0
+FindsHeld xs = (n : ℕ) → has xs n ≡ true → mayHold formats (named n (find xs n)) ≡ true
+
+pub finds-none : FindsHeld []
+finds-none n h = let z : _≡_ {A = ℕ} 0 1 = cc in absurd (omega arith)
+
+pub finds-more : (x : Item) (xs : List Item) → mayHold formats x ≡ true → FindsHeld xs → FindsHeld (x ∷ xs)
+finds-more x xs m r n h = go (eqb (x .number) n) refl h
   where
-    go : (t : Bool) → eqb (x .number) n ≡ t → (t || has xs n) ≡ true → mayHold formats x ≡ true
-        → (has xs n ≡ true → mayHold formats (named n (find xs n)) ≡ true) → mayHold formats (named n (cond t (x .field) (find xs n))) ≡ true
-    go true q h m ih = rw (← eqb-true (x .number) n q) m
-    go false q h m ih = ih h
+    go : (t : Bool) → eqb (x .number) n ≡ t → (t || has xs n) ≡ true → mayHold formats (named n (cond t (x .field) (find xs n))) ≡ true
+    go true q h = rw (← eqb-true (x .number) n q) m
+    go false q h = r n h
+
+pub found-held : (xs : List Item) (n : ℕ) → allHeld xs ≡ true → has xs n ≡ true → mayHold formats (named n (find xs n)) ≡ true
+found-held [] n a h = finds-none n h
+found-held (x ∷ xs) n a h = let t = held-all x xs a in finds-more x xs (t .first) (λ k g. found-held xs k (t .later) g) n h
 
 -- the fields of a table may hold what is found of them
 abbrev pub Fitting : List Format → List Item → Type 0

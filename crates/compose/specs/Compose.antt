@@ -1,6 +1,6 @@
 -- A message with one field more.
 use mathlib.Core.List.{List, [], _∷_, _++_}
-use mathlib.Core.Bool.{Bool, true, false, cond, _&&_}
+use mathlib.Core.Bool.{Bool, true, false, cond, not, _&&_}
 use Prim.Native.Nat.{ℕ, _+_, _-_, _/_, _%_, _^_}
 use lib.Dec.{eqb}
 use lib.ListN.{length, getD, take, drop, set}
@@ -8,7 +8,7 @@ use Rattle.field.specs.Table.{formats}
 use Rattle.field.specs.Bitmap.{names}
 use Rattle.field.specs.Contents.{size, room, allowed, fault}
 use Rattle.field.specs.declared.Format.{Format}
-use Rattle.message.specs.Build.{Item, padded}
+use Rattle.message.specs.Build.{Item, has, padded}
 use Rattle.message.specs.declared.Message.{Message}
 
 -- a field of a table may hold an item: its length is allowed, and its contents are in form
@@ -21,10 +21,10 @@ mayHold (f ∷ fs) x =
       && eqb (fault (f .class) (x .field .count) (x .field .bytes)) 0)
       (mayHold fs x)
 
--- the fields may hold all of these items
+-- the fields may hold all of these items; no field holds two of them
 abbrev pub allHeld : List Item → Bool
 allHeld [] = true
-allHeld (x ∷ xs) = mayHold formats x && allHeld xs
+allHeld (x ∷ xs) = not (has xs (x .number)) && (mayHold formats x && allHeld xs)
 
 abbrev pub withCount : List Format → Item → List ℕ → List ℕ
 withCount [] x cs = cs
@@ -54,7 +54,7 @@ withItem x m =
         counts = withCount formats x (m .counts); contents = withContents formats x (m .contents) })
       m
 
--- the message with these items, the last of the list first
+-- the message with these items, put in one after another
 abbrev pub withAll : List Item → Message → Message
 withAll [] m = m
-withAll (x ∷ xs) m = withItem x (withAll xs m)
+withAll (x ∷ xs) m = withAll xs (withItem x m)

@@ -1,9 +1,8 @@
 -- What leaves: the fields of a request and of a reversal are held, so that the message is theirs, and is written.
 use mathlib.Core.Path.{_≡_, refl}
 use mathlib.Core.List.{List, [], _∷_, _++_}
-use mathlib.Core.Bool.{Bool, true, false, cond, _||_, and-eq-true-iff}
+use mathlib.Core.Bool.{Bool, true, false, cond, _||_}
 use Prim.Native.Nat.{ℕ, _+_, _≤_}
-use lib.Dec.{eqb}
 use lib.ListN.{length, drop}
 use borrow.Author.Tests.{le-ltb}
 use Rattle.field.specs.Table.{among, indicators, formats}
@@ -11,7 +10,7 @@ use Rattle.field.specs.Contents.{allPrintable}
 use Rattle.message.specs.Build.{Item, digits, bytes, messageOf}
 use Rattle.message.specs.Message.{largest}
 use Rattle.numbers.specs.declared.Batch.{Batch}
-use Rattle.kinds.specs.Kinds.{indicatorOf, processingOf, conditionOf, takesOriginal}
+use Rattle.kinds.specs.Kinds.{indicatorOf, processingOf, conditionOf, takesOriginal, keysReference, keysAuthorisation}
 use Rattle.state.specs.declared.Request.{Request}
 use Rattle.state.specs.declared.Reason.{Reason}
 use Rattle.state.specs.declared.Reason.the-variants.{Silence, BadMac}
@@ -22,17 +21,12 @@ use Rattle.writing.specs.declared.Writing.the-variants.{Written}
 use Rattle.compose.specs.Compose.{mayHold, allHeld, withAll}
 use Rattle.compose.proofs.Items.{number-held}
 use Rattle.compose.proofs.Composed.{all-composed}
+use Rattle.compose.proofs.Held.{apart, held-append}
 use Rattle.compose.proofs.Sound.{sound}
 use Rattle.outgoing.specs.declared.Original.{Original}
 use Rattle.outgoing.specs.Outgoing.{field61, cardFields, originalFields, requestFields, reasonCode, reversalFields, requestMessage, reversalMessage}
 use Rattle.outgoing.specs.Held.{CardHeld, OriginalHeld}
 use Rattle.outgoing.proofs.Fields.{card-taken, processing-held, amount-held, trace-held, entry-held, condition-held, reference-held, authorisation-held, reason-held, terminal-held, merchant-held, currency-held, mac-held, field60-held, field61-held, currency-printable}
-
-pub held-append : (xs ys : List Item) → allHeld xs ≡ true → allHeld ys ≡ true → allHeld (xs ++ ys) ≡ true
-held-append [] ys a b = b
-held-append (x ∷ xs) ys a b =
-    let t = and-eq-true-iff (mayHold formats x) (allHeld xs) .0 a in
-    rw (t .0, held-append xs ys (t .1) b)
 
 -- the reasons are printable
 reason-printable : (r : Reason) → allPrintable (reasonCode r) ≡ true
@@ -61,9 +55,22 @@ module _ (x : Settings) (batch : Batch) (q : Request) (h : CardHeld x q) where
         mac-held,
       )
 
+-- the fields of an original, by what a kind holds of it
+abbrev originals : Original → Bool → Bool → Bool → List Item
+originals o a b c =
+    cond a (bytes 37 (o .reference) ∷ bytes 38 (o .authorisation) ∷ digits 61 (field61 o) ∷ [])
+    (cond b (bytes 37 (o .reference) ∷ digits 61 (field61 o) ∷ [])
+    (cond c (bytes 38 (o .authorisation) ∷ digits 61 (field61 o) ∷ []) []))
+
+originals-apart : (x : Settings) (batch : Batch) (q : Request) (o : Original) (a b c : Bool) → apart (cardFields x batch q) (originals o a b c) ≡ true
+originals-apart x batch q o true b c = refl
+originals-apart x batch q o false true c = refl
+originals-apart x batch q o false false true = refl
+originals-apart x batch q o false false false = refl
+
 original-held : (kind : ℕ) (o : Original) → OriginalHeld kind o → allHeld (originalFields kind o) ≡ true
 original-held kind o h =
-    go (takesOriginal kind) (eqb kind 25) (eqb kind 11 || eqb kind 20) (h .reference-printable) (h .authorisation-printable)
+    go (takesOriginal kind) (keysReference kind) (keysAuthorisation kind) (h .reference-printable) (h .authorisation-printable)
   where
     reference : allPrintable (o .reference) ≡ true → mayHold formats (bytes 37 (o .reference)) ≡ true
     reference p = reference-held (o .reference) (h .reference-length) p
@@ -72,11 +79,7 @@ original-held kind o h =
     authorisation p = authorisation-held (o .authorisation) (h .authorisation-length) p
 
     go : (a b c : Bool) → ((a || b) ≡ true → allPrintable (o .reference) ≡ true) → ((a || c) ≡ true → allPrintable (o .authorisation) ≡ true)
-        → allHeld (cond a
-        (bytes 37 (o .reference) ∷ bytes 38 (o .authorisation) ∷ digits 61 (field61 o) ∷ [])
-        (cond b
-        (bytes 37 (o .reference) ∷ digits 61 (field61 o) ∷ [])
-        (cond c (bytes 38 (o .authorisation) ∷ digits 61 (field61 o) ∷ []) []))) ≡ true
+        → allHeld (originals o a b c) ≡ true
     go true b c r s = rw (reference (r refl), authorisation (s refl), field61-held o)
     go false true c r s = rw (reference (r refl), field61-held o)
     go false false true r s = rw (authorisation (s refl), field61-held o)
@@ -85,7 +88,9 @@ original-held kind o h =
 module _ (x : Settings) (batch : Batch) (q : Request) (o : Original) (h : CardHeld x q) (g : OriginalHeld (q .kind) o) where
   pub request-held : allHeld (requestFields x batch q o) ≡ true
   request-held =
-      held-append (cardFields x batch q) (originalFields (q .kind) o) (card-held x batch q h) (original-held (q .kind) o g)
+      held-append (cardFields x batch q) (originalFields (q .kind) o)
+      (originals-apart x batch q o (takesOriginal (q .kind)) (keysReference (q .kind)) (keysAuthorisation (q .kind)))
+      (card-held x batch q h) (original-held (q .kind) o g)
 
   -- what `request_message` gives
   pub request-is : withAll (requestFields x batch q o) (messageOf (indicatorOf (q .kind)) []) ≡ requestMessage x batch q o
@@ -95,7 +100,7 @@ module _ (x : Settings) (batch : Batch) (q : Request) (o : Original) (h : CardHe
 module _ (x : Settings) (batch : Batch) (v : Reversal) (h : CardHeld x (v .request)) where
   pub reversal-held : allHeld (reversalFields x batch v) ≡ true
   reversal-held =
-      held-append (cardFields x batch (v .request)) (bytes 39 (reasonCode (v .reason)) ∷ []) (card-held x batch (v .request) h)
+      held-append (cardFields x batch (v .request)) (bytes 39 (reasonCode (v .reason)) ∷ []) refl (card-held x batch (v .request) h)
       (rw (reason-held (reasonCode (v .reason)) (reason-length (v .reason)) (reason-printable (v .reason))))
 
   -- what `reversal_message` gives

@@ -41,7 +41,7 @@ pub fn request_message(x: Settings, batch: Batch, q: Request, o: Original) -> Me
     ensures { λ r. ⌜ r ≡ withAll (requestFields x batch q o) (messageOf (indicatorOf (q .kind)) []) ⌝ }
 {
     let m = compose::typed(kinds::indicator_of(q.kind));
-    with_card_fields(with_original_fields(m, q.kind, o), x, batch, q)
+    with_original_fields(with_card_fields(m, x, batch, q), q.kind, o)
 }
 
 // A reversal.
@@ -51,7 +51,7 @@ pub fn reversal_message(x: Settings, batch: Batch, v: Reversal) -> Message
     let reason = v.reason;
     let q = v.request;
     let m = compose::typed(0x0400);
-    with_card_fields(with_reason(m, reason), x, batch, q)
+    with_reason(with_card_fields(m, x, batch, q), reason)
 }
 
 // Writes a message that leaves, and gives its length; 0 where it is not written.
@@ -76,7 +76,7 @@ fn with_field61(m: Message, o: Original) -> Message
     compose::with_digits(m, 61, &ds)
 }
 
-// The fields of every card request, from the last to the first.
+// The fields of every card request.
 fn with_card_fields(m: Message, x: Settings, batch: Batch, q: Request) -> Message
     ensures { λ r. ⌜ r ≡ withAll (cardFields x batch q) m ⌝ }
 {
@@ -86,17 +86,17 @@ fn with_card_fields(m: Message, x: Settings, batch: Batch, q: Request) -> Messag
     let trace = q.trace;
     let mac = [0u8; 8];
     let currency = [b'1', b'5', b'6'];
-    let m64 = compose::with_bytes(m, 64, &mac);
-    let m60 = with_field60(m64, q.kind, batch, 0);
-    let m49 = compose::with_bytes(m60, 49, &currency);
-    let m42 = compose::with_bytes(m49, 42, &merchant);
-    let m41 = compose::with_bytes(m42, 41, &terminal);
-    let m25 = compose::with_number(m41, 25, 2, kinds::condition_of(q.kind) as u64);
-    let m22 = compose::with_number(m25, 22, 3, 12);
-    let m11 = compose::with_number(m22, 11, 6, trace.0 as u64);
-    let m4 = compose::with_number(m11, 4, 12, q.amount);
-    let m3 = compose::with_number(m4, 3, 6, kinds::processing_of(q.kind) as u64);
-    compose::with_number(m3, 2, card.length, card.number)
+    let m2 = compose::with_number(m, 2, card.length, card.number);
+    let m3 = compose::with_number(m2, 3, 6, kinds::processing_of(q.kind) as u64);
+    let m4 = compose::with_number(m3, 4, 12, q.amount);
+    let m11 = compose::with_number(m4, 11, 6, trace.0 as u64);
+    let m22 = compose::with_number(m11, 22, 3, 12);
+    let m25 = compose::with_number(m22, 25, 2, kinds::condition_of(q.kind) as u64);
+    let m41 = compose::with_bytes(m25, 41, &terminal);
+    let m42 = compose::with_bytes(m41, 42, &merchant);
+    let m49 = compose::with_bytes(m42, 49, &currency);
+    let m60 = with_field60(m49, q.kind, batch, 0);
+    compose::with_bytes(m60, 64, &mac)
 }
 
 // What a request names of an earlier one.
@@ -106,17 +106,17 @@ fn with_original_fields(m: Message, kind: u8, o: Original) -> Message
     let authorisation = o.authorisation;
     let reference = o.reference;
     if kinds::takes_original(kind) {
-        let m61 = with_field61(m, o);
-        let m38 = compose::with_bytes(m61, 38, &authorisation);
-        return compose::with_bytes(m38, 37, &reference);
+        let m37 = compose::with_bytes(m, 37, &reference);
+        let m38 = compose::with_bytes(m37, 38, &authorisation);
+        return with_field61(m38, o);
     }
     if kinds::keys_reference(kind) {
-        let m61 = with_field61(m, o);
-        return compose::with_bytes(m61, 37, &reference);
+        let m37 = compose::with_bytes(m, 37, &reference);
+        return with_field61(m37, o);
     }
     if kinds::keys_authorisation(kind) {
-        let m61 = with_field61(m, o);
-        return compose::with_bytes(m61, 38, &authorisation);
+        let m38 = compose::with_bytes(m, 38, &authorisation);
+        return with_field61(m38, o);
     }
     m
 }

@@ -6,45 +6,52 @@ use Rattle.batch_messages.proofs.end_message.Tie as tie
 typed-requires : tie.Need-typed-requires
 typed-requires c κs = search needs
 
-with-field60-requires : tie.Need-with-field60-requires
-with-field60-requires c κs = search needs
-
-slice-aggregate-with-bytes : tie.Need-slice-aggregate-with-bytes
-slice-aggregate-with-bytes c = let g = c .before .before .before .before .before .good .0 in search needs
-
-with-bytes-requires : tie.Need-with-bytes-requires
-with-bytes-requires c κs = search needs
-
-slice-aggregate-with-bytes-2 : tie.Need-slice-aggregate-with-bytes-2
-slice-aggregate-with-bytes-2 c = let g = c .before .before .before .before .before .before .before .good .0 in search needs
-
-with-bytes-requires-2 : tie.Need-with-bytes-requires-2
-with-bytes-requires-2 c κs = search needs
-
 cast-with-number : tie.Need-cast-with-number
 cast-with-number c = search needs
 
 with-number-requires : tie.Need-with-number-requires
 with-number-requires c κs = search needs
 
+slice-aggregate-with-bytes : tie.Need-slice-aggregate-with-bytes
+slice-aggregate-with-bytes c = search needs
+
+with-bytes-requires : tie.Need-with-bytes-requires
+with-bytes-requires c κs = search needs
+
+slice-aggregate-with-bytes-2 : tie.Need-slice-aggregate-with-bytes-2
+slice-aggregate-with-bytes-2 c =
+    let g = c .before .before .before .before .before .before .before .before .good .0 in
+    search needs
+
+with-bytes-requires-2 : tie.Need-with-bytes-requires-2
+with-bytes-requires-2 c κs = search needs
+
+with-field60-requires : tie.Need-with-field60-requires
+with-field60-requires c κs = search needs
+
 returns : tie.Need-returns
 returns c =
     let at-typed = c .before .before .before .before .before .before .before .typed in
-    let at-with-field60 = c .before .before .before .before .before .before .with-field60 in
-    let at-with-bytes = c .before .before .before .before .with-bytes in
-    let at-with-bytes2 = c .before .before .with-bytes2 in
-    rw (c .with-number .ensures, at-with-bytes2 .ensures, at-with-bytes .ensures, at-with-field60 .ensures, at-typed .ensures)
+    let at-with-number = c .before .before .before .before .before .with-number in
+    let at-with-bytes = c .before .before .before .with-bytes in
+    rw (
+      c .with-field60 .ensures,
+      c .before .with-bytes2 .ensures,
+      at-with-bytes .ensures,
+      at-with-number .ensures,
+      at-typed .ensures,
+    )
 
 pub end-message-spec : {M : Type 1} → statement M
 end-message-spec =
     tie.close
     (tie.spec
     typed-requires
-    with-field60-requires
+    cast-with-number
+    with-number-requires
     slice-aggregate-with-bytes
     with-bytes-requires
     slice-aggregate-with-bytes-2
     with-bytes-requires-2
-    cast-with-number
-    with-number-requires
+    with-field60-requires
     returns)

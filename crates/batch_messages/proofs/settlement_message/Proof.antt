@@ -6,8 +6,11 @@ use Rattle.batch_messages.proofs.settlement_message.Tie as tie
 typed-requires : tie.Need-typed-requires
 typed-requires c κs = search needs
 
-with-field60-requires : tie.Need-with-field60-requires
-with-field60-requires c κs = search needs
+cast-with-number : tie.Need-cast-with-number
+cast-with-number c = search needs
+
+with-number-requires : tie.Need-with-number-requires
+with-number-requires c κs = search needs
 
 slice-aggregate-with-bytes : tie.Need-slice-aggregate-with-bytes
 slice-aggregate-with-bytes c = search needs
@@ -15,44 +18,40 @@ slice-aggregate-with-bytes c = search needs
 with-bytes-requires : tie.Need-with-bytes-requires
 with-bytes-requires c κs = search needs
 
-with-field48-requires : tie.Need-with-field48-requires
-with-field48-requires c κs = search needs
-
 slice-aggregate-with-bytes-2 : tie.Need-slice-aggregate-with-bytes-2
-slice-aggregate-with-bytes-2 c = let g = c .before .before .before .before .before .before .before .before .good .0 in search needs
+slice-aggregate-with-bytes-2 c =
+    let g = c .before .before .before .before .before .before .before .before .good .0 in
+    search needs
 
 with-bytes-requires-2 : tie.Need-with-bytes-requires-2
 with-bytes-requires-2 c κs = search needs
 
+with-field48-requires : tie.Need-with-field48-requires
+with-field48-requires c κs = search needs
+
 slice-aggregate-with-bytes-3 : tie.Need-slice-aggregate-with-bytes-3
-slice-aggregate-with-bytes-3 c =
-    let g = c .before .before .before .before .before .before .before .before .before .before .good .0 in
-    search needs
+slice-aggregate-with-bytes-3 c = search needs
 
 with-bytes-requires-3 : tie.Need-with-bytes-requires-3
 with-bytes-requires-3 c κs = search needs
 
-cast-with-number : tie.Need-cast-with-number
-cast-with-number c = search needs
-
-with-number-requires : tie.Need-with-number-requires
-with-number-requires c κs = search needs
+with-field60-requires : tie.Need-with-field60-requires
+with-field60-requires c κs = search needs
 
 returns : tie.Need-returns
 returns c =
     let at-typed = c .before .before .before .before .before .before .before .before .before .before .typed in
-    let at-with-field60 = c .before .before .before .before .before .before .before .before .before .with-field60 in
-    let at-with-bytes = c .before .before .before .before .before .before .before .with-bytes in
-    let at-with-field48 = c .before .before .before .before .before .before .with-field48 in
+    let at-with-number = c .before .before .before .before .before .before .before .before .with-number in
+    let at-with-bytes = c .before .before .before .before .before .before .with-bytes in
     let at-with-bytes2 = c .before .before .before .before .with-bytes2 in
-    let at-with-bytes3 = c .before .before .with-bytes3 in
+    let at-with-field48 = c .before .before .before .with-field48 in
     rw (
-      c .with-number .ensures,
-      at-with-bytes3 .ensures,
-      at-with-bytes2 .ensures,
+      c .with-field60 .ensures,
+      c .before .with-bytes3 .ensures,
       at-with-field48 .ensures,
+      at-with-bytes2 .ensures,
       at-with-bytes .ensures,
-      at-with-field60 .ensures,
+      at-with-number .ensures,
       at-typed .ensures,
     )
 
@@ -61,14 +60,14 @@ settlement-message-spec =
     tie.close
     (tie.spec
     typed-requires
-    with-field60-requires
-    slice-aggregate-with-bytes
-    with-bytes-requires
-    with-field48-requires
-    slice-aggregate-with-bytes-2
-    with-bytes-requires-2
-    slice-aggregate-with-bytes-3
-    with-bytes-requires-3
     cast-with-number
     with-number-requires
+    slice-aggregate-with-bytes
+    with-bytes-requires
+    slice-aggregate-with-bytes-2
+    with-bytes-requires-2
+    with-field48-requires
+    slice-aggregate-with-bytes-3
+    with-bytes-requires-3
+    with-field60-requires
     returns)

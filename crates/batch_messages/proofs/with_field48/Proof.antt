@@ -46,10 +46,20 @@ with-digits-requires c κs = search needs
 
 returns : tie.Need-returns
 returns c =
-    let a = c .before .before .before .before .before .before .before .before .before .before .before .before .before .before .before .before .args in
-    let xs : List ℕ = a .t .debit ∷ a .t .debits ∷ a .t .credit ∷ a .t .credits ∷ [] in
-    let put = put-laid (widths 48) xs (rw (c .before .before .before .before .before .before .before .put-part3 .ensures, c .before .before .before .before .before .before .before .before .before .before .put-part2 .ensures, c .before .before .before .before .before .before .before .before .before .before .before .before .before .before .put-part .ensures) at (c .before .before .before .put-part4 .ensures)) in
-    digits-known (a .m) 48 put (laid-digits (widths 48) xs) (c .with-digits .ensures)
+    let at-args = c .before .before .before .before .before .before .before .before .before .before .before .before .before .before .before
+    .before .args in
+    let at-put-part = c .before .before .before .before .before .before .before .before .before .before .before .before .before .before
+    .put-part in
+    let at-put-part2 = c .before .before .before .before .before .before .before .before .before .before .put-part2 in
+    let at-put-part3 = c .before .before .before .before .before .before .before .put-part3 in
+    let at-put-part4 = c .before .before .before .put-part4 in
+    let xs : List ℕ = at-args .t .debit ∷ at-args .t .debits ∷ at-args .t .credit ∷ at-args .t .credits ∷ [] in
+    let put = put-laid (widths 48) xs (rw (
+      at-put-part3 .ensures,
+      at-put-part2 .ensures,
+      at-put-part .ensures,
+    ) at (at-put-part4 .ensures)) in
+    digits-known (at-args .m) 48 put (laid-digits (widths 48) xs) (c .with-digits .ensures)
 
 pub with-field48-spec : {M : Type 1} → statement M
 with-field48-spec =

@@ -11,18 +11,22 @@ answer-type-requires c κs = search needs
 typed-requires : tie.Need-typed-requires
 typed-requires c κs = search needs
 
-with-sent-fields-requires : tie.Need-with-sent-fields-requires
-with-sent-fields-requires c κs = search needs
-
 with-field48-requires : tie.Need-with-field48-requires
 with-field48-requires c κs = search needs
+
+with-sent-fields-requires : tie.Need-with-sent-fields-requires
+with-sent-fields-requires c κs = search needs
 
 returns : tie.Need-returns
 unfolding reconciliation
 returns c =
     let at-answer-type = c .before .before .before .answer-type in
     let at-typed = c .before .before .typed in
-    c .with-field48 .ensures ∙ rw (c .before .with-sent-fields .ensures, at-typed .ensures, at-answer-type .ensures)
+    c .with-sent-fields .ensures ∙ rw (
+      c .before .with-field48 .ensures,
+      at-typed .ensures,
+      at-answer-type .ensures,
+    )
 
 pub reconciliation-spec : {M : Type 1} → statement M
 reconciliation-spec =
@@ -30,6 +34,6 @@ reconciliation-spec =
     (tie.spec
     answer-type-requires
     typed-requires
-    with-sent-fields-requires
     with-field48-requires
+    with-sent-fields-requires
     returns)

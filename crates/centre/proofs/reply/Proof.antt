@@ -1,11 +1,7 @@
 -- `centre::reply` meets its contract.
-use mathlib.Core.List.{[]}
 use mathlib.Core.Path.{_∙_}
 use borrow.Author.Needs.{needs}
-use Rattle.compose.proofs.Composed.{all-append}
-use Rattle.message.specs.Build.{messageOf}
-use Rattle.centre_types.specs.Types.{leftAs, answerType}
-use Rattle.centre.specs.Centre.{sentFields, alsoTo, reply}
+use Rattle.centre.specs.Centre.{reply}
 use Rattle.centre.proofs.reply.Statement.{statement}
 use Rattle.centre.proofs.reply.Tie as tie
 
@@ -18,36 +14,32 @@ answer-type-requires c κs = search needs
 typed-requires : tie.Need-typed-requires
 typed-requires c κs = search needs
 
-with-also-requires : tie.Need-with-also-requires
-with-also-requires c κs = search needs
-
-with-sent-fields-requires : tie.Need-with-sent-fields-requires
-with-sent-fields-requires c κs = search needs
-
 slice-aggregate-with-bytes : tie.Need-slice-aggregate-with-bytes
 slice-aggregate-with-bytes c = search needs
 
 with-bytes-requires : tie.Need-with-bytes-requires
 with-bytes-requires c κs = search needs
 
+with-sent-fields-requires : tie.Need-with-sent-fields-requires
+with-sent-fields-requires c κs = search needs
+
+with-also-requires : tie.Need-with-also-requires
+with-also-requires c κs = search needs
+
 returns : tie.Need-returns
 unfolding reply
 returns c =
-    let at-args = c .before .before .before .before .before .before .before .args in
     let at-left-as = c .before .before .before .before .before .before .left-as in
     let at-answer-type = c .before .before .before .before .before .answer-type in
     let at-typed = c .before .before .before .before .typed in
-    let at-with-also = c .before .before .before .with-also in
-    let at-with-sent-fields = c .before .before .with-sent-fields in
-    c .with-bytes .ensures
+    let at-with-bytes = c .before .before .with-bytes in
+    c .with-also .ensures
     ∙ rw (
-      at-with-sent-fields .ensures,
-      at-with-also .ensures,
+      c .before .with-sent-fields .ensures,
+      at-with-bytes .ensures,
       at-typed .ensures,
       at-answer-type .ensures,
       at-left-as .ensures,
-      all-append (sentFields (at-args .sent)) (alsoTo (leftAs (at-args .sent .indicator)) (at-args .sent) (at-args .date) (at-args .t3))
-          (messageOf (answerType (at-args .sent .indicator)) []),
     )
 
 pub reply-spec : {M : Type 1} → statement M
@@ -57,8 +49,8 @@ reply-spec =
     left-as-requires
     answer-type-requires
     typed-requires
-    with-also-requires
-    with-sent-fields-requires
     slice-aggregate-with-bytes
     with-bytes-requires
+    with-sent-fields-requires
+    with-also-requires
     returns)

@@ -1,7 +1,7 @@
 -- `outgoing::request_message` meets its contract.
 use mathlib.Core.Path.{sym, _∙_}
-use borrow.Author.Needs.{needs}
 use mathlib.Core.List.{[]}
+use borrow.Author.Needs.{needs}
 use Rattle.message.specs.Build.{messageOf}
 use Rattle.kinds.specs.Kinds.{indicatorOf}
 use Rattle.compose.proofs.Composed.{all-append}
@@ -15,18 +15,22 @@ indicator-of-requires c κs = search needs
 typed-requires : tie.Need-typed-requires
 typed-requires c κs = search needs
 
-with-original-fields-requires : tie.Need-with-original-fields-requires
-with-original-fields-requires c κs = search needs
-
 with-card-fields-requires : tie.Need-with-card-fields-requires
 with-card-fields-requires c κs = search needs
+
+with-original-fields-requires : tie.Need-with-original-fields-requires
+with-original-fields-requires c κs = search needs
 
 returns : tie.Need-returns
 returns c =
     let at-args = c .before .before .before .before .args in
     let at-indicator-of = c .before .before .before .indicator-of in
     let at-typed = c .before .before .typed in
-    c .with-card-fields .ensures ∙ rw (c .before .with-original-fields .ensures, at-typed .ensures, at-indicator-of .ensures)
+    c .with-original-fields .ensures ∙ rw (
+      c .before .with-card-fields .ensures,
+      at-typed .ensures,
+      at-indicator-of .ensures,
+    )
     (sym (all-append (cardFields (at-args .x) (at-args .batch) (at-args .q)) (originalFields (at-args .q .kind) (at-args .o))
     (messageOf (indicatorOf (at-args .q .kind)) [])))
 
@@ -36,6 +40,6 @@ request-message-spec =
     (tie.spec
     indicator-of-requires
     typed-requires
-    with-original-fields-requires
     with-card-fields-requires
+    with-original-fields-requires
     returns)

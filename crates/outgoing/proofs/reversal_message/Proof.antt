@@ -7,17 +7,17 @@ use Rattle.outgoing.proofs.reversal_message.Tie as tie
 typed-requires : tie.Need-typed-requires
 typed-requires c κs = search needs
 
-with-reason-requires : tie.Need-with-reason-requires
-with-reason-requires c κs = search needs
-
 with-card-fields-requires : tie.Need-with-card-fields-requires
 with-card-fields-requires c κs = search needs
+
+with-reason-requires : tie.Need-with-reason-requires
+with-reason-requires c κs = search needs
 
 returns : tie.Need-returns
 returns c =
     let at-typed = c .before .before .typed in
-    c .with-card-fields .ensures ∙ rw (c .before .with-reason .ensures, at-typed .ensures)
+    c .with-reason .ensures ∙ rw (c .before .with-card-fields .ensures, at-typed .ensures)
 
 pub reversal-message-spec : {M : Type 1} → statement M
 reversal-message-spec =
-    tie.close (tie.spec typed-requires with-reason-requires with-card-fields-requires returns)
+    tie.close (tie.spec typed-requires with-card-fields-requires with-reason-requires returns)
