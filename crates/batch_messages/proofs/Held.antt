@@ -6,6 +6,7 @@ use Prim.Native.Nat.{_≤_}
 use lib.ListN.{length}
 use Rattle.batch_messages.specs.BatchMessages.{field48, settlementFields, itemFields, endFields}
 use Rattle.compose.proofs.Items.{number-held}
+use Rattle.compose.proofs.Laid.{laid-held}
 use Rattle.compose.specs.Compose.{mayHold, allHeld}
 use Rattle.digits.specs.Digits.{allDigits}
 use Rattle.digits.specs.Packed.{packedNumber}
@@ -17,7 +18,7 @@ use Rattle.kinds.specs.declared.Totals.{Totals}
 use Rattle.message.specs.Build.{digits}
 use Rattle.numbers.specs.declared.Batch.{Batch}
 use Rattle.numbers.specs.declared.Trace.{Trace}
-use Rattle.outgoing.proofs.Fields.{laid-held, trace-held, terminal-held, merchant-held, currency-held, currency-printable, field60-held, card-taken, processing-held, amount-held, reference-held, authorisation-held}
+use Rattle.outgoing.proofs.Fields.{trace-held, terminal-held, merchant-held, currency-held, currency-printable, field60-held, card-taken, processing-held, amount-held, reference-held, authorisation-held}
 use Rattle.outgoing.specs.Held.{SettingsHeld}
 use Rattle.parts.proofs.Laid.{laid-digits}
 use Rattle.parts.specs.Layout.{widths}

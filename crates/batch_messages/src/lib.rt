@@ -65,7 +65,7 @@ pub fn end_message(x: Settings, batch: Batch, trace: Trace) -> Message
 fn with_field48(m: Message, t: Totals) -> Message
     ensures { λ r. ⌜ r ≡ withItem (digits 48 (field48 t)) m ⌝ }
 {
-    let mut ds = [0u8; 62];
+    let mut ds = [0u8; parts::FIELD48];
     parts::put_part(Part::DebitAmount, t.debit, &mut ds);
     parts::put_part(Part::DebitCount, t.debits as u64, &mut ds);
     parts::put_part(Part::CreditAmount, t.credit, &mut ds);

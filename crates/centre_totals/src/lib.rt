@@ -6,10 +6,10 @@ ghost use Rattle.parts.specs.Layout.{withPart};
 ghost use Rattle.centre_totals.specs.Totals.{sentPart, field48With};
 
 // The digits of field 48 with the totals as sent and this digit.
-pub fn field48_with(sent: Message, digit: u8) -> [u8; 62]
+pub fn field48_with(sent: Message, digit: u8) -> [u8; parts::FIELD48]
     ensures { λ r. ⌜ r ≡ field48With sent digit ⌝ }
 {
-    let mut ds = [0u8; 62];
+    let mut ds = [0u8; parts::FIELD48];
     put_sent(sent, Part::DebitAmount, &mut ds);
     put_sent(sent, Part::DebitCount, &mut ds);
     put_sent(sent, Part::CreditAmount, &mut ds);

@@ -5,3 +5,4 @@ pub mod Held
 pub mod Composed
 pub mod Sound
 pub mod Items
+pub mod Laid

@@ -187,11 +187,6 @@ module _ (m : Message) (n : ℕ) (ds : List ℕ) where
         let c : length e ≡ length (take k z) = rw (b, length-take-le k z l) (length-pack ds ∙ bytes-for (length ds) ∙ sym v) in
         g ∙ rw (← packable-is, a, front-back k e z c l, b)
 
--- an array that holds known digits, put into a message
-pub digits-known : (m : Message) (n : ℕ) {s ds : List ℕ} {r : Message} → s ≡ ds → allDigits ds ≡ true
-    → r ≡ cond (allDigits s) (withItem (digits n s) m) m → r ≡ withItem (digits n ds) m
-digits-known m n e a q = q ∙ rw (e, a)
-
 -- the digits of a number, in the front of an array
 pub number-put : (m : Message) (n count x : ℕ) (z : List ℕ) {k : ℕ} {e : List ℕ} {r : Message} → k ≡ count → k ≤ length z
     → e ≡ digitsOf (length (take k z)) x

@@ -9,11 +9,12 @@ use Rattle.digits.specs.Numbers.{digitsOf}
 use Rattle.field.specs.Table.{formats}
 use Rattle.field.specs.Contents.{allowed, allPrintable}
 use Rattle.message.specs.Build.{digits, bytes}
-use Rattle.parts.specs.Layout.{sum, widths, laid}
-use Rattle.parts.proofs.Laid.{laid-digits, length-laid}
+use Rattle.parts.specs.Layout.{widths}
+use Rattle.parts.proofs.Laid.{laid-digits}
 use Rattle.numbers.specs.declared.Batch.{Batch}
 use Rattle.compose.specs.Compose.{mayHold}
-use Rattle.compose.proofs.Items.{takes, isDigits, digits-held, number-held, printable-held, bytes-held}
+use Rattle.compose.proofs.Items.{takes, isDigits, number-held, printable-held, bytes-held}
+use Rattle.compose.proofs.Laid.{laid-held}
 use Rattle.outgoing.specs.declared.Original.{Original}
 use Rattle.outgoing.specs.Outgoing.{field60, field61}
 use Rattle.digits.specs.Digits.{allDigits}
@@ -71,10 +72,7 @@ pub mac-held : mayHold formats (bytes 64 (replicate 8 0)) ≡ true
 unfolding formats allowed
 mac-held = bytes-held 64 (replicate 8 0) refl
 
--- the parts of a field
-pub laid-held : (n : ℕ) (xs : List ℕ) → takes isDigits formats n (sum (widths n)) ≡ true → mayHold formats (digits n (laid n xs)) ≡ true
-laid-held n xs h = digits-held n (laid n xs) (rw (length-laid (widths n) xs) h) (laid-digits (widths n) xs)
-
+-- fields 60 and 61
 pub field60-digits : (kind : ℕ) (batch : Batch) (code : ℕ) → allDigits (field60 kind batch code) ≡ true
 field60-digits kind batch code = laid-digits (widths 60) (kind ∷ batch .0 ∷ code ∷ [])
 

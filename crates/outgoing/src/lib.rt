@@ -29,7 +29,7 @@ pub struct Original {
 pub fn with_field60(m: Message, kind: u8, batch: Batch, code: u64) -> Message
     ensures { λ r. ⌜ r ≡ withItem (digits 60 (field60 kind batch code)) m ⌝ }
 {
-    let mut ds = [0u8; 11];
+    let mut ds = [0u8; parts::FIELD60];
     parts::put_part(Part::Kind, kind as u64, &mut ds);
     parts::put_part(Part::Batch, batch.0 as u64, &mut ds);
     parts::put_part(Part::Management, code, &mut ds);
@@ -69,7 +69,7 @@ fn with_field61(m: Message, o: Original) -> Message
 {
     let batch = o.batch;
     let trace = o.trace;
-    let mut ds = [0u8; 16];
+    let mut ds = [0u8; parts::FIELD61];
     parts::put_part(Part::OriginalBatch, batch.0 as u64, &mut ds);
     parts::put_part(Part::OriginalTrace, trace.0 as u64, &mut ds);
     parts::put_part(Part::OriginalDate, o.date as u64, &mut ds);

@@ -11,6 +11,13 @@ ghost use Rattle.parts.specs.Layout.{placeOf, withPart};
 ghost use Rattle.parts.specs.Parts.{sameBytes, matches, copies, numberIn, partOf};
 ghost use Rattle.parts.specs.Bounds.{Bounded};
 
+// How many digits the fields made of several parts have.
+pub const FIELD48: usize = 62;
+
+pub const FIELD60: usize = 11;
+
+pub const FIELD61: usize = 16;
+
 // A part of a field that is a number.
 pub enum Part {
     Trace,

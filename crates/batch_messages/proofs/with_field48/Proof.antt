@@ -2,9 +2,7 @@
 use mathlib.Core.List.{List, [], _∷_}
 use Prim.Native.Nat.{ℕ}
 use borrow.Author.Needs.{needs}
-use Rattle.parts.specs.Layout.{widths}
-use Rattle.parts.proofs.Laid.{laid-digits, put-laid}
-use Rattle.compose.proofs.Places.{digits-known}
+use Rattle.compose.proofs.Laid.{parts-put}
 use Rattle.batch_messages.proofs.with_field48.Statement.{statement}
 use Rattle.batch_messages.proofs.with_field48.Tie as tie
 
@@ -54,12 +52,8 @@ returns c =
     let at-put-part3 = c .before .before .before .before .before .before .before .put-part3 in
     let at-put-part4 = c .before .before .before .put-part4 in
     let xs : List ℕ = at-args .t .debit ∷ at-args .t .debits ∷ at-args .t .credit ∷ at-args .t .credits ∷ [] in
-    let put = put-laid (widths 48) xs (rw (
-      at-put-part3 .ensures,
-      at-put-part2 .ensures,
-      at-put-part .ensures,
-    ) at (at-put-part4 .ensures)) in
-    digits-known (at-args .m) 48 put (laid-digits (widths 48) xs) (c .with-digits .ensures)
+    parts-put (at-args .m) 48 xs
+    (rw (at-put-part3 .ensures, at-put-part2 .ensures, at-put-part .ensures) at (at-put-part4 .ensures)) (c .with-digits .ensures)
 
 pub with-field48-spec : {M : Type 1} → statement M
 with-field48-spec =

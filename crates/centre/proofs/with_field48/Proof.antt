@@ -2,10 +2,8 @@
 use mathlib.Core.List.{List, [], _∷_}
 use Prim.Native.Nat.{ℕ}
 use borrow.Author.Needs.{needs}
-use Rattle.parts.specs.Layout.{widths}
 use Rattle.parts.specs.declared.Part.the-variants.{DebitAmount, DebitCount, CreditAmount, CreditCount}
-use Rattle.parts.proofs.Laid.{laid-digits}
-use Rattle.compose.proofs.Places.{digits-known}
+use Rattle.compose.proofs.Laid.{laid-put}
 use Rattle.centre_totals.specs.Totals.{sentPart}
 use Rattle.centre.proofs.with_field48.Statement.{statement}
 use Rattle.centre.proofs.with_field48.Tie as tie
@@ -25,7 +23,7 @@ returns c =
     let at-field48-with = c .before .before .field48-with in
     let xs : List ℕ = sentPart DebitAmount (at-args .sent) ∷ sentPart DebitCount (at-args .sent) ∷ sentPart CreditAmount (at-args .sent) ∷
     sentPart CreditCount (at-args .sent) ∷ at-args .digit ∷ [] in
-    digits-known (at-args .m) 48 (at-field48-with .ensures) (laid-digits (widths 48) xs) (c .with-digits .ensures)
+    laid-put (at-args .m) 48 xs (at-field48-with .ensures) (c .with-digits .ensures)
 
 pub with-field48-spec : {M : Type 1} → statement M
 with-field48-spec =

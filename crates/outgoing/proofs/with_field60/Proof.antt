@@ -2,9 +2,7 @@
 use mathlib.Core.List.{List, [], _∷_}
 use Prim.Native.Nat.{ℕ}
 use borrow.Author.Needs.{needs}
-use Rattle.parts.specs.Layout.{widths}
-use Rattle.parts.proofs.Laid.{laid-digits, put-laid}
-use Rattle.compose.proofs.Places.{digits-known}
+use Rattle.compose.proofs.Laid.{parts-put}
 use Rattle.outgoing.proofs.with_field60.Statement.{statement}
 use Rattle.outgoing.proofs.with_field60.Tie as tie
 
@@ -42,8 +40,7 @@ returns c =
     let at-put-part2 = c .before .before .before .before .before .before .put-part2 in
     let at-put-part3 = c .before .before .before .put-part3 in
     let xs : List ℕ = at-args .kind ∷ at-args .batch .0 ∷ at-args .code ∷ [] in
-    let put = put-laid (widths 60) xs (rw (at-put-part2 .ensures, at-put-part .ensures) at (at-put-part3 .ensures)) in
-    digits-known (at-args .m) 60 put (laid-digits (widths 60) xs) (c .with-digits .ensures)
+    parts-put (at-args .m) 60 xs (rw (at-put-part2 .ensures, at-put-part .ensures) at (at-put-part3 .ensures)) (c .with-digits .ensures)
 
 pub with-field60-spec : {M : Type 1} → statement M
 with-field60-spec =
