@@ -23,6 +23,13 @@ markOffset = 2
 abbrev pub resendsOffset : ℕ
 resendsOffset = 3
 
+-- where the packed trace and amount stand
+abbrev pub traceOffset : ℕ
+traceOffset = 4
+
+abbrev pub amountOffset : ℕ
+amountOffset = 7
+
 -- k bytes from an offset on
 abbrev pub part : ℕ → ℕ → List ℕ → List ℕ
 part at k b = take k (drop at b)
@@ -32,9 +39,9 @@ part at k b = take k (drop at b)
 unfoldable pub decode : List ℕ → Entry
 decode b =
     record {
-      kind = getD b 0 0; voided = getD b 1 0; mark = getD b 2 0; resends = getD b 3 0;
-      trace = record { 0 = packedNumber 6 (part 4 3 b) };
-      amount = packedNumber 12 (part 7 6 b);
+      kind = getD b 0 0; voided = getD b voidedOffset 0; mark = getD b markOffset 0; resends = getD b resendsOffset 0;
+      trace = record { 0 = packedNumber 6 (part traceOffset 3 b) };
+      amount = packedNumber 12 (part amountOffset 6 b);
       digits = getD b 13 0; card = part 14 10 b;
       date = part 24 2 b;
       authorisation = part 26 6 b;

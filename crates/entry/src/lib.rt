@@ -8,7 +8,7 @@ ghost use Rattle.digits.specs.Digits.{pack};
 ghost use Rattle.digits.specs.Numbers.{digitsOf};
 ghost use Rattle.digits.specs.Packed.{packedNumber};
 ghost use Rattle.field.specs.Contents.{allPrintable};
-ghost use Rattle.entry.specs.Entry.{decode, encode, part, allZero, blank, entrySize};
+ghost use Rattle.entry.specs.Entry.{decode, encode, part, allZero, blank, entrySize, traceOffset};
 ghost use Rattle.entry.specs.Form.{cardInForm, inForm, keepsVoided, keepsUnmarked, keepsResends, keepsSilent, fits};
 
 // The values of an entry; card and date are packed digits.
@@ -37,6 +37,11 @@ impl Entry {
     pub const MARK: u8 = 2;
 
     pub const RESENDS: u8 = 3;
+
+    // Where the packed trace and amount stand.
+    pub const TRACE: usize = 4;
+
+    pub const AMOUNT: usize = 7;
 
     // The upload marks but 0, which is not sent: silent, accepted, rejected, given up.
     pub const SILENT: u8 = 1;
@@ -70,7 +75,7 @@ pub fn entry_of(b: &[u8; Entry::SIZE]) -> Entry
         mark: s[2],
         resends: s[3],
         trace: trace,
-        amount: digits::packed_number(&s[7..13]),
+        amount: digits::packed_number(&s[Entry::AMOUNT..13]),
         digits: s[13],
         card: card,
         date: date,
@@ -136,9 +141,9 @@ pub fn blank() -> Entry
 
 fn trace_in(s: &[u8]) -> Trace
     requires { ⌜ length (now s) ≡ entrySize ⌝ }
-    ensures { λ r. ⌜ r ≡ record { 0 = packedNumber 6 (part 4 3 (now (s .entry))) } ⌝ }
+    ensures { λ r. ⌜ r ≡ record { 0 = packedNumber 6 (part traceOffset 3 (now (s .entry))) } ⌝ }
 {
-    Trace(digits::packed_number(&s[4..7]) as u32)
+    Trace(digits::packed_number(&s[Entry::TRACE..Entry::AMOUNT]) as u32)
 }
 
 // Whether each value is in its range and form.
@@ -151,7 +156,11 @@ fn is_in_form(s: &[u8]) -> bool
         & (s[1] <= 1)
         & (s[2] <= 4)
         & numbers::is_number(trace.0)
-        & numbers::is_within(1, digits::packed_number(&s[7..13]), numbers::LARGEST_AMOUNT)
+        & numbers::is_within(
+            1,
+            digits::packed_number(&s[Entry::AMOUNT..13]),
+            numbers::LARGEST_AMOUNT,
+        )
         & is_card(s[13], &s[14..24])
         & digits::is_packed(&s[24..26], 4)
         & is_printable(&s[26..32])

@@ -7,7 +7,7 @@ use native.Mathlib.Omega.{arith}
 use lib.ListN.{length, getD, take, drop, length-drop}
 use lib.Seq.{drop-drop, take-take, getD-take, getD-drop, length-take-le}
 use Rattle.digits.specs.Packed.{packedNumber}
-use Rattle.entry.specs.Entry.{entrySize, part, decode}
+use Rattle.entry.specs.Entry.{entrySize, markOffset, traceOffset, amountOffset, part, decode}
 use Rattle.entry.specs.declared.Entry.{Entry}
 use Rattle.entry.proofs.Bytes.{part-copied}
 use Rattle.entry.proofs.Theorems.{decode-trace}
@@ -34,10 +34,11 @@ part-front m (suc a) (suc k) (x ∷ b) h = part-front m a k b (omega arith)
 pub part-here : (m a at : ℕ) (j : List ℕ) → a + m ≤ entrySize → take m (drop a (take entrySize (drop at j))) ≡ take m (drop (at + a) j)
 part-here m a at j h = part-front m a entrySize (drop at j) h ∙ ap (take m) (drop-drop a at j)
 
--- the number that k bytes from an index on say
-pub slice-number : (from k : ℕ) (j : List ℕ) → from + k ≤ length j
-    → packedNumber (2 * length (take (from + k - from) (drop from j))) (take (from + k - from) (drop from j))
-    ≡ packedNumber (2 * k) (take k (drop from j))
+-- the number that k bytes from an index on say, as code takes it
+abbrev pub sliceNumber : ℕ → ℕ → List ℕ → ℕ
+sliceNumber from k j = packedNumber (2 * length (take (from + k - from) (drop from j))) (take (from + k - from) (drop from j))
+
+pub slice-number : (from k : ℕ) (j : List ℕ) → from + k ≤ length j → sliceNumber from k j ≡ packedNumber (2 * k) (take k (drop from j))
 slice-number from k j h =
     let m : from + k - from ≡ k = omega arith in
     rw (m, length-take-le k (drop from j) (rw length-drop (omega arith)))
@@ -47,22 +48,18 @@ module _ (j : List ℕ) (at : ℕ) where
   unfolding decode
   kind-here = getD-take entrySize (drop at j) 0 0 (omega arith) ∙ getD-drop at j 0 0 ∙ rw (add-zero at)
 
-  pub mark-here : here j at .mark ≡ getD j (at + 2) 0
+  pub mark-here : here j at .mark ≡ getD j (at + markOffset) 0
   unfolding decode
-  mark-here = getD-take entrySize (drop at j) 2 0 (omega arith) ∙ getD-drop at j 2 0
+  mark-here = getD-take entrySize (drop at j) markOffset 0 (omega arith) ∙ getD-drop at j markOffset 0
 
   module _ (h : at + entrySize ≤ length j) where
-    pub trace-here : packedNumber (2 * length (take (at + 4 + 3 - (at + 4)) (drop (at + 4) j))) (take (at + 4 + 3 - (at + 4)) (drop (at + 4) j))
-        ≡ here j at .trace .0
+    pub trace-here : sliceNumber (at + traceOffset) 3 j ≡ here j at .trace .0
     unfolding decode
-    trace-here = slice-number (at + 4) 3 j (omega arith) ∙ ap (packedNumber 6) (sym (part-here 3 4 at j (omega arith)))
+    trace-here = slice-number (at + traceOffset) 3 j (omega arith) ∙ ap (packedNumber 6) (sym (part-here 3 traceOffset at j (omega arith)))
 
-    pub amount-here : packedNumber (2 * length (take (at + 7 + 6 - (at + 7)) (drop (at + 7) j))) (take (at + 7 + 6 - (at + 7)) (drop (at + 7) j))
-        ≡ here j at .amount
+    pub amount-here : sliceNumber (at + amountOffset) 6 j ≡ here j at .amount
     unfolding decode
-    amount-here = slice-number (at + 7) 6 j (omega arith) ∙ ap (packedNumber 12) (sym (part-here 6 7 at j (omega arith)))
+    amount-here = slice-number (at + amountOffset) 6 j (omega arith) ∙ ap (packedNumber 12) (sym (part-here 6 amountOffset at j (omega arith)))
 
-    pub trace-small : {t : ℕ}
-        → t ≡ packedNumber (2 * length (take (at + 4 + 3 - (at + 4)) (drop (at + 4) j))) (take (at + 4 + 3 - (at + 4)) (drop (at + 4) j))
-        → t < 1000000
+    pub trace-small : {t : ℕ} → t ≡ sliceNumber (at + traceOffset) 3 j → t < 1000000
     trace-small q = rw (q ∙ trace-here) (decode-trace (take entrySize (drop at j)))

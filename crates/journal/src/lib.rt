@@ -187,7 +187,7 @@ fn trace_in(journal: &[u8], at: usize) -> u32
     requires { ⌜ at + entrySize ≤ length (now journal) ⌝ }
     ensures { λ r. ⌜ r ≡ decode (take entrySize (drop at (now (journal .entry)))) .trace .0 ⌝ }
 {
-    let from = at + 4;
+    let from = at + Entry::TRACE;
     let end = from + 3;
     digits::packed_number(&journal[from..end]) as u32
 }
@@ -197,7 +197,7 @@ fn amount_in(journal: &[u8], at: usize) -> u64
     requires { ⌜ at + entrySize ≤ length (now journal) ⌝ }
     ensures { λ r. ⌜ r ≡ decode (take entrySize (drop at (now (journal .entry)))) .amount ⌝ }
 {
-    let from = at + 7;
+    let from = at + Entry::AMOUNT;
     let end = from + 6;
     digits::packed_number(&journal[from..end])
 }
@@ -211,7 +211,8 @@ fn is_asked(journal: &[u8], at: usize, query: Query) -> bool
         Query::Trace(trace) => trace_in(journal, at) == trace.0,
         Query::Original { kind, trace } => (journal[at] == kind)
             & (trace_in(journal, at) == trace.0),
-        Query::Due(mark) => kinds::is_due(journal[at]) & (journal[at + 2] == mark),
+        Query::Due(mark) => kinds::is_due(journal[at])
+            & (journal[at + Entry::MARK as usize] == mark),
     }
 }
 

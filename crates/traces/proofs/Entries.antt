@@ -12,7 +12,7 @@ use borrow.Author.Tests.{ltb-false}
 use Rattle.digits.proofs.Lists.{tail-part}
 use Rattle.digits.specs.Packed.{packedNumber}
 use Rattle.digits.proofs.Packed.{number-below}
-use Rattle.entry.specs.Entry.{decode, entrySize}
+use Rattle.entry.specs.Entry.{decode, entrySize, traceOffset}
 use Rattle.entry.specs.declared.Entry.{Entry}
 use Rattle.journal.specs.Journal.{entriesOf, entryAt}
 use Rattle.journal.proofs.Entries.{entries-more, entries-short, entry-there}
@@ -83,14 +83,14 @@ drop-entry (e ∷ es) (suc i) h = drop-entry es i (omega arith)
 
 -- the trace of entry i, from its bytes
 trace-bytes : (n i : ℕ) (j : List ℕ) → i < length (entriesOf n j)
-    → traceAt (entriesOf n j) i ≡ packedNumber 6 (take 3 (drop (entrySize * i + 4) j))
+    → traceAt (entriesOf n j) i ≡ packedNumber 6 (take 3 (drop (entrySize * i + traceOffset) j))
 unfolding traceAt decode
 trace-bytes n i j h =
     let r = entries-room n i j h in
     ap (λ (e : Entry). e .trace .0) (entry-there n i j (r .1) (r .0))
-    ∙ ap (packedNumber 6) (part-here 3 4 (entrySize * i) j (omega arith))
+    ∙ ap (packedNumber 6) (part-here 3 traceOffset (entrySize * i) j (omega arith))
 
-pub trace-is : {t : ℕ} (n i : ℕ) (j : List ℕ) → i < length (entriesOf n j) → t ≡ packedNumber 6 (take 3 (drop (entrySize * i + 4) j))
+pub trace-is : {t : ℕ} (n i : ℕ) (j : List ℕ) → i < length (entriesOf n j) → t ≡ packedNumber 6 (take 3 (drop (entrySize * i + traceOffset) j))
     → t ≡ traceAt (entriesOf n j) i
 trace-is n i j h q = q ∙ sym (trace-bytes n i j h)
 

@@ -7,7 +7,7 @@ ghost use mathlib.Core.Path.{_≡_};
 ghost use Prim.Native.Nat.{_+_, _*_, _≤_};
 ghost use lib.ListN.{length, take, drop};
 ghost use Rattle.numbers.specs.Limits.{mostEntries};
-ghost use Rattle.entry.specs.Entry.{entrySize};
+ghost use Rattle.entry.specs.Entry.{entrySize, traceOffset};
 ghost use Rattle.digits.specs.Packed.{packedNumber};
 ghost use Rattle.journal.specs.Journal.{entriesOf, absent, distinct, takenFrom, taken};
 ghost use Rattle.traces.specs.Traces.{mayFollow, ordered, unseen, Pass};
@@ -61,9 +61,9 @@ fn count_of(journal: &[u8], n: u16) -> u16
 // The trace of entry i.
 fn trace_at(journal: &[u8], i: u16) -> u32
     requires { ⌜ entrySize * i + entrySize ≤ length (now journal) ⌝ }
-    ensures { λ r. ⌜ r ≡ packedNumber 6 (take 3 (drop (entrySize * i + 4) (now (journal .entry)))) ⌝ }
+    ensures { λ r. ⌜ r ≡ packedNumber 6 (take 3 (drop (entrySize * i + traceOffset) (now (journal .entry)))) ⌝ }
 {
-    let at = Entry::SIZE * i as usize + 4;
+    let at = Entry::SIZE * i as usize + Entry::TRACE;
     let end = at + 3;
     digits::packed_number(&journal[at..end]) as u32
 }

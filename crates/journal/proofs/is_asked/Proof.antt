@@ -30,6 +30,9 @@ shared-slice-read-is-due c = search needs
 is-due-requires : tie.Need-is-due-requires
 is-due-requires c κs = search needs
 
+cast-result : tie.Need-cast-result
+cast-result c = search needs
+
 add-result : tie.Need-add-result
 add-result c = search needs
 
@@ -79,6 +82,7 @@ is-asked-spec =
     enum-known-query-3
     shared-slice-read-is-due
     is-due-requires
+    cast-result
     add-result
     shared-slice-read-result-2
     returns

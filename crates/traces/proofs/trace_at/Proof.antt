@@ -4,7 +4,7 @@ use borrow.Author.Needs.{needs}
 use native.Mathlib.Omega.{arith}
 use Prim.Native.Nat.{_+_, _*_}
 use denote.Ref.{now}
-use Rattle.entry.specs.Entry.{entrySize}
+use Rattle.entry.specs.Entry.{entrySize, traceOffset}
 use Rattle.journal.proofs.Here.{slice-number}
 use Rattle.traces.proofs.Entries.{trace-below}
 use Rattle.traces.proofs.trace_at.Statement.{statement}
@@ -35,7 +35,7 @@ cast-result : tie.Need-cast-result
 cast-result c =
     let at-args-i = c .before .before .before .args .i in
     let at-args-journal = c .before .before .before .args .journal in
-    let at = entrySize * at-args-i + 4 in
+    let at = entrySize * at-args-i + traceOffset in
     let j = now at-args-journal in
     omega (arith, c .packed-number .ensures, slice-number at 3 j (search needs), trace-below at j)
 
@@ -43,7 +43,7 @@ returns : tie.Need-returns
 returns c =
     let at-args-i = c .before .before .before .args .i in
     let at-args-journal = c .before .before .before .args .journal in
-    let at = entrySize * at-args-i + 4 in
+    let at = entrySize * at-args-i + traceOffset in
     let j = now at-args-journal in
     c .packed-number .ensures ∙ slice-number at 3 j (search needs)
 
