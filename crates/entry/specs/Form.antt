@@ -16,7 +16,7 @@ use Rattle.entry.specs.declared.Entry.{Entry}
 unfoldable pub cardInForm : ℕ → List ℕ → Bool
 cardInForm n card = within 13 n 19 && isPacked n (take (bytesFor n) card) && allZero (drop (bytesFor n) card)
 
--- a value out of its range or form; a date may be any four digits
+-- each value is in its range and form; a date may be any four digits
 unfoldable pub inForm : Entry → Bool
 inForm e =
     isKind (e .kind)
@@ -30,7 +30,7 @@ inForm e =
     && allPrintable (e .reference)
     && allZero (e .reserved)
 
--- a voided mark on a kind other than 20 or 22
+-- a voided mark stands on 20 or 22 only
 unfoldable pub keepsVoided : Entry → Bool
 keepsVoided e = eqb (e .voided) 0 || isVoidable (e .kind)
 
@@ -38,15 +38,15 @@ keepsVoided e = eqb (e .voided) 0 || isVoidable (e .kind)
 abbrev pub dueEntry : Entry → Bool
 dueEntry e = isDue (e .kind)
 
--- a mark or resend other than 0 outside the upload or on an entry not due
+-- outside the upload, and on an entry not due, mark and resends are 0
 unfoldable pub keepsUnmarked : (Entry → Bool) → Bool → Entry → Bool
 keepsUnmarked due uploading e = (uploading && due e) || (eqb (e .mark) 0 && eqb (e .resends) 0)
 
--- a resend at mark 0 or above L
+-- resends are at most L, and 0 at mark 0
 unfoldable pub keepsResends : ℕ → Entry → Bool
 keepsResends l e = leb (e .resends) l && (not (eqb (e .mark) 0) || eqb (e .resends) 0)
 
--- a mark 1 already resent L times and not awaited
+-- a mark 1 already resent L times is awaited
 unfoldable pub keepsSilent : ℕ → Bool → Entry → Bool
 keepsSilent l awaited e = not (eqb (e .mark) 1 && eqb (e .resends) l) || awaited
 
