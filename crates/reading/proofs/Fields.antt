@@ -5,7 +5,6 @@ use mathlib.Core.Bool.{Bool, true, false, cond}
 use mir.Syntax.{w8}
 use mir.Val.{Fits}
 use Prim.Native.Nat.{ℕ, zero, suc, _+_, _-_, _≤_, _<_}
-use native.Mathlib.Nat.{not-suc-le-zero, le-of-suc-le-suc}
 use native.Mathlib.Omega.{arith}
 use native.Mathlib.Numerals.{add-one}
 use lib.Dec.{eqb}
@@ -27,7 +26,7 @@ use Rattle.span.specs.declared.Span.the-variants.{Held, Refused}
 use Rattle.span.proofs.Held.{span-fits}
 use Rattle.span.proofs.Frame.{frame-refused, frame-held, frame-fault, frame-fits}
 use Rattle.message.specs.Build.{padded}
-use Rattle.message.proofs.Places.{At, noFormat, roomsOf, rooms-formats}
+use Rattle.message.proofs.Places.{At, noFormat, roomsOf, rooms-formats, places-rest}
 use Rattle.message.specs.Message.{rooms}
 use Rattle.reading.specs.Reading.{Fields, bad, good, prepend, afterSpan, readFields, bitmapOf}
 
@@ -35,14 +34,9 @@ use Rattle.reading.specs.Reading.{Fields, bad, good, prepend, afterSpan,
 abbrev pub startOf : ℕ → ℕ
 startOf k = rooms - roomsOf (drop k formats)
 
-place-rest : (n : ℕ) (fs : List Format) (k : ℕ) → k < length fs → getD (places n fs) k 0 + roomsOf (drop k fs) ≡ n + roomsOf fs
-place-rest n [] k h = absurd (not-suc-le-zero h)
-place-rest n (f ∷ fs) zero h = refl
-place-rest n (f ∷ fs) (suc k) h = place-rest (n + room f) fs k (le-of-suc-le-suc h) ∙ omega arith
-
 -- the table of places has it
 pub place-start : {ps : List ℕ} {k : ℕ} → ps ≡ places 0 formats → k < rows → getD ps k 0 ≡ startOf k
-place-start {ps} {k} e h = rw e (omega (arith, place-rest 0 formats k (omega (arith, length-formats)), rooms-formats))
+place-start {ps} {k} e h = rw e (omega (arith, places-rest formats 0 k (omega (arith, length-formats)), rooms-formats))
 
 -- the fields before k are read: their counts and contents stand at the front, and zeros after them
 pub record ReadTo (bm s : List ℕ) (k at to : ℕ) (cs bs : List ℕ) : Type 0 where
