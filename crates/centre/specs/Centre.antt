@@ -62,7 +62,7 @@ alsoTo Upload m date code = []
 
 -- its type plus 10, fields 11, 41, 42, 60 as sent, 39 = code
 abbrev pub replyFields : Message → ℕ → List ℕ → List Item
-replyFields m date code = bytes 39 code ∷ (sentFields m ++ alsoTo (leftAs (m .indicator)) m date code)
+replyFields m date code = sentFields m ++ (bytes 39 code ∷ alsoTo (leftAs (m .indicator)) m date code)
 
 unfoldable pub reply : Message → ℕ → List ℕ → Message
 reply m date code = withAll (replyFields m date code) (messageOf (answerType (m .indicator)) [])

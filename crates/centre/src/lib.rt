@@ -14,8 +14,8 @@ pub fn reply(sent: Message, date: u16, code: [u8; 2]) -> Message
 {
     let left = centre_types::left_as(sent.indicator);
     let m = compose::typed(centre_types::answer_type(sent.indicator));
-    let m39 = compose::with_bytes(m, 39, &code);
-    with_also(with_sent_fields(m39, sent), left, sent, date, code)
+    let m39 = compose::with_bytes(with_sent_fields(m, sent), 39, &code);
+    with_also(m39, left, sent, date, code)
 }
 
 // The answer to a settlement, with this reconciliation digit.

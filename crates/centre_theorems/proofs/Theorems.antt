@@ -106,11 +106,11 @@ also-held Reversal m date code = rw mac-held
 also-held Settlement m date code = refl
 also-held Upload m date code = refl
 
-approvals-apart : (m : Message) (date : ℕ) (code : List ℕ) (t : Bool) → apart (bytes 39 code ∷ sentFields m) (approvals m date t) ≡ true
+approvals-apart : (m : Message) (date : ℕ) (code : List ℕ) (t : Bool) → apart (sentFields m ++ (bytes 39 code ∷ [])) (approvals m date t) ≡ true
 approvals-apart m date code true = refl
 approvals-apart m date code false = refl
 
-also-apart : (l : Left) (m : Message) (date : ℕ) (code : List ℕ) → apart (bytes 39 code ∷ sentFields m) (alsoTo l m date code) ≡ true
+also-apart : (l : Left) (m : Message) (date : ℕ) (code : List ℕ) → apart (sentFields m ++ (bytes 39 code ∷ [])) (alsoTo l m date code) ≡ true
 also-apart Nothing m date code = refl
 also-apart Request m date code = approvals-apart m date code (isApproval code)
 also-apart Reversal m date code = refl
@@ -121,8 +121,9 @@ reply-held : (b : List ℕ) (date : ℕ) (code : List ℕ) → HasLeft b → IsC
 reply-held b date code left c =
     let m = messageIn b in
     let l = leftAs (m .indicator) in
-    held-append (bytes 39 code ∷ sentFields m) (alsoTo l m date code) (also-apart l m date code)
-    (rw (reason-held code (c .two) (c .printable)) (sent-held b left)) (also-held l m date code)
+    held-append (sentFields m ++ (bytes 39 code ∷ [])) (alsoTo l m date code) (also-apart l m date code)
+    (held-append (sentFields m) (bytes 39 code ∷ []) refl (sent-held b left) (rw (reason-held code (c .two) (c .printable))))
+    (also-held l m date code)
 
 -- what left is of a type that leaves
 not-nothing : (l : Left) (m : Message) → HoldsIts l m → l ≡ Nothing → ⊥
@@ -134,7 +135,7 @@ left-leaves b left = leaves (messageIn b .indicator) (not-nothing (leftAs (messa
 -- a reply holds 39, and to a card request also 4 as outgoingBytes, 13 and 37
 reply-holds : (b : List ℕ) (date : ℕ) (code : List ℕ) → HasLeft b → (l : Left) → HoldsIts l (messageIn b)
     → words.isSettlement (messageIn b) ≡ false → words.isRequest (messageIn b) ≡ isRequest l → (i : ℕ) (s : List ℕ)
-    → Reads i (bytes 39 code ∷ (sentFields (messageIn b) ++ alsoTo l (messageIn b) date code)) (readMessage s)
+    → Reads i (sentFields (messageIn b) ++ (bytes 39 code ∷ alsoTo l (messageIn b) date code)) (readMessage s)
     → holdsItsFields (messageIn b) (messageIn s) ≡ true
 unfolding holdsItsFields
 reply-holds b date code left Nothing h t q i s r = absurd h

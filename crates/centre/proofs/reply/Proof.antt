@@ -1,5 +1,4 @@
 -- `centre::reply` meets its contract.
-use mathlib.Core.Path.{_∙_}
 use borrow.Author.Needs.{needs}
 use Rattle.centre.specs.Centre.{reply}
 use Rattle.centre.proofs.reply.Statement.{statement}
@@ -14,14 +13,14 @@ answer-type-requires c κs = search needs
 typed-requires : tie.Need-typed-requires
 typed-requires c κs = search needs
 
+with-sent-fields-requires : tie.Need-with-sent-fields-requires
+with-sent-fields-requires c κs = search needs
+
 slice-aggregate-with-bytes : tie.Need-slice-aggregate-with-bytes
 slice-aggregate-with-bytes c = search needs
 
 with-bytes-requires : tie.Need-with-bytes-requires
 with-bytes-requires c κs = search needs
-
-with-sent-fields-requires : tie.Need-with-sent-fields-requires
-with-sent-fields-requires c κs = search needs
 
 with-also-requires : tie.Need-with-also-requires
 with-also-requires c κs = search needs
@@ -32,11 +31,11 @@ returns c =
     let at-left-as = c .before .before .before .before .before .before .left-as in
     let at-answer-type = c .before .before .before .before .before .answer-type in
     let at-typed = c .before .before .before .before .typed in
-    let at-with-bytes = c .before .before .with-bytes in
-    c .with-also .ensures
-    ∙ rw (
-      c .before .with-sent-fields .ensures,
-      at-with-bytes .ensures,
+    let at-with-sent-fields = c .before .before .before .with-sent-fields in
+    rw (
+      c .with-also .ensures,
+      c .before .with-bytes .ensures,
+      at-with-sent-fields .ensures,
       at-typed .ensures,
       at-answer-type .ensures,
       at-left-as .ensures,
@@ -49,8 +48,8 @@ reply-spec =
     left-as-requires
     answer-type-requires
     typed-requires
+    with-sent-fields-requires
     slice-aggregate-with-bytes
     with-bytes-requires
-    with-sent-fields-requires
     with-also-requires
     returns)
