@@ -1,33 +1,29 @@
 -- What the loop over the table keeps while it reads the fields.
 use mathlib.Core.Path.{_≡_, refl, ap, sym, _∙_}
 use mathlib.Core.List.{List, [], _∷_, _++_, append-assoc, append-nil}
-use mathlib.Core.Bool.{Bool, true, false, cond}
-use mir.Syntax.{w8}
-use mir.Val.{Fits}
+use mathlib.Core.Bool.{true, false, cond}
 use Prim.Native.Nat.{ℕ, zero, suc, _+_, _-_, _≤_, _<_}
 use native.Mathlib.Omega.{arith}
+use native.Mathlib.Decide.{decLt}
 use native.Mathlib.Numerals.{add-one}
 use lib.Dec.{eqb}
 use lib.ListN.{length, getD, take, drop, set, replicate, length-append, length-take, length-drop, length-set, length-replicate, replicate-append-replicate, take-append-drop}
-use lib.Seq.{drop-drop, take-at, drop-at, take-suc-set, take-all, length-take-le, getD-set-other, set-getD}
+use lib.Seq.{drop-drop, take-at, drop-at, take-suc-set, take-all, length-take-le, getD-set-other, getD-take, getD-drop, set-getD}
 use borrow.Author.Tests.{eq-eqb, ne-eqb}
-use Rattle.digits.proofs.Lists.{tail-part}
+use Rattle.digits.proofs.Lists.{getD-past, tail-part, put-tail}
 use Rattle.field.specs.Table.{formats, rows}
-use Rattle.field.specs.Bitmap.{names, wordOf, hasIn}
-use Rattle.field.specs.Contents.{room, fault, places}
+use Rattle.field.specs.Bitmap.{names}
+use Rattle.field.specs.Contents.{room, places}
 use Rattle.field.specs.declared.Format.{Format}
 use Rattle.field.proofs.Formats.{length-formats, drop-formats}
-use Rattle.field.proofs.Words.{has-row}
-use Rattle.contents.specs.Taken.{Taken}
-use Rattle.contents.proofs.Taken.{filled-number}
-use Rattle.span.specs.Span.{span, frameAt}
+use Rattle.span.specs.Span.{spanAt, span}
 use Rattle.span.specs.declared.Span.{Span}
 use Rattle.span.specs.declared.Span.the-variants.{Held, Refused}
-use Rattle.span.proofs.Held.{span-fits}
-use Rattle.span.proofs.Frame.{frame-refused, frame-held, frame-fault, frame-fits}
+use Rattle.span.proofs.Held.{span-held, span-fits}
 use Rattle.message.specs.Build.{padded}
-use Rattle.message.proofs.Places.{At, noFormat, roomsOf, rooms-formats, places-rest}
+use Rattle.message.proofs.Places.{At, roomsOf, rooms-formats, places-rest}
 use Rattle.message.specs.Message.{rooms}
+use Rattle.reading.specs.Found.{Copied}
 use Rattle.reading.specs.Reading.{Fields, bad, good, prepend, afterSpan, readFields, bitmapOf}
 
 -- where the contents of the field at place k of the table stand
@@ -79,6 +75,14 @@ read-none bm s =
       eq = sym (prepend-nil (readFields formats bm s));
     })
 
+-- no array changes its length
+module _ {bm s cs bs l : List ℕ} {k at to : ℕ} (r : ReadTo bm s k at to cs bs) where
+  pub counts-kept : l ≡ replicate rows 0 → length cs ≡ length l
+  counts-kept e = r .counts-length ∙ rw e
+
+  pub contents-kept : l ≡ replicate rooms 0 → length bs ≡ length l
+  contents-kept e = r .contents-length ∙ rw e
+
 -- zeros after a field's contents fill its place, and those of the fields after it
 zeros-split : (z w l o : ℕ) → z ≤ w → drop z (replicate (w + l) o) ≡ replicate (w - z) o ++ replicate l o
 zeros-split z w l o h =
@@ -122,13 +126,12 @@ read-more {bm} {s} {k} {at} {to} {cs} {bs} {f} n p z bs′ r a e w =
           (prepend-twice (take k cs) (take to bs) (n ∷ []) (b ++ fz) (readFields (drop (k + 1) formats) bm (drop (at + p + z) s)));
     })
 
--- the bit that code tests
-pub row-named : (bm : List ℕ) {fs : List Format} {k word : ℕ} {b : Bool} → ((j : ℕ) → Fits w8 (getD bm j 0)) → fs ≡ formats → k < rows
-    → word ≡ wordOf 8 bm → b ≡ hasIn word (getD fs k noFormat .number) → names bm (getD fs k noFormat .number) ≡ b
-row-named bm {k = k} y e h w q = sym (q ∙ rw w (has-row bm (λ j. omega (arith, y j)) e k noFormat h))
-
 -- the field at place k of the table, in the code's own terms
 module _ {bm s cs bs : List ℕ} {k at : ℕ} {f : Format} (r : ReadTo bm s k at (startOf k) cs bs) (a : At k f) where
+  -- its place has room
+  pub place-room : {to : ℕ} → to ≡ startOf k → room f ≤ length (take (length bs - to) (drop to bs))
+  place-room {to} e = rw (tail-part, length-drop) (omega (arith, r .left, r .contents-length, ap roomsOf (a .turn)))
+
   -- one that the bitmap does not name
   pub read-past : names bm (f .number) ≡ false → ReadTo bm s (k + 1) at (startOf (k + 1)) cs bs
   unfolding span
@@ -137,49 +140,28 @@ module _ {bm s cs bs : List ℕ} {k at : ℕ} {f : Format} (r : ReadTo bm s k at
       let v : at + 0 + 0 ≡ at = omega arith in
       rw (u, v) at (read-more 0 0 0 bs r a (rw e) (sym (take-append-drop (startOf k) bs)))
 
-  module _ {t : Span} (q : t ≡ frameAt f (take (length s - at) (drop at s))) where
-    frame-there : {x : Span} → t ≡ x → frameAt f (drop at s) ≡ x
-    frame-there g = rw (← tail-part at s) (sym q ∙ g)
+  -- one that is found in what is left, its contents copied to its place
+  module _ (to : ℕ) {t : Span} {out : List ℕ} (y : Copied f (take (length s - at) (drop at s)) (take (length bs - to) (drop to bs)) t out) where
+    found-there : spanAt f (drop at s) ≡ t
+    found-there = rw (← tail-part at s) (sym (y .found))
 
-    -- where a field stands, and where its contents go
     pub within : {n p z : ℕ} → t ≡ Held n p z → at + p + z ≤ length s
-    within g = omega (arith, frame-fits f (drop at s) (frame-there g) .within, length-drop at s, r .at-bound)
-
-    pub placed : {n p z : ℕ} → t ≡ Held n p z → startOf k + z ≤ rooms
-    placed g = omega (arith, frame-fits f (drop at s) (frame-there g) .placed, r .left, ap roomsOf (a .turn))
+    within g = omega (arith, span-held f (drop at s) (found-there ∙ g) .fits, length-drop at s, r .at-bound)
 
     module _ (h : names bm (f .number) ≡ true) where
+      named-there : span f bm (drop at s) ≡ t
+      unfolding span
+      named-there = rw h found-there
+
       pub read-stop : {x : ℕ} → t ≡ Refused x → readFields formats bm s ≡ bad x
       unfolding readFields
-      read-stop {x} g = r .eq ∙ rw (a .turn, frame-refused f bm (drop at s) h {e = x} (frame-there g))
+      read-stop g = r .eq ∙ rw (a .turn, named-there ∙ g)
 
-      -- contents that are tested and copied to their place
-      module _ {n p z : ℕ} (g : t ≡ Held n p z) {to x : ℕ} {out : List ℕ} (e : to ≡ startOf k)
-          (y : Taken (f .class) n (take (at + p + z - (at + p)) (drop (at + p) s)) (length (take (to + z - to) (drop to bs))) x out) where
-        one-end : at + p + z - (at + p) ≡ z
-        one-end = omega arith
-
-        other-end : to + z - to ≡ z
-        other-end = omega arith
-
-        judged : x ≡ fault (f .class) n (take z (drop p (drop at s)))
-        judged =
-            let lb : length (take z (drop (at + p) s)) ≡ z = length-take-le z (drop (at + p) s) (rw length-drop (omega (arith, within g))) in
-            let lo : length (take z (drop to bs)) ≡ z =
-            length-take-le z (drop to bs) (rw length-drop (omega (arith, e, placed g, r .contents-length))) in
-            rw (drop-drop p at s) (filled-number (rw (one-end, other-end) at y) (lo ∙ sym lb))
-
-        pub read-fault : (x ≡ 0 → ⊥) → readFields formats bm s ≡ bad x
-        unfolding readFields
-        read-fault d = r .eq ∙ rw (a .turn, frame-fault f bm (drop at s) h (frame-there g) {e = x} (sym judged) d)
-
-        pub read-next : x ≡ 0
-            → ReadTo bm s (k + 1) (at + p + z) (startOf (k + 1)) (set cs k n) (take to bs ++ (out ++ drop (to + z - to) (drop to bs)))
-        read-next d =
-            let u : out ≡ take z (drop p (drop at s)) = y .copied d ∙ rw (one-end, drop-drop p at s) in
-            rw (other-end, e)
-            (read-more n p z (take (startOf k) bs ++ (out ++ drop z (drop (startOf k) bs))) r a
-            (frame-held f bm (drop at s) h (frame-there g) (sym judged ∙ d)) (rw u))
+      pub read-next : {n p z : ℕ} → to ≡ startOf k → t ≡ Held n p z
+          → ReadTo bm s (k + 1) (at + p + z) (startOf (k + 1)) (set cs k n) (take to bs ++ (out ++ drop (length bs - to) (drop to bs)))
+      read-next {n} {p} {z} e g =
+          let u : out ≡ take z (drop p (drop at s)) ++ drop z (drop to bs) = y .copied n p z g ∙ rw (tail-part at s, tail-part to bs) in
+          rw (put-tail to bs out) (read-more n p z (take to bs ++ out) r a (named-there ∙ g) (rw (u, e)))
 
 at-end : {bm s : List ℕ} {k at to : ℕ} {cs bs : List ℕ} → ReadTo bm s k at to cs bs → rows ≤ k
     → readFields formats bm s ≡ prepend cs bs (cond (eqb (length (drop at s)) 0) (good [] []) (bad 9))
@@ -204,3 +186,11 @@ pub bitmap-copied : (s e : List ℕ) → 10 ≤ length s
 bitmap-copied s e h q =
     let l : length (bitmapOf s) ≡ 8 = length-take-le 8 (drop 2 s) (rw length-drop (omega arith)) in
     q ∙ rw (l, take-all 8 (bitmapOf s) (omega arith)) (append-nil (bitmapOf s))
+
+-- its bytes are bytes of s
+pub bitmap-bytes : (s e : List ℕ) → e ≡ bitmapOf s → ((i : ℕ) → getD s i 0 < 256) → (j : ℕ) → getD e j 0 < 256
+bitmap-bytes s e q y j = rw q (go (decLt j 8))
+  where
+    go : Dec (j < 8) → getD (bitmapOf s) j 0 < 256
+    go (yes h) = rw (getD-take 8 (drop 2 s) j 0 h, getD-drop 2 s j 0) (y (2 + j))
+    go (no h) = rw (getD-past (bitmapOf s) j (omega (arith, length-take 8 (drop 2 s)))) (omega arith)

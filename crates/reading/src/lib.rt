@@ -1,9 +1,14 @@
 // Reading a message (document 01, rules 3 to 9).
+use field::Format;
 use message::Message;
 use span::Span;
 ghost use mathlib.Core.Path.{_≡_};
+ghost use Prim.Native.Nat.{_≤_};
+ghost use lib.ListN.{length};
 ghost use Rattle.field.specs.Table.{formats};
-ghost use Rattle.reading.specs.Reading.{refused, accepted, assembled, readFields, readMessage};
+ghost use Rattle.field.specs.Contents.{room};
+ghost use Rattle.reading.specs.Reading.{refused, accepted, readFields, readMessage};
+ghost use Rattle.reading.specs.Found.{Fresh, told, Copied};
 
 // A message was read, or the bytes are refused by a number of document 01.
 pub enum ReadOutcome {
@@ -29,7 +34,19 @@ pub fn read(s: &[u8]) -> Reading
         let mut bitmap = [0u8; 8];
         bytes::copy(&s[2..10], &mut bitmap);
         if field::all_listed(&bitmap) {
-            return read_fields(indicator, bitmap, &s[10..]);
+            let mut counts = [0u8; field::ROWS];
+            let mut contents = [0u8; message::ROOM];
+            let o = read_fields(&bitmap, &s[10..], &mut counts, &mut contents);
+            if let ReadOutcome::Refused(e) = o {
+                return refusal(e);
+            }
+            let message = Message {
+                indicator: indicator,
+                bitmap: bitmap,
+                counts: counts,
+                contents: contents,
+            };
+            return accept(message);
         }
         return refusal(5);
     }
@@ -46,52 +63,57 @@ fn refusal(e: u8) -> Reading
     }
 }
 
-// The message of a type, a bitmap and the fields in s.
-fn read_fields(indicator: u16, bitmap: [u8; 8], s: &[u8]) -> Reading
-    ensures { λ r. ⌜ r ≡ assembled indicator bitmap (readFields formats bitmap (now (s .entry))) ⌝ }
+// Reads the fields that a bitmap names from s: each one's count, and its contents at its place.
+fn read_fields(bitmap: &[u8; 8], s: &[u8], counts: &mut [u8], contents: &mut [u8]) -> ReadOutcome
+    requires { ⌜ Fresh (now bitmap) (now counts) (now contents) ⌝ }
+    ensures { λ r. ⌜ readFields formats (now (bitmap .entry)) (now (s .entry)) ≡ told r (now (counts .exit)) (now (contents .exit)) ⌝ }
 {
     let table = field::table();
     let places = field::places();
-    let word = field::word_of(&bitmap);
-    let mut counts = [0u8; field::ROWS];
-    let mut contents = [0u8; message::ROOM];
+    let word = field::word_of(bitmap);
     let mut at = 0;
     let mut k = 0;
     while k < field::ROWS {
         let f = table[k];
         if field::has(word, f.number) {
-            let t = span::frame_of(f, &s[at..]);
+            let to = places[k] as usize;
+            let t = read_field(f, &s[at..], &mut contents[to..]);
             match t {
                 Span::Refused(e) => {
-                    return refusal(e);
+                    return ReadOutcome::Refused(e);
                 }
                 Span::Held { count, skip, size } => {
-                    let class = f.class;
-                    let from = at + skip;
-                    let end = from + size;
-                    let to = places[k] as usize;
-                    let past = to + size;
-                    let e = contents::take(class, count, &s[from..end], &mut contents[to..past]);
-                    if e != 0 {
-                        return refusal(e);
-                    }
                     counts[k] = count;
-                    at = end;
+                    at = at + skip + size;
                 }
             }
         }
         k += 1;
     }
     if at < s.len() {
-        return refusal(9);
+        return ReadOutcome::Refused(9);
     }
-    let message = Message {
-        indicator: indicator,
-        bitmap: bitmap,
-        counts: counts,
-        contents: contents,
-    };
-    accept(message)
+    ReadOutcome::Read
+}
+
+// The field at the front of s, its contents copied to the front of out.
+fn read_field(f: Format, s: &[u8], out: &mut [u8]) -> Span
+    requires { ⌜ room f ≤ length (now out) ⌝ }
+    ensures { λ r. ⌜ Copied f (now (s .entry)) (now (out .entry)) r (now (out .exit)) ⌝ }
+{
+    let t = span::frame_of(f, s);
+    match t {
+        Span::Refused(e) => Span::Refused(e),
+        Span::Held { count, skip, size } => {
+            let class = f.class;
+            let end = skip + size;
+            let e = contents::take(class, count, &s[skip..end], &mut out[..size]);
+            if e != 0 {
+                return Span::Refused(e);
+            }
+            t
+        }
+    }
 }
 
 // A message that was read, where no rule on it as a whole is broken.

@@ -8,12 +8,11 @@ use lib.Dec.{ltb, eqb}
 use lib.ListN.{length, take, drop, length-drop}
 use borrow.Author.Tests.{ltb-false, le-ltb, eq-eqb, ne-eqb}
 use Rattle.digits.specs.Digits.{isPacked}
-use Rattle.field.specs.Bitmap.{names}
 use Rattle.field.specs.Contents.{size, skip, allowed, fault}
 use Rattle.field.specs.declared.Prefix.{Prefix}
 use Rattle.field.specs.declared.Prefix.the-variants.{Absent}
 use Rattle.field.specs.declared.Format.{Format}
-use Rattle.span.specs.Span.{countIn, contentsAt, spanAt, span, sizedAt, frameAt}
+use Rattle.span.specs.Span.{countIn, contentsAt, spanAt, sizedAt, frameAt}
 use Rattle.span.specs.declared.Span.{Span}
 use Rattle.span.specs.declared.Span.the-variants.{Held, Refused}
 use Rattle.span.proofs.Held.{Fits, passed-no, passed-yes, size-bound}
@@ -32,19 +31,16 @@ span-frame : (f : Format) (s : List ℕ) → spanAt f s ≡ judged f s (frameAt 
 unfolding spanAt contentsAt frameAt sizedAt
 span-frame f s = rw (judged-cond, judged-cond, judged-cond, judged-cond)
 
-module _ (f : Format) (bm s : List ℕ) (h : names bm (f .number) ≡ true) where
-  pub frame-refused : {e : ℕ} → frameAt f s ≡ Refused e → span f bm s ≡ Refused e
-  unfolding span
-  frame-refused q = rw (h, span-frame f s, q)
+module _ (f : Format) (s : List ℕ) where
+  pub frame-refused : {e : ℕ} → frameAt f s ≡ Refused e → spanAt f s ≡ Refused e
+  frame-refused q = rw (span-frame f s, q)
 
   module _ {n p z : ℕ} (q : frameAt f s ≡ Held n p z) where
-    pub frame-held : fault (f .class) n (take z (drop p s)) ≡ 0 → span f bm s ≡ Held n p z
-    unfolding span
-    frame-held e = rw (h, span-frame f s, q, eq-eqb _ _ e)
+    pub frame-held : fault (f .class) n (take z (drop p s)) ≡ 0 → spanAt f s ≡ Held n p z
+    frame-held e = rw (span-frame f s, q, eq-eqb _ _ e)
 
-    pub frame-fault : {e : ℕ} → fault (f .class) n (take z (drop p s)) ≡ e → (e ≡ 0 → ⊥) → span f bm s ≡ Refused e
-    unfolding span
-    frame-fault {e} g k = rw (h, span-frame f s, q, g, ne-eqb e 0 k)
+    pub frame-fault : {e : ℕ} → fault (f .class) n (take z (drop p s)) ≡ e → (e ≡ 0 → ⊥) → spanAt f s ≡ Refused e
+    frame-fault {e} g k = rw (span-frame f s, q, g, ne-eqb e 0 k)
 
 pub frame-fits : (f : Format) (s : List ℕ) {n p z : ℕ} → frameAt f s ≡ Held n p z → Fits f s p z
 unfolding frameAt sizedAt

@@ -25,7 +25,7 @@ pub record IsHeld (f : Format) (s : List ℕ) (n p z : ℕ) : Type 0 where
   pub fits : p + z ≤ length s
   pub no-fault : fault (f .class) n (take z (drop p s)) ≡ 0
 
-refused-held : {e n p z : ℕ} → Refused e ≡ Held n p z → ⊥
+pub refused-held : {e n p z : ℕ} → Refused e ≡ Held n p z → ⊥
 refused-held {e} {n} {p} {z} q = let y : _≡_ {A = ℕ} 0 1 = cc in omega arith
 
 -- a test that refuses where it holds, and one that refuses where it does not

@@ -3,8 +3,8 @@ use field_writing::Placed;
 use message::Message;
 ghost use mathlib.Core.Path.{_≡_};
 ghost use mathlib.Core.List.{_++_};
-ghost use Prim.Native.Nat.{_+_, _≤_};
-ghost use lib.ListN.{length, drop};
+ghost use Prim.Native.Nat.{ℕ, _+_, _≤_, _<_};
+ghost use lib.ListN.{length, getD, drop};
 ghost use Rattle.field.specs.Table.{formats};
 ghost use Rattle.message.specs.Message.{largest};
 ghost use Rattle.field_writing.specs.Placing.{Placing};
@@ -46,16 +46,17 @@ fn put_fields(
     contents: [u8; message::ROOM],
     out: &mut [u8],
 ) -> Placed
-    requires { ⌜ largest ≤ 10 + length (now out) ⌝ }
+    requires { ⌜ (largest ≤ 10 + length (now out)) × ((j : ℕ) → getD (now bm) j 0 < 256) ⌝ }
     ensures { λ r. ⌜ Placing (fieldsFault formats (now (bm .entry)) counts contents) (fieldsBytes formats (now (bm .entry)) counts contents) r (now (out .exit)) ⌝ }
 {
     let table = field::table();
     let places = field::places();
+    let word = field::word_of(bm);
     let mut at = 0;
     let mut k = 0;
     while k < field::ROWS {
         let f = table[k];
-        if field::named(bm, f.number) {
+        if field::has(word, f.number) {
             let from = wide(places[k]);
             let p = field_writing::put_field(f, counts[k], &contents[from..], &mut out[at..]);
             if p.fault != 0 {

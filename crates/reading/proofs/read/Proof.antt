@@ -1,11 +1,12 @@
 -- `reading::read` meets its contract.
-use mathlib.Core.Path.{sym, _∙_}
+use mathlib.Core.Path.{refl, sym, _∙_}
 use borrow.Author.Needs.{needs}
 use borrow.Author.Tests.{lt-ltb, le-ltb}
 use native.Mathlib.Omega.{arith}
+use denote.Ref.{now}
 use Rattle.reading.specs.Reading.{readMessage}
 use Rattle.digits.proofs.Lists.{tail-part}
-use Rattle.reading.proofs.Fields.{bitmap-copied}
+use Rattle.reading.proofs.Fields.{bitmap-copied, bitmap-bytes}
 use Rattle.reading.proofs.read.Statement.{statement}
 use Rattle.reading.proofs.read.Tie as tie
 
@@ -66,21 +67,93 @@ part-read-fields-start c = search needs
 part-read-fields-end : tie.Need-part-read-fields-end
 part-read-fields-end c = search needs
 
+slice-aggregate-read-fields : tie.Need-slice-aggregate-read-fields
+slice-aggregate-read-fields c = search needs
+
+slice-aggregate-read-fields-2 : tie.Need-slice-aggregate-read-fields-2
+slice-aggregate-read-fields-2 c = search needs
+
 read-fields-requires : tie.Need-read-fields-requires
-read-fields-requires c κs = search needs
+read-fields-requires c κs =
+    let at-args-s = c .before .before .before .before .before .before .before .before .before .before .before .before .before .before
+    .before .before .before .before .before .args .s in
+    let at-shared-slice-known-given = c .before .before .before .before .before .before .before .before .before .before .before .before
+    .before .before .before .before .before .before .shared-slice-known .given in
+    let at-if1-left = c .before .before .before .before .before .before .before .before .before .before .before .before .before .before
+    .before .before .before .if1 .left in
+    let at-copy-ensures = c .before .before .before .before .before .before .before .before .copy .ensures in
+    let s = now at-args-s in
+    record {
+      bytes = bitmap-bytes s _ (bitmap-copied s _ at-if1-left
+          (at-copy-ensures .1))
+          (λ i. omega (
+            arith,
+            at-shared-slice-known-given i,
+          ));
+      no-counts = refl;
+      no-contents = refl;
+    }
+
+enum-known-o : tie.Need-enum-known-o
+enum-known-o c = search needs
+
+refusal-requires-2 : tie.Need-refusal-requires-2
+refusal-requires-2 c κs = search needs
 
 returns-2 : tie.Need-returns-2
 unfolding readMessage
 returns-2 c =
     let at-if1 = c .before .before .before .before .before .before .before .before .before .before .before .before .before .before .before
-    .if1 in
-    let at-wide = c .before .before .before .before .before .before .before .before .before .before .before .before .before .wide in
-    let at-wide2 = c .before .before .before .before .before .before .before .before .before .before .before .wide2 in
-    let at-listed-indicator = c .before .before .before .before .before .before .before .before .before .before .listed-indicator in
-    let at-if2 = c .before .before .before .before .before .before .before .before .before .if2 in
-    let at-copy = c .before .before .before .before .before .before .copy in
-    let at-all-listed = c .before .before .before .all-listed in
-    let at-if3 = c .before .before .if3 in
+    .before .before .before .before .before .before .before .before .before .if1 in
+    let at-wide = c .before .before .before .before .before .before .before .before .before .before .before .before .before .before .before
+    .before .before .before .before .before .before .before .wide in
+    let at-wide2 = c .before .before .before .before .before .before .before .before .before .before .before .before .before .before
+    .before .before .before .before .before .before .wide2 in
+    let at-listed-indicator = c .before .before .before .before .before .before .before .before .before .before .before .before .before
+    .before .before .before .before .before .before .listed-indicator in
+    let at-if2 = c .before .before .before .before .before .before .before .before .before .before .before .before .before .before .before
+    .before .before .before .if2 in
+    let at-copy = c .before .before .before .before .before .before .before .before .before .before .before .before .before .before .before
+    .copy in
+    let at-all-listed = c .before .before .before .before .before .before .before .before .before .before .before .before .all-listed in
+    let at-if3 = c .before .before .before .before .before .before .before .before .before .before .before .if3 in
+    let at-read-fields = c .before .before .before .before .before .before .read-fields in
+    let at-o = c .before .before .o in
+    rw (
+      c .refusal2 .ensures,
+      le-ltb _ _ (at-if1 .left),
+      ← at-wide .ensures,
+      ← at-wide2 .ensures,
+      sym (at-listed-indicator .ensures) ∙ at-if2 .taken,
+      ← bitmap-copied _ _ (at-if1 .left) (at-copy .ensures .1),
+      sym (at-all-listed .ensures) ∙ at-if3 .taken,
+      rw tail-part at (at-read-fields .ensures),
+      at-o .given .1,
+    )
+
+enum-told : tie.Need-enum-told
+enum-told c = search needs
+
+accept-requires : tie.Need-accept-requires
+accept-requires c κs = search needs
+
+returns-3 : tie.Need-returns-3
+unfolding readMessage
+returns-3 c =
+    let at-if1 = c .before .before .before .before .before .before .before .before .before .before .before .before .before .before .before
+    .before .before .before .before .before .before .before .before .if1 in
+    let at-wide = c .before .before .before .before .before .before .before .before .before .before .before .before .before .before .before
+    .before .before .before .before .before .before .wide in
+    let at-wide2 = c .before .before .before .before .before .before .before .before .before .before .before .before .before .before
+    .before .before .before .before .before .wide2 in
+    let at-listed-indicator = c .before .before .before .before .before .before .before .before .before .before .before .before .before
+    .before .before .before .before .before .listed-indicator in
+    let at-if2 = c .before .before .before .before .before .before .before .before .before .before .before .before .before .before .before
+    .before .before .if2 in
+    let at-copy = c .before .before .before .before .before .before .before .before .before .before .before .before .before .before .copy in
+    let at-all-listed = c .before .before .before .before .before .before .before .before .before .before .before .all-listed in
+    let at-if3 = c .before .before .before .before .before .before .before .before .before .before .if3 in
+    let at-read-fields = c .before .before .before .before .before .read-fields in
     rw (
       le-ltb _ _ (at-if1 .left),
       ← at-wide .ensures,
@@ -88,14 +161,16 @@ returns-2 c =
       sym (at-listed-indicator .ensures) ∙ at-if2 .taken,
       ← bitmap-copied _ _ (at-if1 .left) (at-copy .ensures .1),
       sym (at-all-listed .ensures) ∙ at-if3 .taken,
-    ) (c .read-fields .ensures ∙ rw tail-part)
+      rw tail-part at (at-read-fields .ensures),
+      c .before .enum-told .given .1,
+    ) (c .accept .ensures)
 
-refusal-requires-2 : tie.Need-refusal-requires-2
-refusal-requires-2 c κs = search needs
+refusal-requires-3 : tie.Need-refusal-requires-3
+refusal-requires-3 c κs = search needs
 
-returns-3 : tie.Need-returns-3
+returns-4 : tie.Need-returns-4
 unfolding readMessage
-returns-3 c =
+returns-4 c =
     let at-if1 = c .before .before .before .before .before .before .before .before .before .before .before .before .before .before .if1 in
     let at-wide = c .before .before .before .before .before .before .before .before .before .before .before .before .wide in
     let at-wide2 = c .before .before .before .before .before .before .before .before .before .before .wide2 in
@@ -104,7 +179,7 @@ returns-3 c =
     let at-copy = c .before .before .before .before .before .copy in
     let at-all-listed = c .before .before .all-listed in
     rw (
-      c .refusal2 .ensures,
+      c .refusal3 .ensures,
       le-ltb _ _ (at-if1 .left),
       ← at-wide .ensures,
       ← at-wide2 .ensures,
@@ -113,18 +188,18 @@ returns-3 c =
       sym (at-all-listed .ensures) ∙ c .before .if3 .left,
     )
 
-refusal-requires-3 : tie.Need-refusal-requires-3
-refusal-requires-3 c κs = search needs
+refusal-requires-4 : tie.Need-refusal-requires-4
+refusal-requires-4 c κs = search needs
 
-returns-4 : tie.Need-returns-4
+returns-5 : tie.Need-returns-5
 unfolding readMessage
-returns-4 c =
+returns-5 c =
     let at-if1 = c .before .before .before .before .before .before .before .if1 in
     let at-wide = c .before .before .before .before .before .wide in
     let at-wide2 = c .before .before .before .wide2 in
     let at-listed-indicator = c .before .before .listed-indicator in
     rw (
-      c .refusal3 .ensures,
+      c .refusal4 .ensures,
       le-ltb _ _ (at-if1 .left),
       ← at-wide .ensures,
       ← at-wide2 .ensures,
@@ -153,9 +228,16 @@ read-spec =
     sub-read-fields
     part-read-fields-start
     part-read-fields-end
+    slice-aggregate-read-fields
+    slice-aggregate-read-fields-2
     read-fields-requires
-    returns-2
+    enum-known-o
     refusal-requires-2
+    returns-2
+    enum-told
+    accept-requires
     returns-3
     refusal-requires-3
-    returns-4)
+    returns-4
+    refusal-requires-4
+    returns-5)

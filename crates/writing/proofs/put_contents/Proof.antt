@@ -1,7 +1,11 @@
 -- `writing::put_contents` meets its contract.
 use mathlib.Core.Path.{sym, _∙_}
+use Prim.Native.Nat.{ℕ}
 use borrow.Author.Needs.{needs}
 use native.Mathlib.Omega.{arith}
+use mir.Syntax.{w8}
+use mir.Val.{Fits}
+use lib.ListN.{getD}
 use Rattle.field_writing.proofs.Parts.{placing-refused}
 use Rattle.writing.specs.Writing.{messageFault}
 use Rattle.writing.proofs.Putting.{contents-late, contents-stop}
@@ -15,7 +19,12 @@ all-listed-requires : tie.Need-all-listed-requires
 all-listed-requires c κs = search needs
 
 put-fields-requires : tie.Need-put-fields-requires
-put-fields-requires c κs = search needs
+put-fields-requires c κs =
+    let at-good = c .before .before .before .before .before .before .before .before .before .before .before .good in
+    let at-pre = c .before .before .before .before .before .before .before .before .before .before .before .pre in
+    let bm = c .before .before .before .before .before .before .before .before .before .before .before .args .m .bitmap in
+    let bytes : (j : ℕ) → Fits w8 (getD bm j 0) = λ j. search needs in
+    (at-pre, λ j. omega (arith, bytes j))
 
 late-fault-requires : tie.Need-late-fault-requires
 late-fault-requires c κs = search needs

@@ -1,20 +1,21 @@
 -- `writing::put_fields` meets its contract: the fields passed have no fault, and those named are written.
+use mathlib.Core.Path.{sym}
 use mathlib.Core.Logic.{⊎-elim}
 use Prim.Native.Nat.{_-_}
 use borrow.Author.Needs.{needs}
 use native.Mathlib.Omega.{arith}
 use lib.ListN.{length}
 use Rattle.field.specs.Table.{rows}
-use Rattle.message.proofs.Places.{at-place, place-rest, place-of}
+use Rattle.message.proofs.Places.{at-place, row-named, place-rest, place-of}
 use Rattle.writing.proofs.Putting.{row-fits, row-less, Putting, putting-none, putting-within, putting-skip, putting-stop, putting-more, putting-done}
 use Rattle.writing.proofs.put_fields.Statement.{statement}
 use Rattle.writing.proofs.put_fields.Tie as tie
 
 abbrev Inv-loop : tie.InvT-loop
-Inv-loop bm out₀ counts contents table places at₀ k₀ out at k = Putting bm counts contents (length out₀) k at out
+Inv-loop bm out₀ counts contents table places word at₀ k₀ out at k = Putting bm counts contents (length out₀) k at out
 
 abbrev μ-loop : tie.MeasureT-loop
-μ-loop bm out₀ counts contents table places at₀ k₀ out at k = rows - k
+μ-loop bm out₀ counts contents table places word at₀ k₀ out at k = rows - k
 
 table-requires : tie.Need-table-requires Inv-loop μ-loop
 table-requires c κs = search needs
@@ -22,10 +23,13 @@ table-requires c κs = search needs
 places-requires : tie.Need-places-requires Inv-loop μ-loop
 places-requires c κs = search needs
 
+word-of-requires : tie.Need-word-of-requires Inv-loop μ-loop
+word-of-requires c κs = search needs
+
 loop-holds : tie.Need-loop-holds Inv-loop μ-loop
 loop-holds c =
-    let at-pre = c .before .before .before .pre in
-    putting-none _ _ _ _ (search needs) at-pre
+    let at-pre = c .before .before .before .before .pre in
+    putting-none _ _ _ _ (search needs) (at-pre .0)
 
 mul-f : tie.Need-mul-f Inv-loop μ-loop
 mul-f c = row-fits (c .loop-test .taken) .0
@@ -33,8 +37,8 @@ mul-f c = row-fits (c .loop-test .taken) .0
 array-copy-out-f : tie.Need-array-copy-out-f Inv-loop μ-loop
 array-copy-out-f c = c .loop-test .taken
 
-named-requires : tie.Need-named-requires Inv-loop μ-loop
-named-requires c κs = search needs
+has-requires : tie.Need-has-requires Inv-loop μ-loop
+has-requires c κs = search needs
 
 mul-wide : tie.Need-mul-wide Inv-loop μ-loop
 mul-wide c =
@@ -56,7 +60,7 @@ array-read-put-field c =
 
 sub-put-field : tie.Need-sub-put-field Inv-loop μ-loop
 sub-put-field c =
-    let at-places-ensures = c .before .before .before .before .before .before .places .ensures in
+    let at-places-ensures = c .before .before .before .before .before .before .before .places .ensures in
     let at-loop-test-taken = c .before .before .before .before .loop-test .taken in
     omega (
       arith,
@@ -66,7 +70,7 @@ sub-put-field c =
 
 part-put-field-start : tie.Need-part-put-field-start Inv-loop μ-loop
 part-put-field-start c =
-    let at-places-ensures = c .before .before .before .before .before .before .before .places .ensures in
+    let at-places-ensures = c .before .before .before .before .before .before .before .before .places .ensures in
     let at-loop-test-taken = c .before .before .before .before .before .loop-test .taken in
     omega (
       arith,
@@ -96,31 +100,42 @@ same-length c = search needs
 
 returns : tie.Need-returns Inv-loop μ-loop
 returns c =
+    let at-pre = c .before .before .before .before .before .before .before .before .before .before .before .before .before .before .before
+    .before .before .before .pre in
     let at-table = c .before .before .before .before .before .before .before .before .before .before .before .before .before .before
-    .before .table in
+    .before .before .table in
     let at-places = c .before .before .before .before .before .before .before .before .before .before .before .before .before .before
-    .places in
+    .before .places in
+    let at-word-of = c .before .before .before .before .before .before .before .before .before .before .before .before .before .before
+    .word-of in
     let at-loop = c .before .before .before .before .before .before .before .before .before .before .before .before .before .loop in
     let at-loop-test = c .before .before .before .before .before .before .before .before .before .before .before .before .loop-test in
-    let at-named = c .before .before .before .before .before .before .before .before .before .before .named in
+    let at-has = c .before .before .before .before .before .before .before .before .before .before .has in
     let at-if1 = c .before .before .before .before .before .before .before .before .before .if1 in
     let at-wide = c .before .before .before .before .before .before .before .before .wide in
     let at-put-field = c .before .before .before .before .put-field in
     let a = at-place (at-table .ensures) (at-loop-test .taken) in
     let st = place-of (at-places .ensures) (at-wide .ensures) (at-loop-test .taken) (at-loop .inv .place .len) in
-    putting-stop (at-loop .inv) a (at-named .ensures) (at-if1 .taken) st (at-put-field .ensures) (c .if2 .taken)
+    putting-stop (at-loop .inv) a (sym (row-named _ (at-pre .1)
+    (at-table .ensures) (at-loop-test .taken) (at-word-of .ensures)
+    (at-has .ensures))) (at-if1 .taken) st
+    (at-put-field .ensures) (c .if2 .taken)
 
 add-at : tie.Need-add-at Inv-loop μ-loop
 add-at c =
+    let at-pre-1 = c .before .before .before .before .before .before .before .before .before .before .before .before .before .before
+    .before .before .before .before .before .pre .1 in
     let at-table-ensures = c .before .before .before .before .before .before .before .before .before .before .before .before .before
-    .before .before .before .table .ensures in
+    .before .before .before .before .table .ensures in
     let at-places-ensures = c .before .before .before .before .before .before .before .before .before .before .before .before .before
-    .before .before .places .ensures in
+    .before .before .before .places .ensures in
+    let at-word-of-ensures = c .before .before .before .before .before .before .before .before .before .before .before .before .before
+    .before .before .word-of .ensures in
     let at-loop-inv = c .before .before .before .before .before .before .before .before .before .before .before .before .before .before
     .loop .inv in
     let at-loop-test-taken = c .before .before .before .before .before .before .before .before .before .before .before .before .before
     .loop-test .taken in
-    let at-named-ensures = c .before .before .before .before .before .before .before .before .before .before .before .named .ensures in
+    let at-has-ensures = c .before .before .before .before .before .before .before .before .before .before .before .has .ensures in
     let at-if1-taken = c .before .before .before .before .before .before .before .before .before .before .if1 .taken in
     let at-wide-ensures = c .before .before .before .before .before .before .before .before .before .wide .ensures in
     let at-put-field-ensures = c .before .before .before .before .before .put-field .ensures in
@@ -129,8 +144,9 @@ add-at c =
     let st = place-of at-places-ensures at-wide-ensures at-loop-test-taken
     (at-loop-inv .place
     .len) in
-    let r = putting-more at-loop-inv a at-named-ensures at-if1-taken st at-put-field-ensures (c .before .if2 .left)
-    (at-put-field-kept .1 .1 .1 .0) in
+    let r = putting-more at-loop-inv a (sym (row-named _ at-pre-1
+    at-table-ensures at-loop-test-taken at-word-of-ensures at-has-ensures))
+    at-if1-taken st at-put-field-ensures (c .before .if2 .left) (at-put-field-kept .1 .1 .1 .0) in
     omega (arith, r .fits)
 
 add-k : tie.Need-add-k Inv-loop μ-loop
@@ -145,12 +161,16 @@ loop-less c =
 
 loop-again : tie.Need-loop-again Inv-loop μ-loop
 loop-again c =
-    let at-table = c .before .before .before .before .before .before .table in
-    let at-places = c .before .before .before .before .before .places in
+    let at-pre = c .before .before .before .before .before .before .before .before .before .pre in
+    let at-table = c .before .before .before .before .before .before .before .table in
+    let at-places = c .before .before .before .before .before .before .places in
+    let at-word-of = c .before .before .before .before .before .word-of in
     let at-loop-test = c .before .before .before .loop-test in
     let a = at-place (at-table .ensures) (at-loop-test .taken) in
     let r = c .before .before .before .before .loop .inv in
-    let n = c .before .named .ensures in
+    let n = sym (row-named _ (at-pre .1)
+    (at-table .ensures) (at-loop-test .taken)
+    (at-word-of .ensures) (c .before .has .ensures)) in
     ⊎-elim
     (λ w.
     let st = place-of (at-places .ensures) (w .1 .ensures) (at-loop-test .taken) (r .place .len) in
@@ -172,10 +192,11 @@ put-fields-spec =
     μ-loop
     table-requires
     places-requires
+    word-of-requires
     loop-holds
     mul-f
     array-copy-out-f
-    named-requires
+    has-requires
     mul-wide
     array-read-wide
     wide-requires

@@ -1,0 +1,30 @@
+-- What code that reads fields is given, and what it leaves in the arrays that it is lent.
+use mathlib.Core.Path.{_≡_}
+use mathlib.Core.List.{List, _++_}
+use Prim.Native.Nat.{ℕ, _<_}
+use lib.ListN.{getD, take, drop, replicate}
+use Rattle.field.specs.Table.{rows}
+use Rattle.field.specs.declared.Format.{Format}
+use Rattle.message.specs.Message.{rooms}
+use Rattle.span.specs.Span.{spanAt}
+use Rattle.span.specs.declared.Span.{Span}
+use Rattle.span.specs.declared.Span.the-variants.{Held}
+use Rattle.reading.specs.declared.ReadOutcome.{ReadOutcome}
+use Rattle.reading.specs.declared.ReadOutcome.the-variants.{Read, Refused}
+use Rattle.reading.specs.Reading.{Fields, bad, good}
+
+-- a bitmap of bytes, and no field read yet
+pub record Fresh (bm cs bs : List ℕ) : Type 0 where
+  pub bytes : (j : ℕ) → getD bm j 0 < 256
+  pub no-counts : cs ≡ replicate rows 0
+  pub no-contents : bs ≡ replicate rooms 0
+
+-- what an outcome says, with the counts and the contents that were left
+abbrev pub told : ReadOutcome → List ℕ → List ℕ → Fields
+told Read cs bs = good cs bs
+told (Refused e) cs bs = bad e
+
+-- the field at the front of s is r, and out is o with its contents copied to the front
+pub record Copied (f : Format) (s o : List ℕ) (r : Span) (out : List ℕ) : Type 0 where
+  pub found : r ≡ spanAt f s
+  pub copied : (n p z : ℕ) → r ≡ Held n p z → out ≡ take z (drop p s) ++ drop z o
