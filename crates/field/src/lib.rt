@@ -1,7 +1,8 @@
 // The table of fields, the bitmap, and the test of a field's contents (document 01, "Message bytes", rules 4 to 8).
 ghost use mathlib.Core.Path.{_≡_};
+ghost use Prim.Native.Nat.{_-_, _<_};
 ghost use Rattle.field.specs.Table.{formats, indicators, among};
-ghost use Rattle.field.specs.Bitmap.{names, listed, wordOf, hasIn};
+ghost use Rattle.field.specs.Bitmap.{names, listed, wordOf, bits, hasIn};
 ghost use Rattle.field.specs.Contents.{size, allowed, allPrintable, fault, places};
 
 // What a field holds: packed digits, printable bytes, or bytes of every value.
@@ -62,6 +63,11 @@ const PLACES: [u16; ROWS] = [
     0, 10, 13, 19, 22, 25, 27, 29, 31, 33, 34, 40, 52, 58, 60, 68, 83, 108, 139, 142, 148, 156, 219,
 ];
 
+// The bit of each field in a bitmap as one number, from the lowest.
+const BITS: [u8; ROWS] = [
+    62, 61, 60, 53, 52, 51, 50, 49, 42, 39, 32, 27, 26, 25, 23, 22, 20, 16, 15, 4, 3, 1, 0,
+];
+
 // The types of document 01.
 const INDICATORS: [u16; 12] = [
     0x0100, 0x0110, 0x0200, 0x0210, 0x0220, 0x0230, 0x0320, 0x0330, 0x0400, 0x0410, 0x0500, 0x0510,
@@ -80,6 +86,12 @@ pub fn places() -> [u16; ROWS]
     ensures { λ r. ⌜ r ≡ places 0 formats ⌝ }
 {
     PLACES
+}
+
+pub fn bits() -> [u8; ROWS]
+    ensures { λ r. ⌜ r ≡ bits formats ⌝ }
+{
+    BITS
 }
 
 // Rule 4: whether a message type indicator is listed.
@@ -127,11 +139,11 @@ pub fn word_of(bm: &[u8; 8]) -> u64
     word
 }
 
-// Whether a bitmap as a number names field n, for the numbers 1 to 64.
-pub fn has(word: u64, n: u8) -> bool
-    ensures { λ r. ⌜ r ≡ hasIn word n ⌝ }
+// Whether bit i of a bitmap as a number is set: field 64 has bit 0.
+pub fn is_set(word: u64, i: u8) -> bool
+    ensures { λ r. ⌜ (i < 64 → r ≡ hasIn word (64 - i)) ⌝ }
 {
-    (word >> ((256 - wide(n)) % 64)) % 2 == 1
+    (word >> (i % 64)) % 2 == 1
 }
 
 // Rule 5: whether a bitmap names only fields of the table.

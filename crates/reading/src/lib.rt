@@ -70,12 +70,13 @@ fn read_fields(bitmap: &[u8; 8], s: &[u8], counts: &mut [u8], contents: &mut [u8
 {
     let table = field::table();
     let places = field::places();
+    let bits = field::bits();
     let word = field::word_of(bitmap);
     let mut at = 0;
     let mut k = 0;
     while k < field::ROWS {
-        let f = table[k];
-        if field::has(word, f.number) {
+        if field::is_set(word, bits[k]) {
+            let f = table[k];
             let to = places[k] as usize;
             let t = read_field(f, &s[at..], &mut contents[to..]);
             match t {

@@ -51,12 +51,13 @@ fn put_fields(
 {
     let table = field::table();
     let places = field::places();
+    let bits = field::bits();
     let word = field::word_of(bm);
     let mut at = 0;
     let mut k = 0;
     while k < field::ROWS {
-        let f = table[k];
-        if field::has(word, f.number) {
+        if field::is_set(word, bits[k]) {
+            let f = table[k];
             let from = wide(places[k]);
             let p = field_writing::put_field(f, counts[k], &contents[from..], &mut out[at..]);
             if p.fault != 0 {

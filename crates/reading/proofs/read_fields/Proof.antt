@@ -5,17 +5,18 @@ use Prim.Native.Nat.{_-_}
 use borrow.Author.Needs.{needs}
 use native.Mathlib.Omega.{arith}
 use Rattle.field.specs.Table.{rows}
-use Rattle.message.proofs.Places.{at-place, row-named}
+use Rattle.field.proofs.Words.{row-named}
+use Rattle.message.proofs.Places.{noFormat, at-place}
 use Rattle.reading.proofs.Fields.{ReadTo, startOf, place-start, counts-kept, contents-kept, read-none, place-room}
 use Rattle.reading.proofs.Fields.{read-past, within, read-stop, read-next, read-long, read-done}
 use Rattle.reading.proofs.read_fields.Statement.{statement}
 use Rattle.reading.proofs.read_fields.Tie as tie
 
 abbrev Inv-loop : tie.InvT-loop
-Inv-loop bitmap s counts₀ contents₀ table places word at₀ k₀ counts contents at k = ReadTo bitmap s k at (startOf k) counts contents
+Inv-loop bitmap s counts₀ contents₀ table places bits word at₀ k₀ counts contents at k = ReadTo bitmap s k at (startOf k) counts contents
 
 abbrev μ-loop : tie.MeasureT-loop
-μ-loop bitmap s counts₀ contents₀ table places word at₀ k₀ counts contents at k = rows - k
+μ-loop bitmap s counts₀ contents₀ table places bits word at₀ k₀ counts contents at k = rows - k
 
 table-requires : tie.Need-table-requires Inv-loop μ-loop
 table-requires c κs = search needs
@@ -23,25 +24,31 @@ table-requires c κs = search needs
 places-requires : tie.Need-places-requires Inv-loop μ-loop
 places-requires c κs = search needs
 
+bits-requires : tie.Need-bits-requires Inv-loop μ-loop
+bits-requires c κs = search needs
+
 word-of-requires : tie.Need-word-of-requires Inv-loop μ-loop
 word-of-requires c κs = search needs
 
 loop-holds : tie.Need-loop-holds Inv-loop μ-loop
 loop-holds c =
-    let at-pre = c .before .before .before .before .before .before .pre in
+    let at-pre = c .before .before .before .before .before .before .before .pre in
     rw (
       at-pre .no-counts,
       at-pre .no-contents,
     ) (read-none _ _)
+
+array-read-is-set : tie.Need-array-read-is-set Inv-loop μ-loop
+array-read-is-set c = search needs
+
+is-set-requires : tie.Need-is-set-requires Inv-loop μ-loop
+is-set-requires c κs = search needs
 
 mul-f : tie.Need-mul-f Inv-loop μ-loop
 mul-f c = search needs
 
 array-copy-out-f : tie.Need-array-copy-out-f Inv-loop μ-loop
 array-copy-out-f c = search needs
-
-has-requires : tie.Need-has-requires Inv-loop μ-loop
-has-requires c κs = search needs
 
 mul-to : tie.Need-mul-to Inv-loop μ-loop
 mul-to c = search needs
@@ -65,7 +72,7 @@ part-read-field-end c = search needs
 
 sub-read-field-2 : tie.Need-sub-read-field-2 Inv-loop μ-loop
 sub-read-field-2 c =
-    let at-places-ensures = c .before .before .before .before .before .before .before .places .ensures in
+    let at-places-ensures = c .before .before .before .before .before .before .before .before .places .ensures in
     let at-loop-inv = c .before .before .before .before .before .loop .inv in
     let at-loop-test-taken = c .before .before .before .before .loop-test .taken in
     omega (
@@ -77,7 +84,7 @@ sub-read-field-2 c =
 
 part-read-field-start-2 : tie.Need-part-read-field-start-2 Inv-loop μ-loop
 part-read-field-start-2 c =
-    let at-places-ensures = c .before .before .before .before .before .before .before .places .ensures in
+    let at-places-ensures = c .before .before .before .before .before .before .before .before .places .ensures in
     let at-loop-inv = c .before .before .before .before .before .loop .inv in
     let at-loop-test-taken = c .before .before .before .before .loop-test .taken in
     omega (
@@ -92,8 +99,8 @@ part-read-field-end-2 c = search needs
 
 read-field-requires : tie.Need-read-field-requires Inv-loop μ-loop
 read-field-requires c κs =
-    let at-table = c .before .before .before .before .before .before .before .before .before .table in
-    let at-places = c .before .before .before .before .before .before .before .before .places in
+    let at-table = c .before .before .before .before .before .before .before .before .before .before .table in
+    let at-places = c .before .before .before .before .before .before .before .before .before .places in
     let at-loop = c .before .before .before .before .before .before .loop in
     let at-loop-test = c .before .before .before .before .before .loop-test in
     place-room (at-loop .inv)
@@ -108,14 +115,14 @@ enum-known-t c = search needs
 same-length : tie.Need-same-length Inv-loop μ-loop
 same-length c =
     let at-pre = c .before .before .before .before .before .before .before .before .before .before .before .before .before .before .before
-    .before .before .before .before .pre in
+    .before .before .before .before .before .pre in
     let at-loop = c .before .before .before .before .before .before .before .before .before .before .before .before .loop in
     counts-kept (at-loop .inv) (at-pre .no-counts)
 
 same-length-2 : tie.Need-same-length-2 Inv-loop μ-loop
 same-length-2 c =
     let at-pre-no-contents = c .before .before .before .before .before .before .before .before .before .before .before .before .before
-    .before .before .before .before .before .before .pre .no-contents in
+    .before .before .before .before .before .before .before .pre .no-contents in
     let at-loop-inv = c .before .before .before .before .before .before .before .before .before .before .before .before .loop .inv in
     let l = contents-kept at-loop-inv at-pre-no-contents in
     search needs
@@ -123,16 +130,18 @@ same-length-2 c =
 returns : tie.Need-returns Inv-loop μ-loop
 returns c =
     let at-pre = c .before .before .before .before .before .before .before .before .before .before .before .before .before .before .before
-    .before .before .before .before .pre in
+    .before .before .before .before .before .pre in
     let at-table = c .before .before .before .before .before .before .before .before .before .before .before .before .before .before
-    .before .table in
+    .before .before .table in
+    let at-bits = c .before .before .before .before .before .before .before .before .before .before .before .before .before .before .bits in
     let at-word-of = c .before .before .before .before .before .before .before .before .before .before .before .before .before .word-of in
     let at-loop = c .before .before .before .before .before .before .before .before .before .before .before .before .loop in
     let at-loop-test = c .before .before .before .before .before .before .before .before .before .before .before .loop-test in
-    let at-has = c .before .before .before .before .before .before .before .before .before .has in
-    let at-if1 = c .before .before .before .before .before .before .before .before .if1 in
+    let at-is-set = c .before .before .before .before .before .before .before .before .before .before .is-set in
+    let at-if1 = c .before .before .before .before .before .before .before .before .before .if1 in
     let at-read-field = c .before .before .before .before .before .read-field in
-    let named = row-named _ (at-pre .bytes) (at-table .ensures) (at-loop-test .taken) (at-word-of .ensures) (at-has .ensures) in
+    let named = row-named _ (at-pre .bytes) (at-table .ensures) (at-bits .ensures) noFormat (at-loop-test .taken) (at-word-of .ensures)
+    (at-is-set .ensures) in
     read-stop (at-loop .inv) (at-place (at-table .ensures) (at-loop-test .taken)) _
     (at-read-field .ensures) (named ∙
     at-if1 .taken) (c .before .t .given .1)
@@ -151,7 +160,7 @@ slice-write-counts c =
 add-at : tie.Need-add-at Inv-loop μ-loop
 add-at c =
     let at-table-ensures = c .before .before .before .before .before .before .before .before .before .before .before .before .before
-    .before .before .table .ensures in
+    .before .before .before .table .ensures in
     let at-loop-inv = c .before .before .before .before .before .before .before .before .before .before .before .before .loop .inv in
     let at-loop-test-taken = c .before .before .before .before .before .before .before .before .before .before .before .loop-test .taken in
     let at-read-field-ensures = c .before .before .before .before .before .read-field .ensures in
@@ -164,7 +173,7 @@ add-at c =
 add-at-2 : tie.Need-add-at-2 Inv-loop μ-loop
 add-at-2 c =
     let at-table-ensures = c .before .before .before .before .before .before .before .before .before .before .before .before .before
-    .before .before .table .ensures in
+    .before .before .before .table .ensures in
     let at-loop-inv = c .before .before .before .before .before .before .before .before .before .before .before .before .loop .inv in
     let at-loop-test-taken = c .before .before .before .before .before .before .before .before .before .before .before .loop-test .taken in
     let at-read-field-ensures = c .before .before .before .before .before .read-field .ensures in
@@ -185,15 +194,17 @@ loop-again c =
     let at-pre = c .before .before .before .before .before .before .before .before .before .before .before .pre in
     let at-table = c .before .before .before .before .before .before .before .table in
     let at-places = c .before .before .before .before .before .before .places in
-    let at-word-of = c .before .before .before .before .before .word-of in
-    let at-loop-test = c .before .before .before .loop-test in
-    let r = c .before .before .before .before .loop .inv in
+    let at-bits = c .before .before .before .before .before .bits in
+    let at-word-of = c .before .before .before .before .word-of in
+    let at-loop-test = c .before .before .loop-test in
+    let r = c .before .before .before .loop .inv in
     let a = at-place (at-table .ensures) (at-loop-test .taken) in
-    let named = row-named _ (at-pre .bytes) (at-table .ensures) (at-loop-test .taken) (at-word-of .ensures) (c .before .has .ensures) in
+    let named = row-named _ (at-pre .bytes) (at-table .ensures) (at-bits .ensures)
+    noFormat (at-loop-test .taken) (at-word-of .ensures) (c .before .is-set .ensures) in
     ⊎-elim
-    (λ w. rw (w .9, w .10, w .11) (read-next r a _ (w .3 .ensures) (named ∙ w .0 .taken)
+    (λ w. rw (w .10, w .11, w .12) (read-next r a _ (w .4 .ensures) (named ∙ w .0 .taken)
     (place-start (at-places .ensures) (at-loop-test .taken))
-    (w .7 .given .1)))
+    (w .8 .given .1)))
     (λ w. rw (w .1, w .2, w .3) (read-past r a (named ∙ w .0 .left)))
     (c .if1 .came)
 
@@ -227,11 +238,13 @@ read-fields-spec =
     μ-loop
     table-requires
     places-requires
+    bits-requires
     word-of-requires
     loop-holds
+    array-read-is-set
+    is-set-requires
     mul-f
     array-copy-out-f
-    has-requires
     mul-to
     array-read-to
     cast-to
