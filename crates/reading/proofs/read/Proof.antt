@@ -11,7 +11,7 @@ use Rattle.reading.proofs.read.Statement.{statement}
 use Rattle.reading.proofs.read.Tie as tie
 
 refusal-requires : tie.Need-refusal-requires
-refusal-requires c κs = search needs
+refusal-requires c κs = tt
 
 returns : tie.Need-returns
 unfolding readMessage
@@ -21,7 +21,7 @@ shared-slice-read-wide : tie.Need-shared-slice-read-wide
 shared-slice-read-wide c = search needs
 
 wide-requires : tie.Need-wide-requires
-wide-requires c κs = search needs
+wide-requires c κs = tt
 
 mul-indicator : tie.Need-mul-indicator
 mul-indicator c = omega (arith, c .before .shared-slice-known2 .given 0)
@@ -30,7 +30,7 @@ shared-slice-read-wide-2 : tie.Need-shared-slice-read-wide-2
 shared-slice-read-wide-2 c = search needs
 
 wide-requires-2 : tie.Need-wide-requires-2
-wide-requires-2 c κs = search needs
+wide-requires-2 c κs = tt
 
 add-indicator : tie.Need-add-indicator
 add-indicator c =
@@ -38,7 +38,7 @@ add-indicator c =
     omega (arith, at-shared-slice-known2-given 0, c .before .shared-slice-known3 .given 1)
 
 listed-indicator-requires : tie.Need-listed-indicator-requires
-listed-indicator-requires c κs = search needs
+listed-indicator-requires c κs = tt
 
 sub-copy : tie.Need-sub-copy
 sub-copy c = search needs
@@ -56,7 +56,7 @@ copy-requires : tie.Need-copy-requires
 copy-requires c κs = search needs
 
 all-listed-requires : tie.Need-all-listed-requires
-all-listed-requires c κs = search needs
+all-listed-requires c κs = tt
 
 sub-read-fields : tie.Need-sub-read-fields
 sub-read-fields c = search needs
@@ -98,7 +98,7 @@ enum-known-o : tie.Need-enum-known-o
 enum-known-o c = search needs
 
 refusal-requires-2 : tie.Need-refusal-requires-2
-refusal-requires-2 c κs = search needs
+refusal-requires-2 c κs = tt
 
 returns-2 : tie.Need-returns-2
 unfolding readMessage
@@ -135,7 +135,7 @@ enum-told : tie.Need-enum-told
 enum-told c = search needs
 
 accept-requires : tie.Need-accept-requires
-accept-requires c κs = search needs
+accept-requires c κs = tt
 
 returns-3 : tie.Need-returns-3
 unfolding readMessage
@@ -166,7 +166,7 @@ returns-3 c =
     ) (c .accept .ensures)
 
 refusal-requires-3 : tie.Need-refusal-requires-3
-refusal-requires-3 c κs = search needs
+refusal-requires-3 c κs = tt
 
 returns-4 : tie.Need-returns-4
 unfolding readMessage
@@ -189,7 +189,7 @@ returns-4 c =
     )
 
 refusal-requires-4 : tie.Need-refusal-requires-4
-refusal-requires-4 c κs = search needs
+refusal-requires-4 c κs = tt
 
 returns-5 : tie.Need-returns-5
 unfolding readMessage

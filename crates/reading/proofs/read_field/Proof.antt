@@ -8,7 +8,7 @@ use Rattle.reading.proofs.read_field.Statement.{statement}
 use Rattle.reading.proofs.read_field.Tie as tie
 
 frame-of-requires : tie.Need-frame-of-requires
-frame-of-requires c κs = search needs
+frame-of-requires c κs = tt
 
 enum-known-t : tie.Need-enum-known-t
 enum-known-t c = search needs
@@ -50,7 +50,7 @@ slice-aggregate-take c =
     )))
 
 take-requires : tie.Need-take-requires
-take-requires c κs = search needs
+take-requires c κs = tt
 
 same-length : tie.Need-same-length
 same-length c = search needs

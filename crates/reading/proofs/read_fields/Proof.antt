@@ -19,16 +19,16 @@ abbrev μ-loop : tie.MeasureT-loop
 μ-loop bitmap s counts₀ contents₀ table places bits word at₀ k₀ counts contents at k = rows - k
 
 table-requires : tie.Need-table-requires Inv-loop μ-loop
-table-requires c κs = search needs
+table-requires c κs = tt
 
 places-requires : tie.Need-places-requires Inv-loop μ-loop
-places-requires c κs = search needs
+places-requires c κs = tt
 
 bits-requires : tie.Need-bits-requires Inv-loop μ-loop
-bits-requires c κs = search needs
+bits-requires c κs = tt
 
 word-of-requires : tie.Need-word-of-requires Inv-loop μ-loop
-word-of-requires c κs = search needs
+word-of-requires c κs = tt
 
 loop-holds : tie.Need-loop-holds Inv-loop μ-loop
 loop-holds c =
@@ -39,22 +39,26 @@ loop-holds c =
     ) (read-none _ _)
 
 array-read-is-set : tie.Need-array-read-is-set Inv-loop μ-loop
-array-read-is-set c = search needs
+array-read-is-set c = c .loop-test .taken
 
 is-set-requires : tie.Need-is-set-requires Inv-loop μ-loop
-is-set-requires c κs = search needs
+is-set-requires c κs = tt
 
 mul-f : tie.Need-mul-f Inv-loop μ-loop
 mul-f c = search needs
 
 array-copy-out-f : tie.Need-array-copy-out-f Inv-loop μ-loop
-array-copy-out-f c = search needs
+array-copy-out-f c =
+    let at-loop-test = c .before .before .loop-test in
+    at-loop-test .taken
 
 mul-to : tie.Need-mul-to Inv-loop μ-loop
 mul-to c = search needs
 
 array-read-to : tie.Need-array-read-to Inv-loop μ-loop
-array-read-to c = search needs
+array-read-to c =
+    let at-loop-test = c .before .before .before .loop-test in
+    at-loop-test .taken
 
 cast-to : tie.Need-cast-to Inv-loop μ-loop
 cast-to c = search needs
