@@ -179,7 +179,7 @@ module _ (c : Card) where
       ∙ rw e (value-digitsOf (c .length) (c .number) l)
 
   -- its first bytes are its digits, packed, and the others are zeros
-  card-front : c .length ≤ 20 → take (bytesFor (c .length)) (zeroFilled c) ≡ pack (digitsOf (c .length) (c .number))
+  pub card-front : c .length ≤ 20 → take (bytesFor (c .length)) (zeroFilled c) ≡ pack (digitsOf (c .length) (c .number))
   card-front h =
       let n : length (take (bytesFor (c .length)) (zeroFilled c)) ≡ bytesFor (c .length) = length-take-le _ (zeroFilled c) (omega (arith, length-card)) in
       let m : length (digitsOf (c .length) (c .number)) ≡ c .length = length-digitsOf (c .length) (c .number) in

@@ -83,21 +83,34 @@ entry-in-form b q r f h e =
     (w .card-least) (w .card-most) (date-packed b r) n (reference-length b r n) (reference-printable b r n)
     (authorisation-printable b r)
 
+-- the entries with that of an approval
+pub approved-entries : (b : List ℕ) (q : Request) (s : State) (lent : Lent) → readMessage b .outcome ≡ Read
+    → Fit (inPhase (Waiting (awaited.Request q)) s) lent → approvalHolds (q .amount) (messageIn b) ≡ true → approves (messageIn b) ≡ true
+    → entriesOf (s .entries + 1) (approved q (approvedEntry q (messageIn b)) s (lent .journal) .journal)
+    ≡ entriesOf (s .entries) (originalVoided q (entriesOf (s .entries) (lent .journal)) (lent .journal)) ++ (approvedEntry q (messageIn b) ∷ [])
+unfolding approved
+approved-entries b q s lent r h n e =
+    let c = s .entries in
+    let w = approvedEntry q (messageIn b) in
+    let j = lent .journal in
+    let k = originalVoided q (entriesOf c j) j in
+    let v = original-voided c q (entriesOf c j) j in
+    let p = place-left (s .settings .limit) c (entriesOf c j) q (h .order .phase-kept) in
+    let room : entrySize * c + entrySize ≤ length k = rw (v .room) (omega (arith, h .journal-room, p)) in
+    rw (add-one c) (put-appends c w k (shaped q (messageIn b)) (entry-in-form b q r (h .order .state .phase-form) n e) room)
+
 pub approved-totals : (b : List ℕ) (q : Request) (s : State) (lent : Lent) → readMessage b .outcome ≡ Read
     → Fit (inPhase (Waiting (awaited.Request q)) s) lent → approvalHolds (q .amount) (messageIn b) ≡ true → approves (messageIn b) ≡ true
     → totalsOf (entriesOf (s .entries + 1) (approved q (approvedEntry q (messageIn b)) s (lent .journal) .journal))
     ≡ withEntry (totalsOf (entriesOf (s .entries) (lent .journal))) (approvedEntry q (messageIn b))
-unfolding approved
 approved-totals b q s lent r h n e =
     let c = s .entries in
-    let w = approvedEntry q (messageIn b) in
-    let k = originalVoided q (entriesOf c (lent .journal)) (lent .journal) in
-    let v = original-voided c q (entriesOf c (lent .journal)) (lent .journal) in
-    let p = place-left (s .settings .limit) c (entriesOf c (lent .journal)) q (h .order .phase-kept) in
-    let room : entrySize * c + entrySize ≤ length k = rw (v .room) (omega (arith, h .journal-room, p)) in
-    let y : entriesOf (c + 1) (putEntry c w k) ≡ entriesOf c k ++ (w ∷ []) =
-    rw (add-one c) (put-appends c w k (shaped q (messageIn b)) (entry-in-form b q r (h .order .state .phase-form) n e) room) in
-    rw (y, totals-last (entriesOf c k) w, v .totals)
+    let j = lent .journal in
+    rw (
+      approved-entries b q s lent r h n e,
+      totals-last (entriesOf c (originalVoided q (entriesOf c j) j)) (approvedEntry q (messageIn b)),
+      original-voided c q (entriesOf c j) j .totals,
+    )
 
 -- it has the request's kind and amount
 pub approved-kind : (q : Request) (a : Message) → approvedEntry q a .kind ≡ q .kind

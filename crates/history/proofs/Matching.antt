@@ -38,24 +38,24 @@ value-within (Is x) = refl
 value-within Not = refl
 
 -- what an answer must repeat stands in the message that left
-matches-alike : {x : Settings} {batch : Batch} {trace : Trace} {i kind code : ℕ} {m : Message} → Says x batch trace i kind code m
+pub matches-alike : {x : Settings} {batch : Batch} {trace : Trace} {i kind code : ℕ} {m : Message} → Says x batch trace i kind code m
     → (a : Message) → matchesSent x batch i trace a ≡ matchesMessage m a
 unfolding matchesSent matchesMessage sameField matches
 matches-alike {x} {batch} s a =
     rw (s .batch-number, s .trace-bytes, s .terminal-bytes, s .merchant-bytes, s .indicator, same-value (batch .0) (partOf a part.Batch))
 
 -- what else it must hold
-request-holds : {x : Settings} {batch : Batch} {q : Request} {m : Message} → Asks x batch q m
+pub request-holds : {x : Settings} {batch : Batch} {q : Request} {m : Message} → Asks x batch q m
     → (a : Message) → holdsNamed (awaited.Request q) a ≡ holdsItsFields m a
 unfolding holdsItsFields approvalHolds sameField codeIs matches
 request-holds s a = rw (s .typed .is-settlement, s .typed .is-request, s .amount-bytes)
 
-other-holds : {reversal end : Bool} {m : Message} → Typed false reversal false end m → (a : Message)
+pub other-holds : {reversal end : Bool} {m : Message} → Typed false reversal false end m → (a : Message)
     → terminal.holdsNamed (awaited.Item 0) a ≡ holdsItsFields m a
 unfolding holdsItsFields
 other-holds t a = rw (t .is-settlement, t .is-request, and-true)
 
-settlement-holds : {m : Message} (x : Trace) → Typed false false true false m → (a : Message)
+pub settlement-holds : {m : Message} (x : Trace) → Typed false false true false m → (a : Message)
     → holdsNamed (awaited.Settlement x) a ≡ holdsItsFields m a
 unfolding holdsItsFields digitIn
 settlement-holds x t a = rw (t .is-settlement) (value-within (partOf a part.Reconciliation))

@@ -50,7 +50,7 @@ use Rattle.history.proofs.Tied.{Tied}
 use Rattle.history.proofs.After.{LawfulMessage, After, refused-after, judged-after, no, sent-other, idle}
 use Rattle.history.proofs.Starts.{fit-first}
 
-settings-held : (l : ℕ) (s : State) (lent : Lent) (a : Account) → Tied l s (lent .journal) a → Fit s lent → SettingsHeld (s .settings)
+pub settings-held : (l : ℕ) (s : State) (lent : Lent) (a : Account) → Tied l s (lent .journal) a → Fit s lent → SettingsHeld (s .settings)
 settings-held l s lent a h f =
     record {
       terminal-length = h .kept .shaped .terminal-length;
@@ -60,7 +60,7 @@ settings-held l s lent a h f =
     }
 
 -- field 48 has room for the totals of a journal in order
-sayable : (s : State) (lent : Lent) → Fit s lent → Sayable (totalsOf (entriesOf (s .entries) (lent .journal)))
+pub sayable : (s : State) (lent : Lent) → Fit s lent → Sayable (totalsOf (entriesOf (s .entries) (lent .journal)))
 unfolding sumsOf
 sayable s lent f =
     let es = entriesOf (s .entries) (lent .journal) in
@@ -145,7 +145,7 @@ resent-totals n i e j = go (eqb (e .mark) 0)
         (totals-changed (withResends (e .resends + 1)) (resends-totals (e .resends + 1)) i (entriesOf n j))
 
 -- an entry of a journal in order may leave
-entry-held : (n i : ℕ) (j : List ℕ) → InForm (entryAt (entriesOf n j) i) → EntryHeld (entryAt (entriesOf n j) i)
+pub entry-held : (n i : ℕ) (j : List ℕ) → InForm (entryAt (entriesOf n j) i) → EntryHeld (entryAt (entriesOf n j) i)
 entry-held n i j f =
     let w = entry-shaped n i j in
     record {

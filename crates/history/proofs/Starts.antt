@@ -94,7 +94,7 @@ module _ (l : ℕ) (e : Event) (s : State) (j : List ℕ) (a : Account) (q : Ask
 
 module _ (l : ℕ) (d : Desk) (s : State) (lent : Lent) (a : Account) (h : Tied l s (lent .journal) a) (authorisation : length (d .authorisation) ≡ 6)
     (reference : length (d .reference) ≡ 12) where
-  request-form : (let es = entriesOf (s .entries) (lent .journal) in let e = entryOf (originalOf d es) es in
+  pub request-form : (let es = entriesOf (s .entries) (lent .journal) in let e = entryOf (originalOf d es) es in
       firstBroken (startRules d s es e lent) ≡ 0 → Fit s lent → requestInForm (requestOf d e (taken es (s .next .0))) ≡ true)
   unfolding start judged
   request-form z f = (rw z at (start-fits d s lent f)) .order .state .phase-form
@@ -125,7 +125,7 @@ module _ (l : ℕ) (d : Desk) (s : State) (lent : Lent) (a : Account) (h : Tied 
 -- a pending reversal leaves
 module _ (l : ℕ) (s : State) (lent : Lent) (a : Account) (v : Reversal) (h : Tied l (inPhase (Pending v) s) (lent .journal) a)
     (f : Fit (inPhase (Pending v) s) lent) where
-  card-held : CardHeld (s .settings) (v .request)
+  pub card-held : CardHeld (s .settings) (v .request)
   card-held =
       let w = reversal-holds v (f .order .state .phase-form) in
       let x = f .order .state .settings in
