@@ -1,0 +1,284 @@
+-- The journal is that of the approvals, after each call.
+use mathlib.Core.Path.{_≡_, refl, sym, ap, _∙_}
+use mathlib.Core.List.{List, [], _∷_, _++_}
+use mathlib.Core.Bool.{Bool, true, false, cond, not, _&&_, and-eq-true-iff, true≢false}
+use Prim.Native.Nat.{ℕ, _+_}
+use native.Mathlib.Nat.{zero-add}
+use lib.Dec.{eqb, leb}
+use borrow.Author.Tests.{eqb-true, not-false}
+use Rattle.digits.specs.Digits.{pack}
+use Rattle.digits.specs.Numbers.{digitsOf}
+use Rattle.field.specs.Bitmap.{names}
+use Rattle.message.specs.declared.Message.{Message}
+use Rattle.reading.specs.Reading.{readMessage}
+use Rattle.reading.specs.declared.ReadOutcome.{ReadOutcome}
+use Rattle.reading.specs.declared.ReadOutcome.the-variants.{Read, Refused}
+use Rattle.parts.specs.Parts.{matches}
+use Rattle.kinds.specs.Kinds.{isNeverReversed, takesOriginal, originalKind}
+use Rattle.entry.specs.declared.Entry.{Entry}
+use Rattle.journal.specs.Journal.{entriesOf, setByte, originalFor, nextDue, withMark, withResends}
+use Rattle.journal.specs.declared.Found.{Found}
+use Rattle.journal.specs.declared.Found.the-variants.{At as Place, Nowhere}
+use Rattle.journal.proofs.Entries.{set-mark, set-resends, set-voided}
+use Rattle.state.specs.declared.Awaited.{Awaited}
+use Rattle.state.specs.declared.Awaited.the-variants as awaited
+use Rattle.state.specs.declared.Count.the-variants as count
+use Rattle.state.specs.declared.Phase.{Phase}
+use Rattle.state.specs.declared.Phase.the-variants.{Resting, Waiting, Pending, Settling, Uploading}
+use Rattle.state.specs.declared.Reason.the-variants.{Silence, BadMac}
+use Rattle.state.specs.declared.Request.{Request}
+use Rattle.state.specs.declared.Reversal.{Reversal}
+use Rattle.state.specs.declared.State.{State}
+use Rattle.state.specs.State.{inPhase, counted, closed, waits}
+use Rattle.state.specs.Calls.{Lent, Result, judged, refused}
+use Rattle.checks.specs.Checks.{firstBroken}
+use Rattle.checks.proofs.Choices.{passed}
+use Rattle.rules.specs.Rules.{rules12, due, requestKept, unvoidedAt, originalUnvoided}
+use Rattle.rules.proofs.InOrder.{Fit, fit}
+use Rattle.state_rules.proofs.Holds.{request-holds}
+use Rattle.answer_match.specs.Match as match
+use Rattle.answer_match.specs.Match.{isAnswer, matchesSent, indicatorSent, holdsNamed, approves, goodMac, approvalHolds, endsReversal}
+use Rattle.approval.specs.Approval.{approvedEntry}
+use Rattle.state_effects.specs.StateEffects.{pendingOrUnanswered, failed, onReversal, onSettlement, onEnd}
+use Rattle.journal_effects.specs.JournalEffects.{Changed, changed, marked, silent, silentIn, voidedAt, originalVoided, approved, onRequest, onItem, answered, resent}
+use Rattle.call_sign_on.specs.SignOn.{signedOn}
+use Rattle.call_start.specs.Start.{start}
+use Rattle.call_answer.specs.Answer.{traceSent, quietly, noAnswer, withoutPower, powerReturned, answersIn, answeredIn, answerRules, readIn, answer}
+use Rattle.call_reversal.specs.SendReversal.{sendFrom, sendReversal}
+use Rattle.call_settle.specs.Settle.{settle}
+use Rattle.call_upload.specs.SendNextUpload.{sendsNext, uploadFrom, sendNextUpload}
+use Rattle.terminal.specs.Events.{Event, signed-on, starts, answers, no-answer, power-returned, send-reversal, settles, send-next-upload, call}
+use Rattle.history.specs.Words.{messageIn, isRequest, closesBatch}
+use Rattle.history.proofs.Sent.{Typed, reversal-typed, settlement-typed, item-typed, end-typed}
+use Rattle.history.proofs.Matching.{approves-alike, mac-alike, settlement-closes, end-closes, other-closes}
+use Rattle.history.proofs.Approved.{approved-entries}
+use Rattle.history_theorems.specs.Standing.{Standing}
+use Rattle.history_theorems.specs.Approvals.{Approval, whenHeard, whenGiven, AreEntries}
+use Rattle.history_theorems.proofs.Stands.{Names, Stands}
+use Rattle.history_theorems.proofs.Said.{givenIn}
+use Rattle.history_theorems.proofs.Ledger.{mark-leaves, resends-leave, changed-entries, WithOne, one-more, none-voided, one-voided}
+use Rattle.history_theorems.proofs.Entered.{entered, voids-none, voids-alike}
+
+abbrev pub Booked : State → List ℕ → List Approval → Type 0
+Booked s j xs = AreEntries (entriesOf (s .entries) j) xs
+
+abbrev Left : Changed → List Approval → Type 0
+Left c xs = Booked (c .state) (c .journal) xs
+
+abbrev pub BookedAfter : Event → Standing → List Approval → Result → Type 0
+BookedAfter e y xs r = Booked (r .state) (r .lent .journal) (whenGiven (givenIn r) e y xs)
+
+-- a mark or a resend of an entry says nothing of its approval
+marked-booked : (n i x : ℕ) (j : List ℕ) (xs : List Approval) → AreEntries (entriesOf n j) xs → AreEntries (entriesOf n (marked i x j)) xs
+marked-booked n i x j xs h = rw (set-mark n i x j) (changed-entries (withMark x) (mark-leaves x) i (entriesOf n j) xs h)
+
+resent-booked : (n i : ℕ) (e : Entry) (j : List ℕ) (xs : List Approval) → AreEntries (entriesOf n j) xs
+    → AreEntries (entriesOf n (resent i e j)) xs
+unfolding resent
+resent-booked n i e j xs h = go (eqb (e .mark) 0)
+  where
+    go : (b : Bool) → AreEntries (entriesOf n (cond b j (setByte i 3 (e .resends + 1) j))) xs
+    go true = h
+    go false =
+        rw (set-resends n i (e .resends + 1) j)
+        (changed-entries (withResends (e .resends + 1)) (resends-leave (e .resends + 1)) i (entriesOf n j) xs h)
+
+-- silence
+silent-booked : (w : Awaited) (s : State) (j : List ℕ) (xs : List Approval) → Booked s j xs → Left (silent w s j) xs
+unfolding silent pendingOrUnanswered failed
+silent-booked (awaited.Request q) s j xs h = go (isNeverReversed (q .kind))
+  where
+    go : (b : Bool) → Left (changed (cond b (inPhase Resting (counted count.Unanswered s))
+        (inPhase (Pending (record { request = q; reason = Silence; sendings = 0 })) s)) j) xs
+    go true = h
+    go false = h
+silent-booked (awaited.Reversal v) s j xs h = go (leb (s .settings .sendings) (v .sendings))
+  where
+    go : (b : Bool) → Left (changed (cond b (inPhase Resting (counted count.GivenUp s)) (inPhase (Pending v) s)) j) xs
+    go true = h
+    go false = h
+silent-booked (awaited.Settlement t) s j xs h = h
+silent-booked (awaited.Item i) s j xs h = marked-booked (s .entries) i _ j xs h
+silent-booked (awaited.End t) s j xs h = h
+
+silent-in : (p : Phase) (s : State) (j : List ℕ) (xs : List Approval) → Booked s j xs → Left (silentIn p (inPhase p s) j) xs
+silent-in Resting s j xs h = h
+silent-in (Waiting w) s j xs h = silent-booked w (inPhase (Waiting w) s) j xs h
+silent-in (Pending v) s j xs h = h
+silent-in Settling s j xs h = h
+silent-in Uploading s j xs h = h
+
+-- an approval: its original is voided, and its entry is the last
+module _ (b : List ℕ) (read : readMessage b .outcome ≡ Read) (s : State) (lent : Lent) (q : Request) (r : Message) (xs : List Approval)
+    (fits : Fit (inPhase (Waiting (awaited.Request q)) s) lent) (said : Names q r) (holds : approvalHolds (q .amount) (messageIn b) ≡ true)
+    (good : approves (messageIn b) ≡ true) (h : Booked s (lent .journal) xs) where
+  abbrev approval : Approval
+  approval = record { request = r; answer = messageIn b }
+
+  abbrev es : List Entry
+  es = entriesOf (s .entries) (lent .journal)
+
+  voided-entries : (t : Bool) → takesOriginal (q .kind) ≡ t → (f : Found) → originalFor (q .kind) (q .original .0) es ≡ f
+      → cond t (unvoidedAt f es) true ≡ true
+      → WithOne approval (entriesOf (s .entries) (cond t (voidedAt f (lent .journal)) (lent .journal))) xs
+  voided-entries true t (Place i) f k =
+      rw (set-voided (s .entries) i 1 (lent .journal))
+      (one-voided approval (originalKind (q .kind)) (q .original .0) (voids-alike q r said t) 0 i es xs (f ∙ ap Place (sym (zero-add i))) (fits .order .journal .apart) h)
+  voided-entries true t Nowhere f k = absurd (true≢false (sym k))
+  voided-entries false t f e k = none-voided approval es xs (voids-none q r said t) h
+
+  -- an approval that is an answer has fields 13 and 37
+  answer-names : (names (messageIn b .bitmap) 13 ≡ true) × (names (messageIn b .bitmap) 37 ≡ true)
+  unfolding approvalHolds
+  answer-names =
+      let a = messageIn b in
+      let date = matches a 4 (pack (digitsOf 12 (q .amount))) && names (a .bitmap) 13 in
+      let t : (date && names (a .bitmap) 37) ≡ true = rw good at holds in
+      let k = and-eq-true-iff date (names (a .bitmap) 37) .0 t in
+      (and-eq-true-iff (matches a 4 (pack (digitsOf 12 (q .amount)))) (names (a .bitmap) 13) .0 (k .0) .1, k .1)
+
+  -- the journal had an original left that was not voided
+  original-left : cond (takesOriginal (q .kind)) (unvoidedAt (originalFor (q .kind) (q .original .0) es) es) true ≡ true
+  unfolding requestKept originalUnvoided
+  original-left = let t = simp and-eq-true-iff at (fits .order .phase-kept) in t .0 .1
+
+  approved-booked : Left (approved q (approvedEntry q (messageIn b)) s (lent .journal)) (xs ++ (approval ∷ []))
+  unfolding approved originalVoided
+  approved-booked =
+      rw (approved-entries b q s lent read fits holds good)
+      (one-more approval (approvedEntry q (messageIn b)) (entriesOf (s .entries) (originalVoided q es (lent .journal))) xs
+      (voided-entries (takesOriginal (q .kind)) refl (originalFor (q .kind) (q .original .0) es) refl original-left)
+      (entered q r said b read (answer-names .0) (answer-names .1) (request-holds q (fits .order .state .phase-form) .card-most)))
+
+-- an accepted answer
+module _ (b : List ℕ) (good : Bool) (read : readMessage b .outcome ≡ Read) (s : State) (lent : Lent) (y : Standing) (xs : List Approval)
+    (h : Booked s (lent .journal) xs) where
+  abbrev a : Message
+  a = messageIn b
+
+  abbrev Heard : Changed → Type 0
+  Heard c = Left c (whenHeard good a y xs)
+
+  -- to what is no card request and closes nothing
+  same-approvals : closesBatch (y .message) a ≡ false → isRequest (y .message) ≡ false → whenHeard good a y xs ≡ xs
+  unfolding whenHeard
+  same-approvals c t = rw (c, t)
+
+  request-booked : (q : Request) → Fit (inPhase (Waiting (awaited.Request q)) s) lent → Typed true false false false (y .message)
+      → Names q (y .message) → approvalHolds (q .amount) a ≡ true → Heard (onRequest good a q s (lent .journal))
+  unfolding onRequest whenHeard pendingOrUnanswered
+  request-booked q f t n k =
+      rw (other-closes t a, t .is-request, approves-alike a, mac-alike good a)
+      (go (approves a) (goodMac good a) (isNeverReversed (q .kind)) refl)
+    where
+      go : (x z w : Bool) → approves a ≡ x → Left
+          (cond x
+          (cond z (approved q (approvedEntry q a) s (lent .journal))
+          (changed (cond w (inPhase Resting (counted count.Unanswered s)) (inPhase (Pending (record { request = q; reason = BadMac; sendings = 0 })) s)) (lent .journal)))
+          (changed (inPhase Resting (counted count.Declined s)) (lent .journal)))
+          (cond (x && z) (xs ++ (record { request = y .message; answer = a } ∷ [])) xs)
+      go true true w e = approved-booked b read s lent q (y .message) xs f n k e h
+      go true false true e = h
+      go true false false e = h
+      go false z w e = h
+
+  reversal-booked : (v : Reversal) → Typed false true false false (y .message) → Heard (changed (onReversal good a v s) (lent .journal))
+  unfolding onReversal failed
+  reversal-booked v t =
+      rw (same-approvals (other-closes t a) (t .is-request)) (go (endsReversal good a) (leb (s .settings .sendings) (v .sendings)))
+    where
+      go : (x z : Bool)
+          → Booked (cond x (inPhase Resting (counted count.Reversed s)) (cond z (inPhase Resting (counted count.GivenUp s)) (inPhase (Pending v) s))) (lent .journal) xs
+      go true z = h
+      go false true = h
+      go false false = h
+
+  -- a closing empties the journal
+  closed-booked : (x : Bool) → closesBatch (y .message) a ≡ x → isRequest (y .message) ≡ false
+      → Heard (changed (cond x (closed s) (inPhase Uploading s)) (lent .journal))
+  unfolding whenHeard
+  closed-booked true e t = rw e tt
+  closed-booked false e t = rw (e, t) h
+
+  heard-booked : (w : Awaited) → Fit (inPhase (Waiting w) s) lent → Stands (inPhase (Waiting w) s) (lent .journal) y
+      → isAnswer (s .settings) (s .batch) (traceSent (entriesOf (s .entries) (lent .journal)) w) w a ≡ true → Heard (answered good a w s (lent .journal))
+  unfolding answered isAnswer onSettlement onEnd onItem
+  heard-booked (awaited.Request q) f d e =
+      let t = and-eq-true-iff (matchesSent (s .settings) (s .batch) (indicatorSent (awaited.Request q)) (q .trace) a)
+      (holdsNamed (awaited.Request q) a) .0 e in
+      let n = and-eq-true-iff (names (a .bitmap) 39) (approvalHolds (q .amount) a) .0 (t .1) in
+      request-booked q f (d .phase-is .1 .typed) (d .details .1) (n .1)
+  heard-booked (awaited.Reversal v) f d e = reversal-booked v (reversal-typed (y .message) (d .phase-is .1 .indicator))
+  heard-booked (awaited.Settlement t) f d e =
+      let k = settlement-typed (y .message) (d .phase-is .1 .indicator) in
+      closed-booked (match.closesBatch a) (settlement-closes k a) (k .is-request)
+  heard-booked (awaited.Item i) f d e =
+      let k = item-typed (y .message) (d .phase-is .1 .indicator) (d .phase-is .1 .code-number) in
+      rw (same-approvals (other-closes k a) (k .is-request)) (marked-booked (s .entries) i (cond (approves a) 2 3) (lent .journal) xs h)
+  heard-booked (awaited.End t) f d e =
+      let k = end-typed (y .message) (d .phase-is .1 .indicator) (d .phase-is .1 .code-number) in
+      closed-booked (approves a) (end-closes k a) (k .is-request)
+
+-- each call
+module _ (s : State) (lent : Lent) (y : Standing) (xs : List Approval) (d : Stands s (lent .journal) y) (h : Booked s (lent .journal) xs) where
+  judged-booked : (e : Event) (n : ℕ) (done : Result) → (n ≡ 0 → BookedAfter e y xs done) → BookedAfter e y xs (judged n s lent done)
+  unfolding judged
+  judged-booked e n done f = go (eqb n 0) refl
+    where
+      go : (b : Bool) → eqb n 0 ≡ b → BookedAfter e y xs (cond b done (refused n s lent))
+      go true q = f (eqb-true n 0 q)
+      go false q = h
+
+  next-booked : (f : Found) (t : State) → t .entries ≡ s .entries → BookedAfter send-next-upload y xs (sendsNext f t lent)
+  next-booked (Place i) t e = rw e (resent-booked (s .entries) i _ (lent .journal) xs h)
+  next-booked Nowhere t e = rw e h
+
+  send-booked : (p : Phase) → BookedAfter send-reversal y xs (sendFrom p s lent)
+  send-booked Resting = h
+  send-booked (Waiting w) = h
+  send-booked (Pending v) = h
+  send-booked Settling = h
+  send-booked Uploading = h
+
+  upload-booked : (p : Phase) → BookedAfter send-next-upload y xs (uploadFrom p s lent)
+  upload-booked Resting = h
+  upload-booked (Waiting w) = h
+  upload-booked (Pending v) = h
+  upload-booked Settling = h
+  upload-booked Uploading = next-booked (nextDue (due Uploading) (entriesOf (s .entries) (lent .journal))) s refl
+
+answered-in : (b : List ℕ) (good : Bool) → readMessage b .outcome ≡ Read → (p : Phase) (s : State) (lent : Lent) (y : Standing) (xs : List Approval)
+    → Fit (inPhase p s) lent → Stands (inPhase p s) (lent .journal) y → Booked s (lent .journal) xs → not (waits p) ≡ false
+    → answersIn p (entriesOf (s .entries) (lent .journal)) (inPhase p s) (messageIn b) ≡ true
+    → Left (answeredIn p good (messageIn b) (inPhase p s) (lent .journal)) (whenHeard good (messageIn b) y xs)
+answered-in b good r Resting s lent y xs f d h w e = absurd (true≢false w)
+answered-in b good r (Waiting x) s lent y xs f d h w e = heard-booked b good r (inPhase (Waiting x) s) lent y xs h x f d e
+answered-in b good r (Pending v) s lent y xs f d h w e = absurd (true≢false w)
+answered-in b good r Settling s lent y xs f d h w e = absurd (true≢false w)
+answered-in b good r Uploading s lent y xs f d h w e = absurd (true≢false w)
+
+read-booked : (o : ReadOutcome) (b : List ℕ) (good : Bool) → readMessage b .outcome ≡ o → (s : State) (lent : Lent) (y : Standing) (xs : List Approval)
+    → Fit s lent → Stands s (lent .journal) y → Booked s (lent .journal) xs → BookedAfter (answers b good) y xs (readIn o good (messageIn b) s lent)
+read-booked Read b good r s lent y xs f d h =
+    let rs = answerRules (messageIn b) s (lent .journal) in
+    judged-booked s lent y xs d h (answers b good) (firstBroken rs) (quietly (answeredIn (s .phase) good (messageIn b) s (lent .journal)) lent)
+    (λ z. answered-in b good r (s .phase) s lent y xs f d h (passed 14 rs refl z) (not-false _ (passed 22 rs refl z)))
+read-booked (Refused n) b good r s lent y xs f d h = h
+
+pub call-booked : (e : Event) (s : State) (lent : Lent) (y : Standing) (xs : List Approval) → Stands s (lent .journal) y → Booked s (lent .journal) xs
+    → BookedAfter e y xs (call e s lent)
+unfolding signedOn start answer noAnswer powerReturned sendReversal settle sendNextUpload
+call-booked (signed-on batch) s lent y xs d h = judged-booked s lent y xs d h (signed-on batch) _ _ (λ z. h)
+call-booked (starts k) s lent y xs d h = judged-booked s lent y xs d h (starts k) _ _ (λ z. h)
+call-booked (answers b good) s lent y xs d h =
+    judged-booked s lent y xs d h (answers b good) (firstBroken (rules12 s lent)) (readIn (readMessage b .outcome) good (messageIn b) s lent)
+    (λ z. read-booked (readMessage b .outcome) b good refl s lent y xs (fit s lent z) d h)
+call-booked no-answer s lent y xs d h =
+    judged-booked s lent y xs d h no-answer _ (quietly (silentIn (s .phase) s (lent .journal)) lent) (λ z. silent-in (s .phase) s (lent .journal) xs h)
+call-booked power-returned s lent y xs d h =
+    judged-booked s lent y xs d h power-returned _ (withoutPower (silentIn (s .phase) s (lent .journal)) lent) (λ z. silent-in (s .phase) s (lent .journal) xs h)
+call-booked send-reversal s lent y xs d h =
+    judged-booked s lent y xs d h send-reversal _ (sendFrom (s .phase) s lent) (λ z. send-booked s lent y xs d h (s .phase))
+call-booked settles s lent y xs d h = judged-booked s lent y xs d h settles _ _ (λ z. h)
+call-booked send-next-upload s lent y xs d h =
+    judged-booked s lent y xs d h send-next-upload _ (uploadFrom (s .phase) s lent) (λ z. upload-booked s lent y xs d h (s .phase))

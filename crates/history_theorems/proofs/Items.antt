@@ -1,0 +1,354 @@
+-- What an upload sends, and the marks of the journal after each call.
+use mathlib.Core.Path.{_≡_, refl, sym, ap, subst, _∙_}
+use mathlib.Core.List.{List, [], _∷_, _++_}
+use mathlib.Core.Bool.{Bool, true, false, cond, not, _&&_, and-eq-true-iff, true≢false}
+use Prim.Native.Nat.{ℕ, _+_, _≤_, _<_}
+use native.Mathlib.Omega.{arith}
+use lib.Dec.{eqb, leb}
+use lib.ListN.{length}
+use borrow.Author.Tests.{eqb-true, eqb-false, eq-eqb, leb-true, not-false}
+use Rattle.numbers.specs.Limits.{lastNumber}
+use Rattle.numbers.specs.declared.Batch.{Batch}
+use Rattle.digits.specs.Numbers.{digitsOf}
+use Rattle.digits.proofs.Numbers.{digitsOf-digits, length-digitsOf}
+use Rattle.digits.specs.declared.Number.the-variants.{Is}
+use Rattle.message.specs.Message.{Field, largest}
+use Rattle.message.specs.declared.Message.{Message}
+use Rattle.reading.specs.Reading.{readMessage}
+use Rattle.reading.specs.declared.ReadOutcome.{ReadOutcome}
+use Rattle.reading.specs.declared.ReadOutcome.the-variants.{Read, Refused}
+use Rattle.writing.specs.Writing.{messageBytes}
+use Rattle.parts.specs.Parts.{numberIn, partOf}
+use Rattle.parts.specs.declared.Part.the-variants as part
+use Rattle.entry.specs.Form.{inForm, keepsResends, keepsSilent}
+use Rattle.entry.specs.declared.Entry.{Entry}
+use Rattle.entry.proofs.Form.{InForm, in-form}
+use Rattle.journal.specs.Journal.{entriesOf, entryAt, setByte, isAt, nextDue, withResends}
+use Rattle.journal.specs.declared.Found.{Found}
+use Rattle.journal.specs.declared.Found.the-variants.{At as Found-at, Nowhere}
+use Rattle.journal.proofs.Entries.{set-resends}
+use Rattle.journal.proofs.Searches.{every-at, next-at}
+use Rattle.state.specs.declared.Phase.{Phase}
+use Rattle.state.specs.declared.Phase.the-variants.{Resting, Waiting, Pending, Settling, Uploading}
+use Rattle.state.specs.declared.Settings.{Settings}
+use Rattle.state.specs.declared.State.{State}
+use Rattle.state.specs.State.{inPhase, waits}
+use Rattle.state.specs.Calls.{Lent, Result, judged, refused, quiet}
+use Rattle.checks.specs.Checks.{firstBroken}
+use Rattle.checks.proofs.Choices.{passed}
+use Rattle.rules.specs.Rules.{rules12, due}
+use Rattle.rules.proofs.InOrder.{Fit, fit}
+use Rattle.batch_messages.specs.BatchMessages.{itemFields, itemMessage}
+use Rattle.batch_messages.proofs.Held.{EntryHeld, item-held, upload-listed}
+use Rattle.outgoing.specs.Held.{SettingsHeld}
+use Rattle.journal_effects.specs.JournalEffects.{silentIn, resent}
+use Rattle.call_sign_on.specs.SignOn.{signedOn}
+use Rattle.call_start.specs.Start.{start}
+use Rattle.call_answer.specs.Answer.{quietly, noAnswerRules, noAnswer, withoutPower, powerReturned, answersIn, answeredIn, answerRules, readIn, answer}
+use Rattle.call_reversal.specs.SendReversal.{sendFrom, sendReversal}
+use Rattle.call_settle.specs.Settle.{settle}
+use Rattle.call_upload.specs.SendNextUpload.{sendsNext, sendNextUploadRules, uploadFrom, sendNextUpload}
+use Rattle.terminal.specs.Events.{Event, signed-on, starts, answers, no-answer, power-returned, send-reversal, settles, send-next-upload, call}
+use Rattle.history.specs.Words.{messageIn, kindIn, amountIn, isRequest, isApproval, macGood, isEnd, closesBatch}
+use Rattle.history.specs.History as history
+use Rattle.history.specs.History.{Given, Account}
+use Rattle.history.proofs.Said.{handedOut, sent-reads, number-read}
+use Rattle.history.proofs.Sent.{item-typed, end-typed, item-says}
+use Rattle.history.proofs.Settles.{settings-held, entry-held}
+use Rattle.history.proofs.Starts.{fit-first}
+use Rattle.history.proofs.Tied.{Tied}
+use Rattle.history_theorems.specs.Standing.{Standing}
+use Rattle.history_theorems.specs.Approvals.{Approval, IsEntry}
+use Rattle.history_theorems.specs.Uploads.{Progress, unsent, silent, ended, Place, none, at, nextItem, leaves, changeAt, Upload, withItem, whenSent, isItem, changed, falls-silent, isAnswered, whenSilent, whenHeard, whenQuiet, whenGiven, IsItemOf, SendsNext, EachFew}
+use Rattle.history_theorems.proofs.Stands.{Stands}
+use Rattle.history_theorems.proofs.Said.{givenIn}
+use Rattle.history_theorems.proofs.Sends.{trace-read, end-goes}
+use Rattle.history_theorems.proofs.Booked.{Booked}
+use Rattle.history_theorems.proofs.Progress.{IsMarked, Marks, marks-changed, marks-progress, placeOf, next-alike, at-place, MayLeaveAt, may-leave-at, few-leaves, few-changed, few-more, silent-few}
+use Rattle.history_theorems.proofs.Uploaded.{Uploads, item-said, silent-in, heard-uploads}
+
+-- as an item leaves, its resends grow
+left-unsent : (e : Entry) (p : Progress) → e .mark ≡ 0 → IsMarked e p → IsMarked e (leaves p)
+left-unsent e unsent z h = h
+left-unsent e (silent n) z h = absurd (omega arith)
+left-unsent e ended z h = absurd (omega arith)
+
+left-again : (e : Entry) (p : Progress) → (e .mark ≡ 0 → ⊥) → IsMarked e p → IsMarked (withResends (e .resends + 1) e) (leaves p)
+unfolding withResends
+left-again e unsent z h = absurd (z (h .0))
+left-again e (silent n) z h = (h .0, ap (λ (k : ℕ). k + 1) (h .1))
+left-again e ended z h = h
+
+resent-marks : (n i : ℕ) (j : List ℕ) (ps : List Progress) → Marks (entriesOf n j) ps
+    → Marks (entriesOf n (resent i (entryAt (entriesOf n j) i) j)) (changeAt i leaves ps)
+unfolding resent
+resent-marks n i j ps h = go (eqb (e .mark) 0) refl
+  where
+    e : Entry
+    e = entryAt (entriesOf n j) i
+
+    go : (b : Bool) → eqb (e .mark) 0 ≡ b → Marks (entriesOf n (cond b j (setByte i 3 (e .resends + 1) j))) (changeAt i leaves ps)
+    go true q = marks-progress leaves i (entriesOf n j) ps h (λ p m. left-unsent e p (eqb-true (e .mark) 0 q) m)
+    go false q =
+        rw (set-resends n i (e .resends + 1) j)
+        (marks-changed (withResends (e .resends + 1)) leaves i (entriesOf n j) ps h (λ p m. left-again e p (eqb-false (e .mark) 0 q) m))
+
+-- the item of an entry is that of its approval
+kind-said : (m : Message) (k : ℕ) → partOf m part.Kind ≡ Is k → kindIn m ≡ k
+unfolding kindIn
+kind-said m k e = rw e
+
+amount-said : (m : Message) (n : ℕ) → numberIn m 4 0 12 ≡ Is n → amountIn m ≡ n
+unfolding amountIn
+amount-said m n e = rw e
+
+item-of : (s : Settings) (batch : Batch) (m : List ℕ) (e : Entry) → largest ≤ length m → batch .0 ≤ lastNumber → SettingsHeld s → EntryHeld e → InForm e
+    → (x : Approval) (later : List Approval) → IsEntry e x later → IsItemOf (messageIn (handedOut (messageBytes (itemMessage s batch e)) m)) x
+unfolding itemMessage
+item-of s batch m e room small held entry form x later h =
+    let xs = itemFields s batch e in
+    let r = sent-reads 0x0320 xs m upload-listed (item-held s batch held e entry) room in
+    let said = item-says s batch m room small e held entry (form .kind-listed) in
+    let amount = number-read _ 0x0320 xs r 4 (digitsOf 12 (e .amount)) (omega arith) (omega arith) refl refl (digitsOf-digits 12 (e .amount))
+    0 12 (e .amount) (omega arith) refl (omega arith) (omega (arith, form .amount-most)) in
+    record {
+      type-is = item-said _ (item-typed _ (said .indicator) (said .code-number)) (said .indicator);
+      named = r .named;
+      kind-is = kind-said _ (e .kind) (said .kind-number) ∙ h .kind-is;
+      amount-is = amount-said _ (e .amount) amount ∙ h .amount-is;
+      trace-is = trace-read _ 0x0320 xs (e .trace) r refl refl (form .trace-most) ∙ h .trace-is;
+      digits-are = ap (λ (f : Field). f .count) (r .fields 2 refl) ∙ length-digitsOf (e .digits) _ ∙ h .digits-are;
+      reference-is = ap (λ (f : Field). f .bytes) (r .fields 37 refl) ∙ h .reference-is;
+      authorisation-is = ap (λ (f : Field). f .bytes) (r .fields 38 refl) ∙ h .authorisation-is;
+    }
+
+-- what is said of a call's result
+pub record Uploaded (l : ℕ) (e : Event) (y : Standing) (xs : List Approval) (u : Upload) (r : Result) : Type 0 where
+  pub uploads : Uploads (r .state) (r .lent .journal) (whenGiven l (givenIn r) e y xs u)
+  pub sends-next : (b : List ℕ) → e ≡ send-next-upload → givenIn r ≡ history.sent b → SendsNext (nextItem xs (u .progress)) xs (messageIn b)
+  pub may-leave : (b : List ℕ) → e ≡ send-next-upload → givenIn r ≡ history.sent b → (i : ℕ) → nextItem xs (u .progress) ≡ at i
+      → MayLeaveAt l i (u .progress)
+
+module _ (l : ℕ) (y : Standing) (xs : List Approval) (u : Upload) where
+  -- a call that sends no upload
+  quiet-uploaded : (e : Event) (r : Result) → givenIn r ≡ history.quiet → Uploads (r .state) (r .lent .journal) (whenGiven l (givenIn r) e y xs u)
+      → Uploaded l e y xs u r
+  quiet-uploaded e r q h =
+      record {
+        uploads = h;
+        sends-next = λ b p g. let z : _≡_ {A = ℕ} 0 1 = cc in absurd (omega arith);
+        may-leave = λ b p g. let z : _≡_ {A = ℕ} 0 1 = cc in absurd (omega arith);
+      }
+
+  refused-uploaded : (e : Event) (n : ℕ) (s : State) (lent : Lent) → Uploads s (lent .journal) u → Uploaded l e y xs u (refused n s lent)
+  refused-uploaded e n s lent h =
+      record {
+        uploads = h;
+        sends-next = λ b p g. let z : _≡_ {A = ℕ} 0 1 = cc in absurd (omega arith);
+        may-leave = λ b p g. let z : _≡_ {A = ℕ} 0 1 = cc in absurd (omega arith);
+      }
+
+  judged-uploaded : (e : Event) (n : ℕ) (s : State) (lent : Lent) (done : Result) → Uploads s (lent .journal) u
+      → (n ≡ 0 → Uploaded l e y xs u done) → Uploaded l e y xs u (judged n s lent done)
+  unfolding judged
+  judged-uploaded e n s lent done h f = go (eqb n 0) refl
+    where
+      go : (b : Bool) → eqb n 0 ≡ b → Uploaded l e y xs u (cond b done (refused n s lent))
+      go true q = f (eqb-true n 0 q)
+      go false q = refused-uploaded e n s lent h
+
+  sent-other : (e : Event) (r : Result) → (e ≡ send-next-upload → ⊥) → Uploads (r .state) (r .lent .journal) (whenGiven l (givenIn r) e y xs u)
+      → Uploaded l e y xs u r
+  sent-other e r n h = record { uploads = h; sends-next = λ b p g. absurd (n p); may-leave = λ b p g. absurd (n p) }
+
+  -- the calls that send something else
+  send-uploaded : (p : Phase) (s : State) (lent : Lent) → Uploads s (lent .journal) u → Uploaded l send-reversal y xs u (sendFrom p s lent)
+  send-uploaded Resting s lent h = quiet-uploaded send-reversal (quiet s lent) refl h
+  send-uploaded (Waiting w) s lent h = quiet-uploaded send-reversal (quiet s lent) refl h
+  send-uploaded (Pending v) s lent h = sent-other send-reversal (sendFrom (Pending v) s lent) (λ p. let z : _≡_ {A = ℕ} 0 1 = cc in omega arith) (record { marks = h .marks; item-is = tt })
+  send-uploaded Settling s lent h = quiet-uploaded send-reversal (quiet s lent) refl h
+  send-uploaded Uploading s lent h = quiet-uploaded send-reversal (quiet s lent) refl h
+
+  -- the next item, or the end
+  module _ (t : State) (lent : Lent) (a : Account) (tied : Tied l (inPhase Uploading t) (lent .journal) a) (d : Stands (inPhase Uploading t) (lent .journal) y)
+      (booked : Booked t (lent .journal) xs) (h : Uploads (inPhase Uploading t) (lent .journal) u) (f : Fit (inPhase Uploading t) lent) where
+    abbrev es : List Entry
+    es = entriesOf (t .entries) (lent .journal)
+
+    next-is : (x : Found) → nextDue (due Uploading) es ≡ x → nextItem xs (u .progress) ≡ placeOf x
+    next-is x e = next-alike es xs (u .progress) booked (h .marks) ∙ ap placeOf e
+
+    same-sent : (b c : List ℕ) → history.sent b ≡ history.sent c → b ≡ c
+    same-sent b c e = cc
+
+    -- a silent one that is not awaited has been sent again fewer than L times
+    resent-few : (i : ℕ) → i < length es → entryAt es i .mark ≡ 1 → entryAt es i .resends < l
+    unfolding keepsResends keepsSilent
+    resent-few i k one =
+        let x = entryAt es i in
+        let a = every-at (λ i e. keepsResends (t .settings .sendings) e) 0 es (f .order .journal .resends) i k in
+        let c = every-at (λ n e. keepsSilent (t .settings .sendings) (isAt Nowhere n) e) 0 es (f .order .journal .silent) i k in
+        let most = leb-true (x .resends) (t .settings .sendings) (and-eq-true-iff (leb (x .resends) (t .settings .sendings)) _ .0 a .0) in
+        let other : x .resends ≡ t .settings .sendings → ⊥ = λ z. true≢false (sym (rw (one, eq-eqb (x .resends) (t .settings .sendings) z) at c)) in
+        let same = tied .kept .sendings-set in
+        omega arith
+
+    item-uploaded : (i : ℕ) → nextDue (due Uploading) es ≡ Found-at i → Uploaded l send-next-upload y xs u (sendsNext (Found-at i) (inPhase Uploading t) lent)
+    item-uploaded i e =
+        let x = entryAt es i in
+        let k = next-at es i e .below in
+        let g = in-form x (every-at (λ i e. inForm e) 0 es (f .order .journal .form) i k) in
+        let item = item-of (t .settings) (t .batch) (lent .message) x (f .message-room) (f .order .state .batch-most)
+        (settings-held l (inPhase Uploading t) lent a tied f) (entry-held (t .entries) i (lent .journal) g) g in
+        let b = handedOut (messageBytes (itemMessage (t .settings) (t .batch) x)) (lent .message) in
+        record {
+          uploads = rw (next-is (Found-at i) e) (record { marks = resent-marks (t .entries) i (lent .journal) (u .progress) (h .marks); item-is = refl });
+          sends-next =
+              λ c p q.
+              rw (next-is (Found-at i) e, ← same-sent b c q) (at-place (IsItemOf (messageIn b)) i es xs booked k item);
+          may-leave =
+              λ c p q m z.
+              let same : i ≡ m = let w : at i ≡ at m = sym (next-is (Found-at i) e) ∙ z in cc in
+              subst (λ (n : ℕ). MayLeaveAt l n (u .progress)) same (may-leave-at l i es (u .progress) (h .marks) (resent-few i k));
+        }
+
+    end-uploaded : nextDue (due Uploading) es ≡ Nowhere → Uploaded l send-next-upload y xs u (sendsNext Nowhere (inPhase Uploading t) lent)
+    end-uploaded e =
+        let said = end-goes l t lent a y 0 refl tied d f .stands .phase-is .1 in
+        record {
+          uploads = rw (next-is Nowhere e) (record { marks = h .marks; item-is = tt });
+          sends-next =
+              λ c p q.
+              rw (next-is Nowhere e) (ends c q (end-typed _ (said .indicator) (said .code-number) .is-end));
+          may-leave = λ c p q m z. let w : none ≡ at m = sym (next-is Nowhere e) ∙ z in let v : _≡_ {A = ℕ} 0 1 = cc in absurd (omega arith);
+        }
+      where
+        ends : (c : List ℕ) {b : List ℕ} → history.sent b ≡ history.sent c → isEnd (messageIn b) ≡ true → isEnd (messageIn c) ≡ true
+        ends c {b} q k = rw (same-sent b c q) at k
+
+    next-uploaded : (x : Found) → nextDue (due Uploading) es ≡ x → Uploaded l send-next-upload y xs u (sendsNext x (inPhase Uploading t) lent)
+    next-uploaded (Found-at i) e = item-uploaded i e
+    next-uploaded Nowhere e = end-uploaded e
+
+upload-from : (p : Phase) (l : ℕ) (t : State) (lent : Lent) (a : Account) (y : Standing) (xs : List Approval) (u : Upload) → Tied l (inPhase p t) (lent .journal) a
+    → Stands (inPhase p t) (lent .journal) y → Booked t (lent .journal) xs → Uploads (inPhase p t) (lent .journal) u → Fit (inPhase p t) lent
+    → Uploaded l send-next-upload y xs u (uploadFrom p (inPhase p t) lent)
+upload-from Resting l t lent a y xs u tied d b h f = quiet-uploaded l y xs u send-next-upload (quiet (inPhase Resting t) lent) refl h
+upload-from (Waiting w) l t lent a y xs u tied d b h f = quiet-uploaded l y xs u send-next-upload (quiet (inPhase (Waiting w) t) lent) refl h
+upload-from (Pending v) l t lent a y xs u tied d b h f = quiet-uploaded l y xs u send-next-upload (quiet (inPhase (Pending v) t) lent) refl h
+upload-from Settling l t lent a y xs u tied d b h f = quiet-uploaded l y xs u send-next-upload (quiet (inPhase Settling t) lent) refl h
+upload-from Uploading l t lent a y xs u tied d b h f =
+    next-uploaded l y xs u t lent a tied d b h f (nextDue (due Uploading) (entriesOf (t .entries) (lent .journal))) refl
+
+-- an answer
+answered-in : (b : List ℕ) (good : Bool) → readMessage b .outcome ≡ Read → (p : Phase) (s : State) (lent : Lent) (y : Standing) (u : Upload)
+    → Fit (inPhase p s) lent → Stands (inPhase p s) (lent .journal) y → Uploads (inPhase p s) (lent .journal) u → not (waits p) ≡ false
+    → answersIn p (entriesOf (s .entries) (lent .journal)) (inPhase p s) (messageIn b) ≡ true
+    → (let c = answeredIn p good (messageIn b) (inPhase p s) (lent .journal) in Uploads (c .state) (c .journal) (whenHeard good (messageIn b) y u))
+answered-in b good r Resting s lent y u f d h w e = absurd (true≢false w)
+answered-in b good r (Waiting x) s lent y u f d h w e = heard-uploads b good r (inPhase (Waiting x) s) lent y u x f d h e
+answered-in b good r (Pending v) s lent y u f d h w e = absurd (true≢false w)
+answered-in b good r Settling s lent y u f d h w e = absurd (true≢false w)
+answered-in b good r Uploading s lent y u f d h w e = absurd (true≢false w)
+
+read-uploaded : (o : ReadOutcome) (l : ℕ) (b : List ℕ) (good : Bool) → readMessage b .outcome ≡ o → (s : State) (lent : Lent) (y : Standing) (xs : List Approval)
+    (u : Upload) → Fit s lent → Stands s (lent .journal) y → Uploads s (lent .journal) u
+    → Uploaded l (answers b good) y xs u (readIn o good (messageIn b) s lent)
+read-uploaded Read l b good r s lent y xs u f d h =
+    let rs = answerRules (messageIn b) s (lent .journal) in
+    let done = quietly (answeredIn (s .phase) good (messageIn b) s (lent .journal)) lent in
+    judged-uploaded l y xs u (answers b good) (firstBroken rs) s lent done h
+    (λ z.
+    quiet-uploaded l y xs u (answers b good) done refl
+    (answered-in b good r (s .phase) s lent y u f d h (passed 14 rs refl z) (not-false _ (passed 22 rs refl z))))
+read-uploaded (Refused n) l b good r s lent y xs u f d h = refused-uploaded l y xs u (answers b good) n s lent h
+
+-- any call
+module _ (l : ℕ) (s : State) (lent : Lent) (a : Account) (y : Standing) (xs : List Approval) (u : Upload) (tied : Tied l s (lent .journal) a)
+    (d : Stands s (lent .journal) y) (booked : Booked s (lent .journal) xs) (h : Uploads s (lent .journal) u) where
+  pub call-uploaded : (e : Event) → Uploaded l e y xs u (call e s lent)
+  unfolding signedOn start answer noAnswer powerReturned sendReversal settle sendNextUpload
+  call-uploaded (signed-on batch) =
+      judged-uploaded l y xs u (signed-on batch) _ s lent _ h
+      (λ z. quiet-uploaded l y xs u (signed-on batch) _ refl (record { marks = h .marks; item-is = h .item-is }))
+  call-uploaded (starts k) =
+      judged-uploaded l y xs u (starts k) _ s lent _ h
+      (λ z. sent-other l y xs u (starts k) _ (λ p. let q : _≡_ {A = ℕ} 0 1 = cc in omega arith) (record { marks = h .marks; item-is = tt }))
+  call-uploaded (answers b good) =
+      judged-uploaded l y xs u (answers b good) (firstBroken (rules12 s lent)) s lent (readIn (readMessage b .outcome) good (messageIn b) s lent) h
+      (λ z. read-uploaded (readMessage b .outcome) l b good refl s lent y xs u (fit s lent z) d h)
+  call-uploaded no-answer =
+      let done = quietly (silentIn (s .phase) s (lent .journal)) lent in
+      judged-uploaded l y xs u no-answer (firstBroken (noAnswerRules s lent)) s lent done h
+      (λ z.
+      let k = silent-in l y u (s .phase) s lent (tied .kept .sendings-set) (fit-first s lent _ refl z) d h in
+      quiet-uploaded l y xs u no-answer done refl (record { marks = k .marks; item-is = k .item-is }))
+  call-uploaded power-returned =
+      let done = withoutPower (silentIn (s .phase) s (lent .journal)) lent in
+      judged-uploaded l y xs u power-returned (firstBroken (rules12 s lent)) s lent done h
+      (λ z.
+      let k = silent-in l y u (s .phase) s lent (tied .kept .sendings-set) (fit s lent z) d h in
+      quiet-uploaded l y xs u power-returned done refl (record { marks = k .marks; item-is = k .item-is }))
+  call-uploaded send-reversal =
+      judged-uploaded l y xs u send-reversal _ s lent (sendFrom (s .phase) s lent) h (λ z. send-uploaded l y xs u (s .phase) s lent h)
+  call-uploaded settles =
+      judged-uploaded l y xs u settles _ s lent _ h
+      (λ z. sent-other l y xs u settles _ (λ p. let q : _≡_ {A = ℕ} 0 1 = cc in omega arith) (record { marks = h .marks; item-is = tt }))
+  call-uploaded send-next-upload =
+      judged-uploaded l y xs u send-next-upload (firstBroken (sendNextUploadRules s lent)) s lent (uploadFrom (s .phase) s lent) h
+      (λ z. upload-from (s .phase) l s lent a y xs u tied d booked h (fit-first s lent _ refl z))
+
+-- the resends stay at most L
+heard-few : (l : ℕ) (good : Bool) (m : Message) (y : Standing) (u : Upload) → EachFew l (u .progress) → EachFew l (whenHeard good m y u .progress)
+unfolding whenHeard
+heard-few l good m y u h =
+    go (closesBatch (y .message) m) (isRequest (y .message) && (isApproval m && macGood good m)) (isItem (y .message))
+  where
+    go : (a b c : Bool) → EachFew l (cond a (record { progress = []; item = u .item })
+        (cond b (record { progress = u .progress ++ (unsent ∷ []); item = u .item }) (cond c (changed isAnswered u) u)) .progress)
+    go true b c = tt
+    go false true c = few-more l (u .progress) h
+    go false false true = few-changed l isAnswered (λ p k. tt) (u .item) (u .progress) h
+    go false false false = h
+
+silence-few : (l : ℕ) (y : Standing) (u : Upload) → EachFew l (u .progress) → EachFew l (whenSilent l y u .progress)
+unfolding whenSilent
+silence-few l y u h = go (y .awaited && isItem (y .message))
+  where
+    go : (b : Bool) → EachFew l (cond b (changed (falls-silent l) u) u .progress)
+    go true = few-changed l (falls-silent l) (silent-few l) (u .item) (u .progress) h
+    go false = h
+
+quiet-few : (l : ℕ) (e : Event) (y : Standing) (u : Upload) → EachFew l (u .progress) → EachFew l (whenQuiet l e y u .progress)
+quiet-few l (signed-on batch) y u h = h
+quiet-few l (starts d) y u h = h
+quiet-few l (answers b good) y u h = heard-few l good (messageIn b) y u h
+quiet-few l no-answer y u h = silence-few l y u h
+quiet-few l power-returned y u h = silence-few l y u h
+quiet-few l send-reversal y u h = h
+quiet-few l settles y u h = h
+quiet-few l send-next-upload y u h = h
+
+item-few : (l : ℕ) (x : Place) (u : Upload) → ((i : ℕ) → x ≡ at i → MayLeaveAt l i (u .progress)) → EachFew l (u .progress)
+    → EachFew l (withItem x u .progress)
+item-few l none u f h = h
+item-few l (at i) u f h = few-leaves l i (u .progress) (f i refl) h
+
+sent-few : (l : ℕ) (e : Event) (xs : List Approval) (u : Upload)
+    → (e ≡ send-next-upload → (i : ℕ) → nextItem xs (u .progress) ≡ at i → MayLeaveAt l i (u .progress)) → EachFew l (u .progress)
+    → EachFew l (whenSent e xs u .progress)
+sent-few l (signed-on batch) xs u f h = h
+sent-few l (starts d) xs u f h = h
+sent-few l (answers b good) xs u f h = h
+sent-few l no-answer xs u f h = h
+sent-few l power-returned xs u f h = h
+sent-few l send-reversal xs u f h = h
+sent-few l settles xs u f h = h
+sent-few l send-next-upload xs u f h = item-few l (nextItem xs (u .progress)) u (f refl) h
+
+pub given-few : (l : ℕ) (g : Given) (e : Event) (y : Standing) (xs : List Approval) (u : Upload)
+    → ((b : List ℕ) → e ≡ send-next-upload → g ≡ history.sent b → (i : ℕ) → nextItem xs (u .progress) ≡ at i → MayLeaveAt l i (u .progress))
+    → EachFew l (u .progress) → EachFew l (whenGiven l g e y xs u .progress)
+given-few l (history.sent b) e y xs u f h = sent-few l e xs u (λ p. f b p refl) h
+given-few l history.quiet e y xs u f h = quiet-few l e y u h
+given-few l (history.refused n) e y xs u f h = h

@@ -1,0 +1,162 @@
+-- Every call of every list is judged as the history says, and what leaves reads.
+use mathlib.Core.Path.{_≡_, refl, sym, _∙_}
+use mathlib.Core.List.{List, [], _∷_}
+use mathlib.Core.Bool.{true}
+use Prim.Native.Nat.{ℕ}
+use native.Mathlib.Omega.{arith}
+use lib.ListN.{take, drop}
+use lib.Seq.{take-at}
+use Rattle.reading.specs.Reading.{readMessage}
+use Rattle.reading.specs.declared.ReadOutcome.the-variants.{Read}
+use Rattle.state.specs.declared.Outcome.{Outcome}
+use Rattle.state.specs.declared.Outcome.the-variants.{Send, Quiet, Refused}
+use Rattle.state.specs.declared.Settings.{Settings}
+use Rattle.state.specs.declared.State.{State}
+use Rattle.state.specs.Calls.{Lent, lend}
+use Rattle.call_theorems.specs.Facts.{Leaves}
+use Rattle.call_theorems.proofs.Facts.{sent-reads}
+use Rattle.terminal.specs.Events.{Event, signed-on, starts, answers, no-answer, power-returned, send-reversal, settles, send-next-upload, call}
+use Rattle.terminal.specs.Shapes.{SettingsShaped, EventShaped}
+use Rattle.history.specs.Words.{messageIn}
+use Rattle.history.specs.History as history
+use Rattle.history.specs.History.{Call, Account, account, batchOf}
+use Rattle.history.specs.Demand.{Invocation, Run, givenBy, recorded, runs, begun, InvocationsShaped, Each}
+use Rattle.history.proofs.Books.{no-books}
+use Rattle.history.proofs.Tied.{Tied}
+use Rattle.history.proofs.Events.{call-after}
+use Rattle.history_theorems.specs.Standing.{Standing, traceIn, isNew, next, standing}
+use Rattle.history_theorems.specs.Judged.{reversalPending, numberOf, JudgedBy, CallsJudged, SentAlwaysReads}
+use Rattle.history_theorems.specs.Approvals.{approvals, JournalIsApprovals}
+use Rattle.history_theorems.specs.Traces.{IsTaken, TracesTaken}
+use Rattle.history_theorems.specs.Uploads.{nextItem, upload, SendsNext, EachFew, UploadsInOrder, FewResends}
+use Rattle.history_theorems.proofs.Stands.{Stands}
+use Rattle.history_theorems.proofs.Said.{Said}
+use Rattle.history_theorems.proofs.Quiet.{signed-said, answer-said, silence-said, power-said}
+use Rattle.history_theorems.proofs.Sends.{reversal-said, settle-said, upload-said}
+use Rattle.history_theorems.proofs.Starts.{start-said}
+use Rattle.history_theorems.proofs.Booked.{Booked, call-booked}
+use Rattle.history_theorems.proofs.Traced.{call-traced}
+use Rattle.history_theorems.proofs.Uploaded.{Uploads}
+use Rattle.history_theorems.proofs.Items.{call-uploaded, given-few}
+
+call-said : (e : Event) (l : ℕ) (s : State) (lent : Lent) (a : Account) (y : Standing) → EventShaped e → Tied l s (lent .journal) a → Stands s (lent .journal) y
+    → Said e y (numberOf e y (reversalPending (a .requests))) (call e s lent)
+call-said (signed-on batch) l s lent a y w t h = signed-said l s lent a y t h batch
+call-said (starts d) l s lent a y w t h = start-said l s lent a y t h d (w .0) (w .1)
+call-said (answers b good) l s lent a y w t h = answer-said b good s lent y (reversalPending (a .requests)) h
+call-said no-answer l s lent a y w t h = silence-said l s lent a y t h
+call-said power-returned l s lent a y w t h = power-said l s lent a y t h
+call-said send-reversal l s lent a y w t h = reversal-said l s lent a y t h
+call-said settles l s lent a y w t h = settle-said l s lent a y t h
+call-said send-next-upload l s lent a y w t h = upload-said l s lent a y t h
+
+-- what is said of a call, with the history up to then
+abbrev IsJudged : ℕ → Call → history.History → Type 0
+IsJudged l c h = (c .given ≡ history.refused 1 → ⊥) → (c .given ≡ history.refused 2 → ⊥)
+    → JudgedBy (numberOf (c .event) (standing h) (reversalPending (batchOf l h))) (c .event) (standing h) (c .given)
+
+-- what leaves reads
+abbrev Reads : Call → Type 0
+Reads c = (b : List ℕ) → c .given ≡ history.sent b → readMessage b .outcome ≡ Read
+
+sent-reads-as : (o : Outcome) (left m : List ℕ) → ((k : ℕ) → o ≡ Send k → Leaves k left m)
+    → (b : List ℕ) → givenBy o left ≡ history.sent b → readMessage b .outcome ≡ Read
+sent-reads-as (Send k) left m f b e =
+    let w = f k refl in
+    let front : take k left ≡ w .bytes = rw (w .rest) (take-at (w .bytes) (drop k m) k (w .count)) in
+    let same : take k left ≡ b = cc in
+    rw (sym same ∙ front) (w .reads)
+sent-reads-as Quiet left m f b e = let z : _≡_ {A = ℕ} 0 1 = cc in absurd (omega arith)
+sent-reads-as (Refused n) left m f b e = let z : _≡_ {A = ℕ} 0 1 = cc in absurd (omega arith)
+
+-- a new message takes its trace
+abbrev TracedCall : Call → history.History → Type 0
+TracedCall c h = (b : List ℕ) → c .given ≡ history.sent b → isNew (messageIn b) ≡ true → IsTaken (approvals h) (standing h .taken) (traceIn (messageIn b))
+
+-- an upload sends what is due next
+abbrev SendsInOrder : ℕ → Call → history.History → Type 0
+SendsInOrder l c h = (b : List ℕ) → c .event ≡ send-next-upload → c .given ≡ history.sent b
+    → SendsNext (nextItem (approvals h) (upload l h .progress)) (approvals h) (messageIn b)
+
+record Holds (l : ℕ) (r : Run) : Type 0 where
+  tied : Tied l (r .state) (r .journal) (account l (r .history))
+  stands : Stands (r .state) (r .journal) (standing (r .history))
+  each : Each (IsJudged l) (r .history)
+  reads : Each (λ c h. Reads c) (r .history)
+  booked : Booked (r .state) (r .journal) (approvals (r .history))
+  traced : Each TracedCall (r .history)
+  uploads : Uploads (r .state) (r .journal) (upload l (r .history))
+  in-order : Each (SendsInOrder l) (r .history)
+  few : EachFew l (upload l (r .history) .progress)
+  each-few : Each (λ c h. EachFew l (upload l (c ∷ h) .progress)) (r .history)
+
+fresh-next : _≡_ {A = ℕ} 1 (next 0)
+unfolding next
+fresh-next = refl
+
+begun-holds : (x : Settings) (j : List ℕ) → SettingsShaped x → Holds (x .sendings) (begun x j)
+begun-holds x j w =
+    record {
+      tied = record { kept = record { sendings-set = refl; shaped = w; books = no-books }; shape = tt };
+      stands = record { members = (refl, refl, refl, fresh-next); phase-is = record { awaits-is = refl; stage-is = refl }; details = tt };
+      each = tt;
+      reads = tt;
+      booked = tt;
+      traced = tt;
+      uploads = record { marks = tt; item-is = tt };
+      in-order = tt;
+      few = tt;
+      each-few = tt;
+    }
+
+all-hold : (ts : List Invocation) (l : ℕ) (r : Run) → InvocationsShaped ts → Holds l r → Holds l (runs ts r)
+all-hold [] l r w h = h
+all-hold (t ∷ ts) l r w h =
+    let a = account l (r .history) in
+    let k = call-after (t .event) l (r .state) (lend (r .journal) (t .message)) a (w .0) (h .tied) in
+    let d = call-said (t .event) l (r .state) (lend (r .journal) (t .message)) a (standing (r .history)) (w .0) (h .tied) (h .stands) in
+    let q = call (t .event) (r .state) (lend (r .journal) (t .message)) in
+    let n = call-uploaded l (r .state) (lend (r .journal) (t .message)) a (standing (r .history)) (approvals (r .history)) (upload l (r .history)) (h .tied)
+    (h .stands) (h .booked) (h .uploads) (t .event) in
+    let few = given-few l (givenBy (q .outcome) (q .lent .message)) (t .event) (standing (r .history)) (approvals (r .history)) (upload l (r .history))
+    (n .may-leave) (h .few) in
+    all-hold ts l (recorded t r q) (w .1)
+    (record {
+      tied = k .tied;
+      stands = d .stands;
+      each = (d .is-judged, h .each);
+      reads = (
+        sent-reads-as (q .outcome) (q .lent .message) (t .message)
+            (λ n e. sent-reads (t .event) (r .state) (lend (r .journal) (t .message)) n (h .tied .kept .shaped) (w .0) e),
+        h .reads,
+      );
+      booked =
+          call-booked (t .event) (r .state) (lend (r .journal) (t .message)) (standing (r .history)) (approvals (r .history)) (h .stands) (h .booked);
+      traced = (
+        call-traced (t .event) l (r .state) (lend (r .journal) (t .message)) a (standing (r .history)) (approvals (r .history)) (w .0) (h .tied)
+            (h .stands) (h .booked) d,
+        h .traced,
+      );
+      uploads = n .uploads;
+      in-order = (n .sends-next, h .in-order);
+      few = few;
+      each-few = (few, h .each-few);
+    })
+
+pub calls-judged : CallsJudged
+calls-judged x j ts w v = all-hold ts (x .sendings) (begun x j) v (begun-holds x j w) .each
+
+pub sent-reads-always : SentAlwaysReads
+sent-reads-always x j ts w v = all-hold ts (x .sendings) (begun x j) v (begun-holds x j w) .reads
+
+pub journal-is-approvals : JournalIsApprovals
+journal-is-approvals x j ts w v = all-hold ts (x .sendings) (begun x j) v (begun-holds x j w) .booked
+
+pub traces-taken : TracesTaken
+traces-taken x j ts w v = all-hold ts (x .sendings) (begun x j) v (begun-holds x j w) .traced
+
+pub uploads-in-order : UploadsInOrder
+uploads-in-order x j ts w v = all-hold ts (x .sendings) (begun x j) v (begun-holds x j w) .in-order
+
+pub few-resends : FewResends
+few-resends x j ts w v = all-hold ts (x .sendings) (begun x j) v (begun-holds x j w) .each-few

@@ -1,0 +1,95 @@
+-- The journal, from the history: one entry for each approved card request of the batch, with what the request that left and the answer
+-- that approved it hold.
+use mathlib.Core.Path.{_≡_}
+use mathlib.Core.List.{List, [], _∷_, _++_}
+use mathlib.Core.Bool.{Bool, false, cond, _&&_, _||_}
+use Prim.Native.Nat.{ℕ}
+use lib.Dec.{eqb}
+use lib.ListN.{length, take}
+use Rattle.digits.specs.Packed.{numeral}
+use Rattle.field.specs.Bitmap.{names}
+use Rattle.message.specs.Message.{fieldOf}
+use Rattle.message.specs.declared.Message.{Message}
+use Rattle.parts.specs.Parts.{partOf}
+use Rattle.parts.specs.declared.Part.the-variants as part
+use Rattle.entry.specs.declared.Entry.{Entry}
+use Rattle.journal.specs.Journal.{entriesOf}
+use Rattle.state.specs.declared.Settings.{Settings}
+use Rattle.terminal.specs.Events.{Event, signed-on, starts, answers, no-answer, power-returned, send-reversal, settles, send-next-upload}
+use Rattle.terminal.specs.Shapes.{SettingsShaped}
+use Rattle.history.specs.Words.{messageIn, kindIn, amountIn, isRequest, isApproval, macGood, closesBatch}
+use Rattle.history.specs.History.{Given, sent, quiet, refused, History}
+use Rattle.history.specs.Demand.{Invocation, runs, begun, InvocationsShaped}
+use Rattle.history_theorems.specs.Standing.{Standing, traceIn, standing}
+
+-- a card request that was sent, and the answer that approved it
+pub record Approval : Type 0 where
+  pub request : Message
+  pub answer : Message
+
+-- a good 00 approves the card request that was sent last; an answer that closes the batch empties the list
+unfoldable pub whenHeard : Bool → Message → Standing → List Approval → List Approval
+whenHeard good a x xs =
+    cond (closesBatch (x .message) a) []
+      (cond (isRequest (x .message) && (isApproval a && macGood good a)) (xs ++ (record { request = x .message; answer = a } ∷ [])) xs)
+
+abbrev pub whenQuiet : Event → Standing → List Approval → List Approval
+whenQuiet (signed-on batch) x xs = xs
+whenQuiet (starts d) x xs = xs
+whenQuiet (answers b good) x xs = whenHeard good (messageIn b) x xs
+whenQuiet no-answer x xs = xs
+whenQuiet power-returned x xs = xs
+whenQuiet send-reversal x xs = xs
+whenQuiet settles x xs = xs
+whenQuiet send-next-upload x xs = xs
+
+abbrev pub whenGiven : Given → Event → Standing → List Approval → List Approval
+whenGiven (sent b) e x xs = xs
+whenGiven quiet e x xs = whenQuiet e x xs
+whenGiven (refused n) e x xs = xs
+
+-- the approved card requests of the batch, the oldest first
+abbrev pub approvals : History → List Approval
+approvals [] = []
+approvals (c ∷ h) = whenGiven (c .given) (c .event) (standing h) (approvals h)
+
+-- the trace of the request that a void names
+unfoldable pub originalIn : Message → ℕ
+originalIn m = numeral (partOf m part.OriginalTrace)
+
+-- a 23 voids the 22 that it names, a 21 the 20
+unfoldable pub voids : Message → Message → Bool
+voids v m =
+    (eqb (kindIn v) 21 || eqb (kindIn v) 23)
+    && (eqb (kindIn m) (cond (eqb (kindIn v) 23) 22 20) && eqb (traceIn m) (originalIn v))
+
+abbrev pub voidedBy : Message → List Approval → Bool
+voidedBy m [] = false
+voidedBy m (x ∷ xs) = voids (x .request) m || voidedBy m xs
+
+-- an entry of an approval, with those after it
+pub record IsEntry (e : Entry) (x : Approval) (later : List Approval) : Type 0 where
+  pub kind-is : e .kind ≡ kindIn (x .request)
+  pub trace-is : e .trace .0 ≡ traceIn (x .request)
+  pub amount-is : e .amount ≡ amountIn (x .request)
+  pub digits-are : e .digits ≡ fieldOf (x .request) 2 .count
+  pub card-is : take (length (fieldOf (x .request) 2 .bytes)) (e .card) ≡ fieldOf (x .request) 2 .bytes
+  -- its date is the answer's field 13; without field 38 there are six spaces
+  pub date-is : e .date ≡ fieldOf (x .answer) 13 .bytes
+  pub authorisation-is : e .authorisation
+      ≡ cond (names (x .answer .bitmap) 38) (fieldOf (x .answer) 38 .bytes) (0x20 ∷ 0x20 ∷ 0x20 ∷ 0x20 ∷ 0x20 ∷ 0x20 ∷ [])
+  pub reference-is : e .reference ≡ fieldOf (x .answer) 37 .bytes
+  -- it is voided exactly where a later approval voids it
+  pub voided-is : e .voided ≡ cond (voidedBy (x .request) later) 1 0
+
+-- an entry for each approval, in order
+abbrev pub AreEntries : List Entry → List Approval → Type 0
+AreEntries [] [] = Unit {0}
+AreEntries [] (x ∷ xs) = ⊥
+AreEntries (e ∷ es) [] = ⊥
+AreEntries (e ∷ es) (x ∷ xs) = IsEntry e x xs × AreEntries es xs
+
+-- after every list of calls from a fresh terminal of any settings
+abbrev pub JournalIsApprovals : Type 0
+JournalIsApprovals = (x : Settings) (j : List ℕ) (ts : List Invocation) → SettingsShaped x → InvocationsShaped ts
+    → (let r = runs ts (begun x j) in AreEntries (entriesOf (r .state .entries) (r .journal)) (approvals (r .history)))

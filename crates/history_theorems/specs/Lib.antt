@@ -1,0 +1,5 @@
+pub mod Standing
+pub mod Judged
+pub mod Approvals
+pub mod Traces
+pub mod Uploads

@@ -1,0 +1,116 @@
+-- Where a terminal stands after some calls, in the history's words: signed on or off, the last message sent and whether it is awaited,
+-- how far the batch is in closing, its number, how many card requests have left in it, the last of them, the reason of its reversal
+-- should it be reversed, and the last trace taken.
+use mathlib.Core.List.{List, [], _∷_}
+use mathlib.Core.Bool.{Bool, true, false, cond, not, _&&_, _||_}
+use Prim.Native.Nat.{ℕ, _+_}
+use lib.Dec.{ltb, eqb}
+use Rattle.digits.specs.Packed.{numeral}
+use Rattle.message.specs.Message.{empty}
+use Rattle.message.specs.declared.Message.{Message}
+use Rattle.parts.specs.Parts.{partOf}
+use Rattle.parts.specs.declared.Part.the-variants as part
+use Rattle.terminal.specs.Events.{Event, signed-on, starts, answers, no-answer, power-returned, send-reversal, settles, send-next-upload}
+use Rattle.history.specs.Words.{messageIn, isRequest, isSettlement, isEnd, closesBatch}
+use Rattle.history.specs.History.{Given, sent, quiet, refused, History}
+
+-- the batch is running, its settlement has been sent, or it is being uploaded
+pub data Stage : Type 0 where
+  running settling uploading : Stage
+
+pub record Standing : Type 0 where
+  pub signed : Bool
+  pub message : Message
+  pub awaited : Bool
+  pub stage : Stage
+  pub batch : ℕ
+  pub requests : ℕ
+  pub request : Message
+  pub reason : List ℕ
+  pub taken : ℕ
+
+-- the trace of a message
+unfoldable pub traceIn : Message → ℕ
+traceIn m = numeral (partOf m part.Trace)
+
+-- card requests, settlements and the upload's end are new messages; reversals and upload items reuse the original's trace
+unfoldable pub isNew : Message → Bool
+isNew m = isRequest m || isSettlement m || isEnd m
+
+-- after 999999 comes 1
+unfoldable pub next : ℕ → ℕ
+next x = cond (ltb x 999999) (x + 1) 1
+
+-- a message sent is awaited; a settlement begins the closing
+abbrev pub whenSent : Message → Standing → Standing
+whenSent m x =
+    record {
+      signed = x .signed; message = m; awaited = true; stage = cond (isSettlement m) settling (x .stage); batch = x .batch;
+      requests = cond (isRequest m) (x .requests + 1) (x .requests); request = cond (isRequest m) m (x .request); reason = x .reason;
+      taken = cond (isNew m) (traceIn m) (x .taken) }
+
+-- an accepted answer closes the batch, which signs off and adds 1 to the batch number
+unfoldable pub whenClosed : Standing → Standing
+whenClosed x =
+    record {
+      signed = false; message = x .message; awaited = false; stage = running; batch = next (x .batch); requests = 0;
+      request = x .request; reason = x .reason; taken = x .taken }
+
+-- any other to a settlement starts the upload; a card request that an answer makes doubtful is reversed for its MAC, A0
+unfoldable pub whenDecided : Standing → Standing
+whenDecided x =
+    record {
+      signed = x .signed; message = x .message; awaited = false; stage = cond (isSettlement (x .message)) uploading (x .stage);
+      batch = x .batch; requests = x .requests; request = x .request;
+      reason = cond (isRequest (x .message)) (0x41 ∷ 0x30 ∷ []) (x .reason); taken = x .taken }
+
+unfoldable pub whenHeard : Message → Standing → Standing
+whenHeard a x = cond (closesBatch (x .message) a) (whenClosed x) (whenDecided x)
+
+-- silence, with power or without; one that makes an awaited card request doubtful is the reason 98
+abbrev pub whenSilent : Bool → Standing → Standing
+whenSilent power x =
+    record {
+      signed = power && x .signed; message = x .message; awaited = false; stage = x .stage; batch = x .batch; requests = x .requests;
+      request = x .request; reason = cond (x .awaited && isRequest (x .message)) (0x39 ∷ 0x38 ∷ []) (x .reason); taken = x .taken }
+
+-- the batch number is adopted only if no card request has left in this batch, nothing is awaited and the batch is not closing; a reversal
+-- that is to be sent is one of a card request that left
+abbrev pub runs : Stage → Bool
+runs running = true
+runs settling = false
+runs uploading = false
+
+unfoldable pub adopts : Standing → Bool
+adopts x = eqb (x .requests) 0 && not (x .awaited) && runs (x .stage)
+
+-- signed on
+abbrev pub whenSigned : ℕ → Standing → Standing
+whenSigned n x =
+    record {
+      signed = true; message = x .message; awaited = x .awaited; stage = x .stage; batch = cond (adopts x) n (x .batch);
+      requests = x .requests; request = x .request; reason = x .reason; taken = x .taken }
+
+-- a quiet change, by what was handed in
+abbrev pub whenQuiet : Event → Standing → Standing
+whenQuiet (signed-on batch) x = whenSigned (batch .0) x
+whenQuiet (starts d) x = x
+whenQuiet (answers b good) x = whenHeard (messageIn b) x
+whenQuiet no-answer x = whenSilent true x
+whenQuiet power-returned x = whenSilent false x
+whenQuiet send-reversal x = x
+whenQuiet settles x = x
+whenQuiet send-next-upload x = x
+
+abbrev pub whenGiven : Given → Event → Standing → Standing
+whenGiven (sent b) e x = whenSent (messageIn b) x
+whenGiven quiet e x = whenQuiet e x
+whenGiven (refused n) e x = x
+
+-- a fresh terminal is signed off, in batch 1, and has sent nothing
+abbrev pub standing : History → Standing
+standing [] =
+    record {
+      signed = false; message = empty; awaited = false; stage = running; batch = 1; requests = 0; request = empty; reason = [];
+      taken = 0 }
+standing (c ∷ h) = whenGiven (c .given) (c .event) (standing h)

@@ -1,0 +1,180 @@
+-- The upload, from the history: for each approved debit or credit request of the batch, in order, its item leaves; after that pass each
+-- silent one, in the same order, up to L times again; then the end.
+use mathlib.Core.Path.{_≡_}
+use mathlib.Core.List.{List, [], _∷_, _++_}
+use mathlib.Core.Bool.{Bool, true, false, cond, not, _&&_, _||_}
+use Prim.Native.Nat.{ℕ, zero, suc, _+_, _≤_}
+use lib.Dec.{leb}
+use Rattle.field.specs.Table.{among}
+use Rattle.field.specs.Bitmap.{names}
+use Rattle.message.specs.Message.{fieldOf}
+use Rattle.message.specs.declared.Message.{Message}
+use Rattle.state.specs.declared.Settings.{Settings}
+use Rattle.terminal.specs.Events.{Event, signed-on, starts, answers, no-answer, power-returned, send-reversal, settles, send-next-upload}
+use Rattle.terminal.specs.Shapes.{SettingsShaped}
+use Rattle.history.specs.Words.{messageIn, kindIn, amountIn, isRequest, isApproval, macGood, isEnd, closesBatch}
+use Rattle.history.specs.History.{Given, sent, quiet, refused, History}
+use Rattle.history.specs.Demand.{Invocation, runs, begun, InvocationsShaped, Each}
+use Rattle.history_theorems.specs.Standing.{Standing, traceIn, standing}
+use Rattle.history_theorems.specs.Judged.{isUpload, NamesJust}
+use Rattle.history_theorems.specs.Approvals.{Approval, approvals}
+
+-- what the upload has made of an approved request: not sent; silent, after so many resends; accepted, rejected or given up
+pub data Progress : Type 0 where
+  unsent : Progress
+  silent : ℕ → Progress
+  ended : Progress
+
+abbrev pub isUnsent : Progress → Bool
+isUnsent unsent = true
+isUnsent (silent n) = false
+isUnsent ended = false
+
+abbrev pub isSilent : Progress → Bool
+isSilent unsent = false
+isSilent (silent n) = true
+isSilent ended = false
+
+-- a debit or credit request
+unfoldable pub isDue : Message → Bool
+isDue m = among (kindIn m) (20 ∷ 22 ∷ []) || among (kindIn m) (21 ∷ 23 ∷ 25 ∷ [])
+
+-- the place of the first approval that passes a test
+pub data Place : Type 0 where
+  none : Place
+  at : ℕ → Place
+
+abbrev pub firstAt : (Approval → Progress → Bool) → ℕ → List Approval → List Progress → Place
+firstAt q i [] ps = none
+firstAt q i (x ∷ xs) [] = none
+firstAt q i (x ∷ xs) (p ∷ ps) = cond (q x p) (at i) (firstAt q (suc i) xs ps)
+
+abbrev pub orElse : Place → Place → Place
+orElse none q = q
+orElse (at i) q = at i
+
+-- the item to send next: the first not sent or, where all are, the first silent one
+unfoldable pub nextItem : List Approval → List Progress → Place
+nextItem xs ps =
+    orElse (firstAt (λ x p. isDue (x .request) && isUnsent p) 0 xs ps) (firstAt (λ x p. isDue (x .request) && isSilent p) 0 xs ps)
+
+-- as an item leaves, as it is silent at L resends, and as it is answered
+abbrev pub leaves : Progress → Progress
+leaves unsent = unsent
+leaves (silent n) = silent (n + 1)
+leaves ended = ended
+
+abbrev pub falls-silent : ℕ → Progress → Progress
+falls-silent l unsent = silent 0
+falls-silent l (silent n) = cond (leb l n) ended (silent n)
+falls-silent l ended = ended
+
+abbrev pub isAnswered : Progress → Progress
+isAnswered p = ended
+
+abbrev pub changeAt : ℕ → (Progress → Progress) → List Progress → List Progress
+changeAt i f [] = []
+changeAt zero f (p ∷ ps) = f p ∷ ps
+changeAt (suc i) f (p ∷ ps) = p ∷ changeAt i f ps
+
+-- the progress of each approval, and the place of the item that left last
+pub record Upload : Type 0 where
+  pub progress : List Progress
+  pub item : ℕ
+
+abbrev pub withItem : Place → Upload → Upload
+withItem none u = u
+withItem (at i) u = record { progress = changeAt i leaves (u .progress); item = i }
+
+abbrev pub whenSent : Event → List Approval → Upload → Upload
+whenSent (signed-on batch) xs u = u
+whenSent (starts d) xs u = u
+whenSent (answers b good) xs u = u
+whenSent no-answer xs u = u
+whenSent power-returned xs u = u
+whenSent send-reversal xs u = u
+whenSent settles xs u = u
+whenSent send-next-upload xs u = withItem (nextItem xs (u .progress)) u
+
+-- the message sent last is an upload item
+unfoldable pub isItem : Message → Bool
+isItem m = isUpload m && not (isEnd m)
+
+abbrev pub changed : (Progress → Progress) → Upload → Upload
+changed f u = record { progress = changeAt (u .item) f (u .progress); item = u .item }
+
+unfoldable pub whenSilent : ℕ → Standing → Upload → Upload
+whenSilent l x u = cond (x .awaited && isItem (x .message)) (changed (falls-silent l) u) u
+
+-- a closing empties the list, an approval adds to it
+unfoldable pub whenHeard : Bool → Message → Standing → Upload → Upload
+whenHeard good a x u =
+    cond (closesBatch (x .message) a) (record { progress = []; item = u .item })
+      (cond (isRequest (x .message) && (isApproval a && macGood good a)) (record { progress = u .progress ++ (unsent ∷ []); item = u .item })
+        (cond (isItem (x .message)) (changed isAnswered u) u))
+
+abbrev pub whenQuiet : ℕ → Event → Standing → Upload → Upload
+whenQuiet l (signed-on batch) x u = u
+whenQuiet l (starts d) x u = u
+whenQuiet l (answers b good) x u = whenHeard good (messageIn b) x u
+whenQuiet l no-answer x u = whenSilent l x u
+whenQuiet l power-returned x u = whenSilent l x u
+whenQuiet l send-reversal x u = u
+whenQuiet l settles x u = u
+whenQuiet l send-next-upload x u = u
+
+abbrev pub whenGiven : ℕ → Given → Event → Standing → List Approval → Upload → Upload
+whenGiven l (sent b) e x xs u = whenSent e xs u
+whenGiven l quiet e x xs u = whenQuiet l e x u
+whenGiven l (refused n) e x xs u = u
+
+-- at L sendings
+abbrev pub upload : ℕ → History → Upload
+upload l [] = record { progress = []; item = 0 }
+upload l (c ∷ h) = whenGiven l (c .given) (c .event) (standing h) (approvals h) (upload l h)
+
+-- the item of an approval
+pub record IsItemOf (m : Message) (x : Approval) : Type 0 where
+  pub type-is : isItem m ≡ true
+  pub named : NamesJust (2 ∷ 3 ∷ 4 ∷ 11 ∷ 37 ∷ 38 ∷ 41 ∷ 42 ∷ 49 ∷ 60 ∷ []) m
+  pub kind-is : kindIn m ≡ kindIn (x .request)
+  pub amount-is : amountIn m ≡ amountIn (x .request)
+  pub trace-is : traceIn m ≡ traceIn (x .request)
+  pub digits-are : fieldOf m 2 .count ≡ fieldOf (x .request) 2 .count
+  pub reference-is : fieldOf m 37 .bytes ≡ fieldOf (x .answer) 37 .bytes
+  pub authorisation-is : fieldOf m 38 .bytes
+      ≡ cond (names (x .answer .bitmap) 38) (fieldOf (x .answer) 38 .bytes) (0x20 ∷ 0x20 ∷ 0x20 ∷ 0x20 ∷ 0x20 ∷ 0x20 ∷ [])
+
+-- of the approval at a place
+abbrev pub AtPlace : ℕ → (Approval → Type 0) → List Approval → Type 0
+AtPlace i P [] = ⊥
+AtPlace zero P (x ∷ xs) = P x
+AtPlace (suc i) P (x ∷ xs) = AtPlace i P xs
+
+-- the item that is due leaves, and the end only where none is
+abbrev pub SendsNext : Place → List Approval → Message → Type 0
+SendsNext none xs m = isEnd m ≡ true
+SendsNext (at i) xs m = AtPlace i (IsItemOf m) xs
+
+-- an item has been sent again at most L times
+abbrev pub Few : ℕ → Progress → Type 0
+Few l unsent = Unit {0}
+Few l (silent n) = n ≤ l
+Few l ended = Unit {0}
+
+abbrev pub EachFew : ℕ → List Progress → Type 0
+EachFew l [] = Unit {0}
+EachFew l (p ∷ ps) = Few l p × EachFew l ps
+
+-- every message of an upload, in every list of calls from a fresh terminal of any settings
+abbrev pub UploadsInOrder : Type 0
+UploadsInOrder = (x : Settings) (j : List ℕ) (ts : List Invocation) → SettingsShaped x → InvocationsShaped ts
+    → Each
+    (λ c h. (b : List ℕ) → c .event ≡ send-next-upload → c .given ≡ sent b
+    → SendsNext (nextItem (approvals h) (upload (x .sendings) h .progress)) (approvals h) (messageIn b))
+    (runs ts (begun x j) .history)
+
+-- no item leaves more than 1 + L times
+abbrev pub FewResends : Type 0
+FewResends = (x : Settings) (j : List ℕ) (ts : List Invocation) → SettingsShaped x → InvocationsShaped ts
+    → Each (λ c h. EachFew (x .sendings) (upload (x .sendings) (c ∷ h) .progress)) (runs ts (begun x j) .history)
