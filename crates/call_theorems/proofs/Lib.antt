@@ -17,4 +17,5 @@ pub mod Calls
 pub mod Failing
 pub mod Giving
 pub mod Facts
+pub mod Steady
 pub mod Order

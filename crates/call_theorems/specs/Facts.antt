@@ -10,7 +10,7 @@ use Rattle.state.specs.declared.Reversal.{Reversal}
 use Rattle.state.specs.declared.State.{State}
 use Rattle.state.specs.declared.Outcome.the-variants.{Send, Quiet, Refused}
 use Rattle.state.specs.declared.Phase.the-variants.{Resting, Pending}
-use Rattle.state.specs.Calls.{Lent, Result, refused}
+use Rattle.state.specs.Calls.{Lent, lend, Result, refused}
 use Rattle.call_theorems.specs.Ready.{Ready}
 use Rattle.call_reversal.specs.SendReversal.{sendReversal}
 use Rattle.call_answer.specs.Answer.{noAnswer}
@@ -24,6 +24,19 @@ RefusedChangesNothing = (e : Event) (s : State) (lent : Lent) (n : ℕ) → call
 -- a quiet change leaves the message buffer
 abbrev pub QuietLeavesMessage : Type 0
 QuietLeavesMessage = (e : Event) (s : State) (lent : Lent) → call e s lent .outcome ≡ Quiet → call e s lent .lent .message ≡ lent .message
+
+-- the settings never change
+abbrev pub SettingsStay : Type 0
+SettingsStay = (e : Event) (s : State) (lent : Lent) → call e s lent .state .settings ≡ s .settings
+
+-- outcome, state and journal depend on the message buffer only through its length
+pub record SameButMessage (r q : Result) : Type 0 where
+  pub outcome-is : r .outcome ≡ q .outcome
+  pub state-is : r .state ≡ q .state
+  pub journal-is : r .lent .journal ≡ q .lent .journal
+
+abbrev pub MessageByLength : Type 0
+MessageByLength = (e : Event) (s : State) (j m n : List ℕ) → length m ≡ length n → SameButMessage (call e s (lend j m)) (call e s (lend j n))
 
 -- what leaves is a message that reads, so many bytes long; bytes past it stay
 pub record Leaves (k : ℕ) (o m : List ℕ) : Type 0 where

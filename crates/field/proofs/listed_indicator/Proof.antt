@@ -27,8 +27,9 @@ array-read-if1 c = search needs
 returns : tie.Need-returns Inv-loop μ-loop
 unfolding indicators
 returns c =
+    let at-loop-inv = c .before .before .loop .inv in
     let i = c .before .before .loop .i in
-    sym (c .before .before .loop .inv .1 ∙ among-here _ indicators i (omega arith) (c .if1 .taken))
+    sym (at-loop-inv .1 ∙ among-here _ indicators i (omega arith) (c .if1 .taken))
 
 add-i : tie.Need-add-i Inv-loop μ-loop
 add-i c = search needs
@@ -39,8 +40,9 @@ loop-less c = search needs
 loop-again : tie.Need-loop-again Inv-loop μ-loop
 unfolding indicators
 loop-again c =
+    let at-loop-inv = c .before .before .loop .inv in
     let i = c .before .before .loop .i in
-    (search needs, c .before .before .loop .inv .1 ∙ among-later _ indicators i (omega arith) (c .if1 .left))
+    (search needs, at-loop-inv .1 ∙ among-later _ indicators i (omega arith) (c .if1 .left))
 
 returns-2 : tie.Need-returns-2 Inv-loop μ-loop
 unfolding indicators
