@@ -4,10 +4,9 @@ use mathlib.Core.List.{List}
 use mathlib.Core.Bool.{true}
 use Prim.Native.Nat.{ℕ, _+_, _≤_, _<_}
 use native.Mathlib.Omega.{arith}
-use lib.Dec.{eqb}
-use lib.ListN.{length, getD}
+use lib.ListN.{length}
 use borrow.Author.Tests.{eq-eqb}
-use Rattle.digits.proofs.Lists.{all-true}
+use Rattle.digits.proofs.Lists.{same-bytes}
 use Rattle.digits.specs.declared.Number.{Number}
 use Rattle.digits.specs.declared.Number.the-variants.{Is}
 use Rattle.field.specs.Bitmap.{names}
@@ -20,7 +19,7 @@ use Rattle.message.specs.declared.Message.{Message}
 use Rattle.reading.specs.Reading.{readMessage}
 use Rattle.writing.specs.Writing.{messageBytes, writeMessage}
 use Rattle.writing.specs.declared.Writing.the-variants.{Written}
-use Rattle.parts.specs.Parts.{sameBytes, numberIn, partOf}
+use Rattle.parts.specs.Parts.{numberIn, partOf}
 use Rattle.parts.specs.declared.Part.the-variants as part
 use Rattle.compose.specs.Compose.{allHeld}
 use Rattle.outgoing.proofs.Leaving.{written-is}
@@ -75,12 +74,6 @@ module _ (b : List ℕ) (h : HasLeft b) where
   pub amount-in-form : names (messageIn b .bitmap) 4 ≡ true → OfDigits 12 (fieldOf (messageIn b) 4)
   amount-in-form e = of-digits 4 12 Absent _ (rw format-4 at (read-keeps-formats b (h .reads) 4 e))
 
-same : (b : List ℕ) → sameBytes b b ≡ true
-unfolding sameBytes
-same b =
-    rw (eq-eqb (length b) (length b) refl)
-    (all-true (λ i. eqb (getD b i 0) (getD b i 0)) (length b) (λ i h. eq-eqb (getD b i 0) (getD b i 0) refl))
-
 -- a list has field n, and it holds this
 abbrev pub Holds : List Item → ℕ → Field → Type 0
 Holds xs n x = (has xs n ≡ true) × (find xs n ≡ x)
@@ -96,7 +89,7 @@ module _ (s : List ℕ) {i : ℕ} {xs : List Item} (r : Reads i xs (readMessage 
   -- a field is repeated
   pub field-repeated : (n : ℕ) → 0 < n → n ≤ 64 → Holds xs n (fieldOf m n) → sameField n m (messageIn s) ≡ true
   unfolding sameField
-  field-repeated n p q h = rw (r .named n p q, h .0, r .fields n (h .0), h .1) (same (fieldOf m n .bytes))
+  field-repeated n p q h = rw (r .named n p q, h .0, r .fields n (h .0), h .1) (same-bytes (fieldOf m n .bytes))
 
   number-repeated : (n at k : ℕ) → 0 < n → n ≤ 64 → Holds xs n (fieldOf m n) → names (m .bitmap) n ≡ true
       → numberIn (messageIn s) n at k ≡ numberIn m n at k

@@ -7,9 +7,11 @@ use native.Mathlib.Nat.{not-suc-le-zero}
 use native.Mathlib.Numerals.{add-one}
 use native.Mathlib.Omega.{arith}
 use native.Mathlib.Decide.{decLt}
+use lib.Dec.{eqb}
 use lib.ListN.{length, take, drop, set, getD, length-append, length-set, length-drop, drop-of-length-le, List·getD-append, List·getD-eq-default}
 use lib.Seq.{drop-cons, set-at, append-snoc, getD-at, drop-length, ext-getD, take-at, drop-at, drop-drop, length-take-le, take-all}
-use Rattle.digits.specs.Lists.{tabulate, all}
+use borrow.Author.Tests.{eq-eqb}
+use Rattle.digits.specs.Lists.{tabulate, all, sameBytes}
 
 -- past its end a list reads as zeros
 pub getD-past : (l : List ℕ) (i : ℕ) → length l ≤ i → getD l i 0 ≡ 0
@@ -112,3 +114,10 @@ pub two-parts : (p m : ℕ) (a b o : List ℕ) → length a ≡ p
     → take p (a ++ drop p o) ++ (b ++ drop m (drop p (a ++ drop p o))) ≡ (a ++ b) ++ drop (p + m) o
 two-parts p m a b o e =
     rw (take-at a (drop p o) p e, drop-at a (drop p o) p e, drop-drop) (sym (append-assoc a b (drop (p + m) o)))
+
+-- bytes are the same as themselves
+pub same-bytes : (b : List ℕ) → sameBytes b b ≡ true
+unfolding sameBytes
+same-bytes b =
+    rw (eq-eqb (length b) (length b) refl)
+    (all-true (λ i. eqb (getD b i 0) (getD b i 0)) (length b) (λ i h. eq-eqb (getD b i 0) (getD b i 0) refl))

@@ -9,7 +9,8 @@ use Rattle.digits.specs.declared.Number.the-variants.{Is, Not}
 use Rattle.field.specs.Contents.{allPrintable}
 use Rattle.hexadecimal.specs.Hexadecimal.{isHex}
 use Rattle.texts.specs.Text.{text}
-use Rattle.words.specs.Words.{wordAt, sameWord}
+use Rattle.digits.specs.Lists.{sameBytes}
+use Rattle.words.specs.Words.{wordAt}
 use Rattle.word_values.specs.Values.{numberIn, numberUpTo, isText, isGood}
 use Rattle.grammar.specs.declared.Shape.{Shape}
 use Rattle.grammar.specs.declared.Shape.the-variants.{Number as Numeral, Card, CardOrNone, Text, TextOrNone, Date, Code, Bytes, Mac, Bad, Any, End}
@@ -27,7 +28,7 @@ isEmpty w = eqb (length w) 0
 
 -- - for an empty card or text
 unfoldable pub isDash : List ℕ → Bool
-isDash w = sameWord w (0x2D ∷ [])
+isDash w = sameBytes w (0x2D ∷ [])
 
 -- hexadecimal of at most 2,048 bytes
 unfoldable pub isBytes : List ℕ → Bool
@@ -44,8 +45,8 @@ fits (TextOrNone n) w = isDash w || isText n w
 fits Date w = eqb (length w) 4 && isIs (numberIn 4 w)
 fits Code w = eqb (length w) 2 && allPrintable w
 fits Bytes w = isBytes w
-fits Mac w = isGood w || sameWord w (text "bad")
-fits Bad w = isEmpty w || sameWord w (text "bad")
+fits Mac w = isGood w || sameBytes w (text "bad")
+fits Bad w = isEmpty w || sameBytes w (text "bad")
 fits Any w = true
 fits End w = isEmpty w
 

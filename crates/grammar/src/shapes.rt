@@ -40,7 +40,7 @@ fn is_number(x: Number) -> bool
 fn is_dash(w: &[u8]) -> bool
     ensures { λ r. ⌜ r ≡ isDash (now (w .entry)) ⌝ }
 {
-    words::same(w, b"-")
+    digits::same(w, b"-")
 }
 
 fn is_text(n: u8, w: &[u8]) -> bool
@@ -75,8 +75,8 @@ fn fits(shape: Shape, w: &[u8]) -> bool
         Shape::Date => (w.len() == 4) & is_number(word_values::decimal_in(4, w)),
         Shape::Code => (w.len() == 2) & field::all_printable(w),
         Shape::Bytes => is_hexadecimal(w),
-        Shape::Mac => word_values::is_good(w) | words::same(w, b"bad"),
-        Shape::Bad => (w.len() == 0) | words::same(w, b"bad"),
+        Shape::Mac => word_values::is_good(w) | digits::same(w, b"bad"),
+        Shape::Bad => (w.len() == 0) | digits::same(w, b"bad"),
         Shape::Any => true,
         Shape::End => w.len() == 0,
     }

@@ -6,6 +6,7 @@ use Prim.Native.Nat.{ℕ, _+_}
 use lib.Dec.{leb, eqb}
 use Rattle.digits.specs.declared.Number.{Number}
 use Rattle.digits.specs.declared.Number.the-variants.{Is, Not}
+use Rattle.digits.specs.Lists.{sameBytes}
 use Rattle.digits.specs.Packed.{numeral}
 use Rattle.field.specs.Table.{among}
 use Rattle.field.specs.Bitmap.{names}
@@ -14,7 +15,7 @@ use Rattle.message.specs.declared.Message.{Message}
 use Rattle.reading.specs.Reading.{readMessage}
 use Rattle.reading.specs.declared.ReadOutcome.{ReadOutcome}
 use Rattle.reading.specs.declared.ReadOutcome.the-variants.{Read, Refused}
-use Rattle.parts.specs.Parts.{sameBytes, numberIn, partOf}
+use Rattle.parts.specs.Parts.{numberIn, partOf}
 use Rattle.parts.specs.declared.Part.the-variants as part
 
 -- bytes as a message

@@ -19,14 +19,19 @@ pub data Stage : Type 0 where
   running settling uploading : Stage
 
 pub record Standing : Type 0 where
+  -- it is signed on
   pub signed : Bool
+  -- the last message sent, and whether it is awaited
   pub message : Message
   pub awaited : Bool
   pub stage : Stage
+  -- the batch number, the card requests that have left in this batch, and the last of them
   pub batch : ℕ
   pub requests : ℕ
   pub request : Message
+  -- the reason of that request's reversal, should it be reversed
   pub reason : List ℕ
+  -- the last trace taken
   pub taken : ℕ
 
 -- the trace of a message

@@ -3,21 +3,17 @@ use mathlib.Core.List.{List}
 use mathlib.Core.Bool.{Bool, cond, _&&_}
 use Prim.Native.Nat.{ℕ, _+_}
 use lib.Dec.{leb, eqb}
-use lib.ListN.{length, getD, take, drop}
-use Rattle.digits.specs.Lists.{all}
+use lib.ListN.{length, take, drop}
+use Rattle.digits.specs.Lists.{sameBytes}
 use Rattle.digits.specs.Digits.{unpack}
 use Rattle.digits.specs.Numbers.{numberOf}
 use Rattle.digits.specs.declared.Number.{Number}
-use Rattle.digits.specs.declared.Number.the-variants.{Is, Not}
+use Rattle.digits.specs.declared.Number.the-variants.{Not}
 use Rattle.field.specs.Bitmap.{names}
 use Rattle.message.specs.Message.{fieldOf}
 use Rattle.message.specs.declared.Message.{Message}
 use Rattle.parts.specs.declared.Part.{Part}
 use Rattle.parts.specs.Layout.{placeOf}
-
--- two lists hold the same bytes
-unfoldable pub sameBytes : List ℕ → List ℕ → Bool
-sameBytes a b = eqb (length a) (length b) && all (length a) (λ i. eqb (getD a i 0) (getD b i 0))
 
 -- the message names field n, and the field holds these bytes
 unfoldable pub matches : Message → ℕ → List ℕ → Bool

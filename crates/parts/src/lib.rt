@@ -8,7 +8,7 @@ ghost use Prim.Native.Nat.{_<_};
 ghost use lib.ListN.{length};
 ghost use Rattle.message.specs.Message.{fieldOf};
 ghost use Rattle.parts.specs.Layout.{placeOf, withPart};
-ghost use Rattle.parts.specs.Parts.{sameBytes, matches, copies, numberIn, partOf};
+ghost use Rattle.parts.specs.Parts.{matches, copies, numberIn, partOf};
 ghost use Rattle.parts.specs.Bounds.{Bounded};
 
 // How many digits the fields made of several parts have.
@@ -78,7 +78,7 @@ pub fn field_matches(m: Message, n: u8, b: &[u8]) -> bool
         let at = bounds_of(m, n);
         let from = at.from;
         let end = at.end;
-        return same_bytes(&contents[from..end], b);
+        return digits::same(&contents[from..end], b);
     }
     false
 }
@@ -163,22 +163,6 @@ fn wide(x: u8) -> usize
     ensures { λ r. ⌜ (r ≡ x) × (r < 256) ⌝ }
 {
     x as usize
-}
-
-fn same_bytes(a: &[u8], b: &[u8]) -> bool
-    ensures { λ r. ⌜ r ≡ sameBytes (now (a .entry)) (now (b .entry)) ⌝ }
-{
-    if a.len() != b.len() {
-        return false;
-    }
-    let mut i = 0;
-    while i < a.len() {
-        if a[i] != b[i] {
-            return false;
-        }
-        i += 1;
-    }
-    true
 }
 
 fn bounds_of(m: Message, n: u8) -> Bounds

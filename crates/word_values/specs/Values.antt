@@ -10,7 +10,7 @@ use Rattle.digits.specs.declared.Number.{Number}
 use Rattle.digits.specs.declared.Number.the-variants.{Is, Not}
 use Rattle.hexadecimal.specs.Hexadecimal.{isHex, fromHex}
 use Rattle.texts.specs.Text.{text}
-use Rattle.words.specs.Words.{sameWord}
+use Rattle.digits.specs.Lists.{sameBytes}
 
 -- the digit that a character is; 10 for another character
 unfoldable pub digitOf : ℕ → ℕ
@@ -50,4 +50,4 @@ textIn w = cond (saysBytes w) (fromHex (drop 1 w)) (tabulate (length w) (λ i. c
 
 -- a word says that a MAC is good
 unfoldable pub isGood : List ℕ → Bool
-isGood w = sameWord w (text "good")
+isGood w = sameBytes w (text "good")

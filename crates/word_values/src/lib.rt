@@ -57,7 +57,7 @@ pub fn text_into(w: &[u8], out: &mut [u8]) -> bool
 pub fn is_good(w: &[u8]) -> bool
     ensures { λ r. ⌜ r ≡ isGood (now (w .entry)) ⌝ }
 {
-    words::same(w, b"good")
+    digits::same(w, b"good")
 }
 
 fn digit_of(b: u8) -> u8

@@ -9,7 +9,8 @@ use native.Mathlib.Numerals.{add-one}
 use lib.ListN.{length, take, drop, drop-of-length-le}
 use Rattle.bytes.specs.Bytes.{indexOf, slice}
 use Rattle.digits.proofs.Lists.{tail-part}
-use Rattle.words.specs.Words.{wordAt, sameWord}
+use Rattle.words.specs.Words.{wordAt}
+use Rattle.digits.specs.Lists.{sameBytes}
 use Rattle.words.specs.Rows.{firstRow, otherRows, rowsAfter, row, rowNamed}
 use Rattle.words.proofs.Words.{found}
 
@@ -47,17 +48,17 @@ pub past-none : (n : ℕ) (w t : List ℕ) → Past n w t 0
 past-none n w t = let q : n - 0 ≡ n = omega arith in record { bound = omega arith; eq = rw q (omega arith) }
 
 named-of : (m : ℕ) (w t : List ℕ) → 0 < m
-    → rowNamed m w t ≡ cond (sameWord w (wordAt 0 (firstRow t))) 0 (suc (rowNamed (m - 1) w (otherRows t)))
+    → rowNamed m w t ≡ cond (sameBytes w (wordAt 0 (firstRow t))) 0 (suc (rowNamed (m - 1) w (otherRows t)))
 unfolding rowNamed
 named-of zero w t h = absurd (not-suc-le-zero h)
 named-of (suc m) w t h = let q : suc m - 1 ≡ m = omega arith in rw q
 
 module _ {n k : ℕ} {w t : List ℕ} (p : Past n w t k) where
-  pub past-here : k < n → sameWord w (wordAt 0 (row k t)) ≡ true → k ≡ rowNamed n w t
+  pub past-here : k < n → sameBytes w (wordAt 0 (row k t)) ≡ true → k ≡ rowNamed n w t
   unfolding row
   past-here h e = sym (p .eq ∙ rw (named-of (n - k) w (rowsAfter k t) (omega arith), e) (omega arith))
 
-  pub past-more : k < n → sameWord w (wordAt 0 (row k t)) ≡ false → Past n w t (k + 1)
+  pub past-more : k < n → sameBytes w (wordAt 0 (row k t)) ≡ false → Past n w t (k + 1)
   unfolding row
   past-more h e =
       let q : n - (k + 1) ≡ n - k - 1 = omega arith in

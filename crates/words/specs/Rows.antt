@@ -4,7 +4,8 @@ use mathlib.Core.Bool.{cond}
 use Prim.Native.Nat.{ℕ, zero, suc}
 use lib.ListN.{take, drop}
 use Rattle.bytes.specs.Bytes.{indexOf}
-use Rattle.words.specs.Words.{wordAt, sameWord}
+use Rattle.words.specs.Words.{wordAt}
+use Rattle.digits.specs.Lists.{sameBytes}
 
 -- the first row of a table, and the rows that follow it
 unfoldable pub firstRow : List ℕ → List ℕ
@@ -25,4 +26,4 @@ row k t = firstRow (rowsAfter k t)
 -- the number of the first of n rows that has the name w; n where none has
 unfoldable pub rowNamed : ℕ → List ℕ → List ℕ → ℕ
 rowNamed zero w t = 0
-rowNamed (suc n) w t = cond (sameWord w (wordAt 0 (firstRow t))) 0 (suc (rowNamed n w (otherRows t)))
+rowNamed (suc n) w t = cond (sameBytes w (wordAt 0 (firstRow t))) 0 (suc (rowNamed n w (otherRows t)))

@@ -1,11 +1,8 @@
 -- The words of a line, parted by one or more spaces.
 use mathlib.Core.List.{List}
-use mathlib.Core.Bool.{Bool, _&&_}
 use Prim.Native.Nat.{ℕ, zero, suc}
-use lib.Dec.{eqb}
-use lib.ListN.{length, getD, take, drop}
+use lib.ListN.{take, drop}
 use Rattle.bytes.specs.Bytes.{indexOf}
-use Rattle.digits.specs.Lists.{all}
 use Rattle.words.specs.Lines.{trimmed}
 
 -- s from its first space on
@@ -27,7 +24,3 @@ after (suc k) s = after k (rest s)
 -- word k, the first being 0; empty where there are fewer
 unfoldable pub wordAt : ℕ → List ℕ → List ℕ
 wordAt k s = firstWord (after k s)
-
--- two words are the same
-unfoldable pub sameWord : List ℕ → List ℕ → Bool
-sameWord a b = eqb (length a) (length b) && all (length a) (λ i. eqb (getD a i 0) (getD b i 0))

@@ -6,7 +6,7 @@ pub use rows::row_named;
 ghost use mathlib.Core.Path.{_≡_};
 ghost use lib.ListN.{length};
 ghost use Rattle.words.specs.Lines.{spaces, lastEnd, trimmed, skipped};
-ghost use Rattle.words.specs.Words.{pastWord, firstWord, rest, after, wordAt, sameWord};
+ghost use Rattle.words.specs.Words.{pastWord, firstWord, rest, after, wordAt};
 
 // What follows k words of a line.
 pub fn after(s: &[u8], k: u8) -> &[u8]
@@ -23,23 +23,6 @@ pub fn word(s: &[u8], k: u8) -> &[u8]
     ensures { λ r. ⌜ now r ≡ wordAt k (now (s .entry)) ⌝ }
 {
     first_word(after(s, k))
-}
-
-// Whether two words are the same.
-pub fn same(a: &[u8], b: &[u8]) -> bool
-    ensures { λ r. ⌜ r ≡ sameWord (now (a .entry)) (now (b .entry)) ⌝ }
-{
-    if a.len() != b.len() {
-        return false;
-    }
-    let mut i = 0;
-    while i < a.len() {
-        if a[i] != b[i] {
-            return false;
-        }
-        i += 1;
-    }
-    true
 }
 
 // A line without the spaces before its first word and after its last.

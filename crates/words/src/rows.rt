@@ -1,5 +1,4 @@
 // Tables of text: each row ends in a line feed, and its first word is its name.
-use crate::same;
 use crate::word;
 ghost use mathlib.Core.Path.{_≡_};
 ghost use Rattle.words.specs.Rows.{firstRow, otherRows, rowsAfter, row, rowNamed};
@@ -17,7 +16,7 @@ pub fn row_named(n: usize, w: &[u8], t: &[u8]) -> usize
 {
     let mut k = 0;
     while k < n {
-        if same(w, word(row(t, k), 0)) {
+        if digits::same(w, word(row(t, k), 0)) {
             return k;
         }
         k += 1;

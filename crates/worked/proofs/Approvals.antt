@@ -4,13 +4,11 @@ use mathlib.Core.List.{List, [], _∷_}
 use mathlib.Core.Bool.{true, true≢false}
 use Prim.Native.Nat.{ℕ, _≤_, _<_}
 use native.Mathlib.Omega.{arith}
-use lib.Dec.{eqb}
-use lib.ListN.{length, getD, drop, replicate}
+use lib.ListN.{length, drop, replicate}
 use lib.Seq.{take-at}
-use borrow.Author.Tests.{eq-eqb}
 use Rattle.digits.specs.Digits.{half, unpack, packedByte, pack, halfAllowed, isPacked, allDigits}
 use Rattle.digits.specs.Numbers.{value, digitsOf, numberOf}
-use Rattle.digits.proofs.Lists.{all-true}
+use Rattle.digits.proofs.Lists.{same-bytes}
 use Rattle.field.specs.Table.{among, indicators, formats}
 use Rattle.field.specs.Bitmap.{names}
 use Rattle.field.specs.Contents.{allowed, allPrintable}
@@ -20,7 +18,7 @@ use Rattle.message.specs.declared.Message.{Message}
 use Rattle.reading.specs.Reading.{readMessage}
 use Rattle.reading.specs.declared.Reading.{Reading}
 use Rattle.writing.specs.Writing.{messageBytes}
-use Rattle.parts.specs.Parts.{sameBytes, matches, numberIn, partOf}
+use Rattle.parts.specs.Parts.{matches, numberIn, partOf}
 use Rattle.parts.specs.declared.Part.the-variants as part
 use Rattle.kinds.specs.Kinds.{isKind, indicatorOf}
 use Rattle.entry.specs.Form.{inForm}
@@ -46,12 +44,6 @@ read-back i xs l h =
     rw (take-at b (drop (length b) o) (length b) refl)
     at (rw (written-is i xs o l h (omega arith)) at (sent-reads-back i xs o l h (omega arith)))
 
--- bytes are the same as themselves
-same : (b : List ℕ) → sameBytes b b ≡ true
-unfolding sameBytes
-same b = rw (eq-eqb (length b) (length b) refl)
-    (all-true (λ i. eqb (getD b i 0) (getD b i 0)) (length b) (λ i h. eq-eqb (getD b i 0) (getD b i 0) refl))
-
 -- a message that reads as these fields has each of them
 module _ {i : ℕ} {xs : List Item} {r : Reading} (reads : Reads i xs r) (n : ℕ) (least : 0 < n) (most : n ≤ 64) (there : has xs n ≡ true) where
   named : names (r .message .bitmap) n ≡ true
@@ -59,7 +51,7 @@ module _ {i : ℕ} {xs : List Item} {r : Reading} (reads : Reads i xs r) (n : �
 
   matching : matches (r .message) n (find xs n .bytes) ≡ true
   unfolding matches
-  matching = rw (named, reads .fields n there) (same (find xs n .bytes))
+  matching = rw (named, reads .fields n there) (same-bytes (find xs n .bytes))
 
 -- the sale that is approved
 abbrev pub asked : ℕ → ℕ → Request

@@ -2,6 +2,7 @@
 use Prim.Native.Nat.{ℕ}
 use Rattle.numbers.specs.Numbers.{within, following}
 use Rattle.digits.specs.Digits.{half, unpack, packedByte, pack, halfAllowed, isPacked, allDigits}
+use Rattle.digits.specs.Lists.{sameBytes}
 use Rattle.digits.specs.Numbers.{value, numberOf}
 use Rattle.field.specs.Table.{formats, indicators}
 use Rattle.field.specs.Bitmap.{bit, names, listedAt, listed}
@@ -11,7 +12,7 @@ use Rattle.message.specs.Message.{fieldIn}
 use Rattle.reading.specs.Reading.{readFields, readMessage}
 use Rattle.writing.specs.Writing.{namedBytes, fieldsBytes, messageBytes}
 use Rattle.digits.specs.Packed.{packedNumber}
-use Rattle.parts.specs.Parts.{sameBytes, matches, copies, numberIn}
+use Rattle.parts.specs.Parts.{matches, copies, numberIn}
 use Rattle.kinds.specs.Kinds.{isKind, indicatorOf, processingOf, conditionOf, isDebit, isCredit, sideOf, isDue, takesOriginal, originalKind, isVoidable}
 use Rattle.entry.specs.Entry.{decode, encode, allZero}
 use Rattle.entry.specs.Form.{cardInForm, inForm, keepsVoided, keepsUnmarked, keepsResends, keepsSilent}

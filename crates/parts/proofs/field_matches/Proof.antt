@@ -14,20 +14,20 @@ named-requires c κs = search needs
 bounds-of-requires : tie.Need-bounds-of-requires
 bounds-of-requires c κs = search needs
 
-sub-same-bytes : tie.Need-sub-same-bytes
-sub-same-bytes c = search needs
+sub-same : tie.Need-sub-same
+sub-same c = search needs
 
-part-same-bytes-start : tie.Need-part-same-bytes-start
-part-same-bytes-start c = search needs
+part-same-start : tie.Need-part-same-start
+part-same-start c = search needs
 
-part-same-bytes-end : tie.Need-part-same-bytes-end
-part-same-bytes-end c =
+part-same-end : tie.Need-part-same-end
+part-same-end c =
     let at-args-m = c .before .before .before .before .before .before .before .before .args .m in
     let l : length (at-args-m .contents) ≡ rooms = search needs in
     omega arith
 
-same-bytes-requires : tie.Need-same-bytes-requires
-same-bytes-requires c κs = search needs
+same-requires : tie.Need-same-requires
+same-requires c κs = search needs
 
 returns : tie.Need-returns
 unfolding matches
@@ -36,7 +36,7 @@ returns c =
     let at-if1 = c .before .before .before .before .if1 in
     let at-bounds-of = c .before .before .before .bounds-of in
     let named = sym (at-named .ensures) ∙ at-if1 .taken in
-    rw (named, ← at-bounds-of .ensures .bytes-are) (c .same-bytes .ensures)
+    rw (named, ← at-bounds-of .ensures .bytes-are) (c .same .ensures)
 
 returns-2 : tie.Need-returns-2
 unfolding matches
@@ -48,9 +48,9 @@ field-matches-spec =
     (tie.spec
     named-requires
     bounds-of-requires
-    sub-same-bytes
-    part-same-bytes-start
-    part-same-bytes-end
-    same-bytes-requires
+    sub-same
+    part-same-start
+    part-same-end
+    same-requires
     returns
     returns-2)
