@@ -7,7 +7,7 @@ use native.Mathlib.Omega.{arith}
 use lib.Dec.{eqb}
 use lib.ListN.{length, take, drop}
 use lib.Seq.{take-at}
-use Rattle.field.specs.Table.{among, formats}
+use Rattle.field.specs.Table.{formats}
 use Rattle.field.specs.Bitmap.{names}
 use Rattle.message.specs.Build.{Item, has, bitmapFor, messageOf}
 use Rattle.message.specs.declared.Message.{Message}
@@ -19,6 +19,7 @@ use Rattle.message_theorems.proofs.Messages.{read-head}
 use Rattle.numbers.specs.declared.Trace.{Trace}
 use Rattle.numbers.specs.declared.Batch.{Batch}
 use Rattle.kinds.specs.Kinds.{indicatorOf}
+use Rattle.kinds.proofs.Types.{each-type}
 use Rattle.entry.specs.declared.Entry.{Entry}
 use Rattle.journal.specs.Journal.{entriesOf, entryAt, totalsOf, nextDue, taken}
 use Rattle.journal.specs.declared.Found.{Found}
@@ -99,13 +100,8 @@ sound i xs a b c d h q =
 
 -- the five messages
 request-left : (kind : ℕ) → leftAs (indicatorOf kind) ≡ Request
-unfolding leftAs indicatorOf
-request-left kind = go (among kind (10 ∷ 11 ∷ [])) (among kind (20 ∷ 21 ∷ 22 ∷ 23 ∷ []))
-  where
-    go : (a b : Bool) → leftAs (cond a 0x0100 (cond b 0x0200 0x0220)) ≡ Request
-    go true b = refl
-    go false true = refl
-    go false false = refl
+unfolding leftAs
+request-left kind = each-type (λ i. leftAs i ≡ Request) refl refl refl kind
 
 module _ (x : Settings) (batch : Batch) where
   request-sound : (q : Asked) (o : Original) → Sound (messageBytes (requestMessage x batch q o))

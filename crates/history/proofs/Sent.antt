@@ -1,19 +1,17 @@
 -- The five messages that leave: what each says, and what type the history takes it for.
 use mathlib.Core.Path.{_≡_, refl, ap}
 use mathlib.Core.List.{List, [], _∷_}
-use mathlib.Core.Bool.{Bool, true, false, cond, _||_}
+use mathlib.Core.Bool.{Bool, true, false}
 use Prim.Native.Nat.{ℕ, _≤_}
 use native.Mathlib.Omega.{arith}
 use lib.Dec.{eqb}
 use lib.ListN.{length}
-use borrow.Author.Tests.{eqb-true}
 use Rattle.numbers.specs.Limits.{largestTotal, lastNumber}
 use Rattle.digits.specs.Digits.{pack}
 use Rattle.digits.specs.Numbers.{digitsOf}
 use Rattle.digits.specs.declared.Number.the-variants.{Is}
 use Rattle.digits.proofs.Numbers.{digitsOf-digits}
 use Rattle.field.specs.Table.{among}
-use Rattle.field.proofs.Formats.{among-below}
 use Rattle.message.specs.Message.{largest, fieldOf}
 use Rattle.message.specs.declared.Message.{Message}
 use Rattle.writing.specs.Writing.{messageBytes}
@@ -22,6 +20,7 @@ use Rattle.parts.specs.declared.Part.the-variants as part
 use Rattle.numbers.specs.declared.Trace.{Trace}
 use Rattle.numbers.specs.declared.Batch.{Batch}
 use Rattle.kinds.specs.Kinds.{isKind, indicatorOf}
+use Rattle.kinds.proofs.Types.{each-type, kind-small}
 use Rattle.entry.specs.declared.Entry.{Entry}
 use Rattle.kinds.specs.declared.Totals.{Totals}
 use Rattle.state.specs.declared.Request.{Request}
@@ -45,13 +44,14 @@ pub record Typed (request reversal settlement end : Bool) (m : Message) : Type 0
   pub is-end : isEnd m ≡ end
 
 pub request-typed : (kind : ℕ) (m : Message) → m .indicator ≡ indicatorOf kind → Typed true false false false m
-unfolding isRequest isReversal isSettlement isEnd indicatorOf
-request-typed kind m e = go (among kind (10 ∷ 11 ∷ [])) (among kind (20 ∷ 21 ∷ 22 ∷ 23 ∷ [])) e
-  where
-    go : (a b : Bool) → m .indicator ≡ cond a 0x0100 (cond b 0x0200 0x0220) → Typed true false false false m
-    go true b e = record { is-request = rw e; is-reversal = rw e; is-settlement = rw e; is-end = rw e }
-    go false true e = record { is-request = rw e; is-reversal = rw e; is-settlement = rw e; is-end = rw e }
-    go false false e = record { is-request = rw e; is-reversal = rw e; is-settlement = rw e; is-end = rw e }
+unfolding isRequest isReversal isSettlement isEnd
+request-typed kind m e =
+    record {
+      is-request = rw e (each-type (λ i. among i (0x0100 ∷ 0x0200 ∷ 0x0220 ∷ []) ≡ true) refl refl refl kind);
+      is-reversal = rw e (each-type (λ i. eqb i 0x0400 ≡ false) refl refl refl kind);
+      is-settlement = rw e (each-type (λ i. eqb i 0x0500 ≡ false) refl refl refl kind);
+      is-end = rw (e, each-type (λ i. eqb i 0x0320 ≡ false) refl refl refl kind);
+    }
 
 pub reversal-typed : (m : Message) → m .indicator ≡ 0x0400 → Typed false true false false m
 unfolding isRequest isReversal isSettlement isEnd
@@ -70,17 +70,6 @@ pub end-typed : (m : Message) → m .indicator ≡ 0x0320 → partOf m part.Mana
 unfolding isRequest isReversal isSettlement isEnd
 end-typed m e c =
     record { is-request = rw e; is-reversal = rw e; is-settlement = rw e; is-end = rw (c, e) }
-
--- a kind has two digits
-pub kind-small : (k : ℕ) → isKind k ≡ true → k ≤ 99
-unfolding isKind
-kind-small k h = go (among k (10 ∷ 11 ∷ [])) (among k (20 ∷ 21 ∷ 22 ∷ 23 ∷ [])) (eqb k 25) refl refl refl h
-  where
-    go : (a b c : Bool) → among k (10 ∷ 11 ∷ []) ≡ a → among k (20 ∷ 21 ∷ 22 ∷ 23 ∷ []) ≡ b → eqb k 25 ≡ c → (a || b || c) ≡ true → k ≤ 99
-    go true b c p q r h = let l = among-below k 100 (10 ∷ 11 ∷ []) p refl in omega arith
-    go false true c p q r h = let l = among-below k 100 (20 ∷ 21 ∷ 22 ∷ 23 ∷ []) q refl in omega arith
-    go false false true p q r h = let l = eqb-true k 25 r in omega arith
-    go false false false p q r h = let z : _≡_ {A = ℕ} 0 1 = cc in omega arith
 
 -- a settlement's message: what an answer has to repeat, and the totals
 pub record Settles (x : Settings) (batch : Batch) (trace : Trace) (t : Totals) (m : Message) : Type 0 where

@@ -11,6 +11,7 @@ use Rattle.message.specs.Build.{Item, digits, bytes, messageOf}
 use Rattle.message.specs.Message.{largest}
 use Rattle.numbers.specs.declared.Batch.{Batch}
 use Rattle.kinds.specs.Kinds.{indicatorOf, processingOf, conditionOf, takesOriginal, keysReference, keysAuthorisation}
+use Rattle.kinds.proofs.Types.{each-type}
 use Rattle.state.specs.declared.Request.{Request}
 use Rattle.state.specs.declared.Reason.{Reason}
 use Rattle.state.specs.declared.Reason.the-variants.{Silence, BadMac}
@@ -110,13 +111,8 @@ module _ (x : Settings) (batch : Batch) (v : Reversal) (h : CardHeld x (v .reque
 
 -- the types that leave are listed
 pub request-listed : (kind : ℕ) → among (indicatorOf kind) indicators ≡ true
-unfolding indicatorOf indicators
-request-listed kind = go (among kind (10 ∷ 11 ∷ [])) (among kind (20 ∷ 21 ∷ 22 ∷ 23 ∷ []))
-  where
-    go : (a b : Bool) → among (cond a 0x0100 (cond b 0x0200 0x0220)) indicators ≡ true
-    go true b = refl
-    go false true = refl
-    go false false = refl
+unfolding indicators
+request-listed kind = each-type (λ i. among i indicators ≡ true) refl refl refl kind
 
 pub reversal-listed : among 0x0400 indicators ≡ true
 unfolding indicators

@@ -4,7 +4,7 @@ use borrow.Author.Needs.{needs}
 use native.Mathlib.Omega.{arith}
 use Prim.Native.Nat.{ℕ, _≤_}
 use Rattle.kinds.specs.Kinds.{indicatorOf}
-use Rattle.kinds.proofs.Runs.{indicator-bound}
+use Rattle.kinds.proofs.Types.{indicator-bound}
 use Rattle.answer_match.proofs.indicator_sent.Statement.{statement}
 use Rattle.answer_match.proofs.indicator_sent.Tie as tie
 
