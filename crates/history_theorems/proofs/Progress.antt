@@ -13,6 +13,7 @@ use Rattle.entry.specs.declared.Entry.{Entry}
 use Rattle.journal.specs.Journal.{entryAt, firstOf, dueWith, otherwise, nextDue, changedAt, withVoided}
 use Rattle.journal.specs.declared.Found.{Found}
 use Rattle.journal.specs.declared.Found.the-variants.{At, Nowhere}
+use Rattle.history.specs.Words.{isDebit, isCredit}
 use Rattle.history_theorems.specs.Approvals.{Approval, IsEntry, AreEntries}
 use Rattle.history_theorems.specs.Uploads.{Progress, unsent, silent, ended, isUnsent, isSilent, isDue, Place, none, at, firstAt, orElse, nextItem, leaves, falls-silent, changeAt, AtPlace, Few, EachFew}
 
@@ -88,7 +89,7 @@ first-alike q r f i (e ∷ es) (x ∷ xs) (p ∷ ps) h m =
     go false = refl
 
 due-alike : (e : Entry) (x : Approval) (later : List Approval) → IsEntry e x later → isDue (x .request) ≡ dueEntry e
-unfolding isDue kinds.isDue kinds.isDebit kinds.isCredit
+unfolding isDue isDebit isCredit kinds.isDue kinds.isDebit kinds.isCredit
 due-alike e x later h = rw (h .kind-is)
 
 unsent-alike : (e : Entry) (p : Progress) → IsMarked e p → isUnsent p ≡ eqb (e .mark) 0

@@ -5,14 +5,13 @@ use mathlib.Core.List.{List, [], _∷_, _++_}
 use mathlib.Core.Bool.{Bool, true, false, cond, not, _&&_, _||_}
 use Prim.Native.Nat.{ℕ, zero, suc, _+_, _≤_}
 use lib.Dec.{leb}
-use Rattle.field.specs.Table.{among}
 use Rattle.field.specs.Bitmap.{names}
 use Rattle.message.specs.Message.{fieldOf}
 use Rattle.message.specs.declared.Message.{Message}
 use Rattle.state.specs.declared.Settings.{Settings}
 use Rattle.terminal.specs.Events.{Event, signed-on, starts, answers, no-answer, power-returned, send-reversal, settles, send-next-upload}
 use Rattle.terminal.specs.Shapes.{SettingsShaped}
-use Rattle.history.specs.Words.{messageIn, kindIn, amountIn, isRequest, isApproval, macGood, isEnd, closesBatch}
+use Rattle.history.specs.Words.{messageIn, kindIn, amountIn, isRequest, isApproval, macGood, isEnd, closesBatch, isDebit, isCredit}
 use Rattle.history.specs.History.{Given, sent, quiet, refused, History}
 use Rattle.history.specs.Demand.{Invocation, runs, begun, InvocationsShaped, Each}
 use Rattle.history_theorems.specs.Standing.{Standing, traceIn, standing}
@@ -37,7 +36,7 @@ isSilent ended = false
 
 -- a debit or credit request
 unfoldable pub isDue : Message → Bool
-isDue m = among (kindIn m) (20 ∷ 22 ∷ []) || among (kindIn m) (21 ∷ 23 ∷ 25 ∷ [])
+isDue m = isDebit m || isCredit m
 
 -- the place of the first approval that passes a test
 pub data Place : Type 0 where
