@@ -22,9 +22,9 @@ not-true false e = refl
 abbrev pub Leaves : (Entry → Entry) → Type 0
 Leaves f = (e : Entry) (x : Approval) (later : List Approval) → IsEntry e x later → IsEntry (f e) x later
 
-pub mark-leaves : (n : ℕ) → Leaves (withMark n)
-unfolding withMark
-mark-leaves n e x later h =
+marked-leaves : (mark resends : ℕ) → Leaves (λ e. withResends resends (withMark mark e))
+unfolding withMark withResends
+marked-leaves mark resends e x later h =
     record {
       kind-is = h .kind-is;
       trace-is = h .trace-is;
@@ -37,20 +37,13 @@ mark-leaves n e x later h =
       voided-is = h .voided-is;
     }
 
+pub mark-leaves : (n : ℕ) → Leaves (withMark n)
+unfolding withMark withResends
+mark-leaves n e x later h = marked-leaves n (e .resends) e x later h
+
 pub resends-leave : (n : ℕ) → Leaves (withResends n)
-unfolding withResends
-resends-leave n e x later h =
-    record {
-      kind-is = h .kind-is;
-      trace-is = h .trace-is;
-      amount-is = h .amount-is;
-      digits-are = h .digits-are;
-      card-is = h .card-is;
-      date-is = h .date-is;
-      authorisation-is = h .authorisation-is;
-      reference-is = h .reference-is;
-      voided-is = h .voided-is;
-    }
+unfolding withMark withResends
+resends-leave n e x later h = marked-leaves (e .mark) n e x later h
 
 pub changed-entries : (f : Entry → Entry) → Leaves f → (i : ℕ) (es : List Entry) (xs : List Approval) → AreEntries es xs
     → AreEntries (changedAt i f es) xs

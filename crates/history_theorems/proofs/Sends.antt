@@ -14,11 +14,10 @@ use Rattle.numbers.specs.Numbers.{following}
 use Rattle.numbers.specs.declared.Trace.{Trace}
 use Rattle.digits.specs.Numbers.{digitsOf}
 use Rattle.digits.proofs.Numbers.{digitsOf-digits}
-use Rattle.message.specs.Build.{Item, has, digits, find}
+use Rattle.message.specs.Build.{Item, has, digits, bytes, find}
 use Rattle.message.specs.Message.{Field, largest, fieldOf}
 use Rattle.message.specs.declared.Message.{Message}
 use Rattle.reading.specs.Reading.{readMessage}
-use Rattle.reading.specs.declared.Reading.{Reading}
 use Rattle.writing.specs.Writing.{messageBytes}
 use Rattle.entry.specs.Form.{inForm}
 use Rattle.entry.specs.declared.Entry.{Entry}
@@ -44,7 +43,7 @@ use Rattle.kinds.specs.declared.Totals.{Totals}
 use Rattle.traces.proofs.Free.{taken-range}
 use Rattle.outgoing.specs.Held.{CardHeld, SettingsHeld}
 use Rattle.outgoing.specs.Outgoing as outgoing
-use Rattle.outgoing.specs.Outgoing.{reversalFields, reversalMessage}
+use Rattle.outgoing.specs.Outgoing.{reasonCode, reversalFields, reversalMessage}
 use Rattle.outgoing.proofs.Leaving.{reversal-held, reversal-listed}
 use Rattle.outgoing_theorems.specs.Theorems.{Reads}
 use Rattle.batch_messages.specs.BatchMessages.{settlementFields, settlementMessage, itemMessage, endFields, endMessage}
@@ -64,7 +63,7 @@ use Rattle.history.proofs.Starts.{card-held}
 use Rattle.history.proofs.Settles.{settings-held, sayable, entry-held}
 use Rattle.history_theorems.specs.Standing.{Stage, running, settling, uploading, Standing, traceIn, isNew, next, whenSent}
 use Rattle.history_theorems.specs.Judged.{cardFields, EachOf, reversalPending, uploads, whenIdle, numberOf, isUpload}
-use Rattle.history_theorems.proofs.Stands.{At, Members, HoldsCard, Stands, awaits, uploaded, pending-is}
+use Rattle.history_theorems.proofs.Stands.{At, Members, card-read, Stands, awaits, uploaded, pending-is}
 use Rattle.history_theorems.proofs.Said.{Said, goes, judged-said, same-number}
 use Rattle.history_theorems.proofs.Quiet.{flip, never}
 
@@ -169,28 +168,6 @@ reversal-reads : (x : Settings) (batch : Batch) (m : List ℕ) (v : Reversal) �
 unfolding reversalMessage
 reversal-reads x batch m v h r = sent-reads 0x0400 (reversalFields x batch v) m reversal-listed (reversal-held x batch v h) r
 
-reversal-card : (x : Settings) (batch : Batch) (m : List ℕ) (v : Reversal) {r : Reading} → Reads 0x0400 (reversalFields x batch v) r
-    → HoldsCard x batch (v .request) (r .message)
-reversal-card x batch m v r = (
-  r .fields 2 refl,
-  (
-    r .fields 3 refl,
-    (
-      r .fields 4 refl,
-      (
-        r .fields 11 refl,
-        (
-          r .fields 22 refl,
-          (
-            r .fields 25 refl,
-            (r .fields 41 refl, (r .fields 42 refl, (r .fields 49 refl, (r .fields 60 refl, (r .fields 64 refl, tt))))),
-          ),
-        ),
-      ),
-    ),
-  ),
-)
-
 -- two messages that hold the same
 each-same : (ns : List ℕ) (m r : Message) (f : ℕ → Field) → EachOf (λ n. fieldOf m n ≡ f n) ns → EachOf (λ n. fieldOf r n ≡ f n) ns
     → EachOf (λ n. fieldOf m n ≡ fieldOf r n) ns
@@ -221,7 +198,7 @@ module _ (l : ℕ) (t : State) (lent : Lent) (a : Account) (y : Standing) (n : �
         named = r .named;
         same =
             each-same cardFields (messageIn b) (y .request) (find (outgoing.cardFields (t .settings) (t .batch) (v .request)))
-            (reversal-card (t .settings) (t .batch) (lent .message) (again v) r) (h .details .0);
+            (card-read (t .settings) (t .batch) (v .request) 0x0400 (bytes 39 (reasonCode (v .reason)) ∷ []) _ r) (h .details .0);
         reason-is = ap (λ (f : Field). f .bytes) (r .fields 39 refl) ∙ h .details .1;
         batch-is = numbered t y (said .batch-number) (h .members);
       })

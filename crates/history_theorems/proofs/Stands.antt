@@ -1,13 +1,14 @@
 -- The invariant: what the terminal's state says of where the history says that it stands.
 use mathlib.Core.Path.{_≡_, refl, sym, ap}
-use mathlib.Core.List.{List, [], _∷_}
+use mathlib.Core.List.{List, [], _∷_, _++_}
 use mathlib.Core.Bool.{Bool, true, false, cond, true≢false}
 use Prim.Native.Nat.{ℕ, _+_}
 use lib.Dec.{ltb}
 use Rattle.digits.specs.Numbers.{digitsOf}
-use Rattle.message.specs.Build.{digits, find}
+use Rattle.message.specs.Build.{Item, digits, find}
 use Rattle.message.specs.Message.{fieldOf}
 use Rattle.message.specs.declared.Message.{Message}
+use Rattle.reading.specs.declared.Reading.{Reading}
 use Rattle.numbers.specs.declared.Batch.{Batch}
 use Rattle.entry.specs.declared.Entry.{Entry}
 use Rattle.journal.specs.Journal.{entriesOf, entryAt}
@@ -23,6 +24,7 @@ use Rattle.state.specs.State as state
 use Rattle.state.specs.State.{waits, pends}
 use Rattle.outgoing.specs.Outgoing as outgoing
 use Rattle.outgoing.specs.Outgoing.{reasonCode}
+use Rattle.outgoing_theorems.specs.Theorems.{Reads}
 use Rattle.kinds.specs.Kinds.{takesOriginal}
 use Rattle.history.specs.Words.{kindIn, amountIn}
 use Rattle.history.specs.History.{Fate, deciding, pending, out, ended, Request, Account, isWaiting, count}
@@ -69,6 +71,29 @@ Members s y =
 -- a message holds what every card request of this one's holds
 abbrev pub HoldsCard : Settings → Batch → Asked → Message → Type 0
 HoldsCard x batch q m = EachOf (λ n. fieldOf m n ≡ find (outgoing.cardFields x batch q) n) cardFields
+
+-- so does a message that reads back to the fields of its card and others
+pub card-read : (x : Settings) (batch : Batch) (q : Asked) (i : ℕ) (others : List Item) (r : Reading)
+    → Reads i (outgoing.cardFields x batch q ++ others) r → HoldsCard x batch q (r .message)
+card-read x batch q i others r h = (
+  h .fields 2 refl,
+  (
+    h .fields 3 refl,
+    (
+      h .fields 4 refl,
+      (
+        h .fields 11 refl,
+        (
+          h .fields 22 refl,
+          (
+            h .fields 25 refl,
+            (h .fields 41 refl, (h .fields 42 refl, (h .fields 49 refl, (h .fields 60 refl, (h .fields 64 refl, tt))))),
+          ),
+        ),
+      ),
+    ),
+  ),
+)
 
 -- what the message of a card request says of it
 pub record Names (q : Asked) (m : Message) : Type 0 where

@@ -39,7 +39,7 @@ use Rattle.parts.specs.Layout.{widths}
 use Rattle.parts.proofs.Laid.{laid-digits}
 use Rattle.message.specs.Message.{largest}
 use Rattle.outgoing.specs.Held.{CardHeld, OriginalHeld}
-use Rattle.outgoing.specs.Outgoing.{field61, requestFields, requestMessage}
+use Rattle.outgoing.specs.Outgoing.{field61, originalFields, requestFields, requestMessage}
 use Rattle.outgoing.proofs.Leaving.{request-held, request-listed}
 use Rattle.outgoing.specs.declared.Original.{Original}
 use Rattle.state_effects.specs.StateEffects.{requested}
@@ -59,7 +59,7 @@ use Rattle.history.proofs.Starts.{request-form}
 use Rattle.history_theorems.specs.Approvals.{originalIn}
 use Rattle.history_theorems.specs.Standing.{running, Standing, traceIn, isNew, next, whenSent}
 use Rattle.history_theorems.specs.Judged.{reversalPending, closes, numberOf, JudgedBy}
-use Rattle.history_theorems.proofs.Stands.{PhaseStands, Members, HoldsCard, Names, Stands, awaits, closing, pending-is}
+use Rattle.history_theorems.proofs.Stands.{PhaseStands, Members, HoldsCard, card-read, Names, Stands, awaits, closing, pending-is}
 use Rattle.history_theorems.proofs.Ledger.{original-trace}
 use Rattle.history_theorems.proofs.Said.{Said, goes, judged-said}
 use Rattle.history_theorems.proofs.Sends.{idle-number, sent-at, numbered}
@@ -138,25 +138,8 @@ request-card : (x : Settings) (batch : Batch) (m : List ℕ) (q : Request) (o : 
     → HoldsCard x batch q (messageIn (handedOut (messageBytes (requestMessage x batch q o)) m))
 unfolding requestMessage
 request-card x batch m q o c g room =
-    let r = sent-reads (indicatorOf (q .kind)) (requestFields x batch q o) m (request-listed (q .kind)) (request-held x batch q o c g) room in (
-      r .fields 2 refl,
-      (
-        r .fields 3 refl,
-        (
-          r .fields 4 refl,
-          (
-            r .fields 11 refl,
-            (
-              r .fields 22 refl,
-              (
-                r .fields 25 refl,
-                (r .fields 41 refl, (r .fields 42 refl, (r .fields 49 refl, (r .fields 60 refl, (r .fields 64 refl, tt))))),
-              ),
-            ),
-          ),
-        ),
-      ),
-    )
+    card-read x batch q (indicatorOf (q .kind)) (originalFields (q .kind) o) _
+    (sent-reads (indicatorOf (q .kind)) (requestFields x batch q o) m (request-listed (q .kind)) (request-held x batch q o c g) room)
 
 module _ (l : ℕ) (s : State) (lent : Lent) (a : Account) (y : Standing) (tied : Tied l s (lent .journal) a) (h : Stands s (lent .journal) y) (d : Desk)
     (authorisation : length (d .authorisation) ≡ 6) (reference : length (d .reference) ≡ 12) where
