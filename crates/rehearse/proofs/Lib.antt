@@ -1,3 +1,2 @@
--- Laws of the calls and of the lines of a script, for the proofs of this crate.
-pub mod Calls
+-- Laws of the lines of a script, for the proofs of this crate.
 pub mod Laws

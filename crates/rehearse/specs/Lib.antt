@@ -1,3 +1,2 @@
 pub mod Rehearsal
 pub mod Commands
-pub mod Asked

@@ -2,13 +2,7 @@
 use mathlib.Core.Path.{_≡_}
 use mathlib.Core.List.{List}
 use Prim.Native.Nat.{ℕ}
-use lib.ListN.{take, replicate}
-use Rattle.message.specs.Message.{largest}
-use Rattle.message.specs.declared.Message.{Message}
-use Rattle.reading.specs.Reading.{readMessage}
-use Rattle.writing.specs.Writing.{writeMessage}
 use Rattle.state.specs.Calls.{Lent, Result}
-use Rattle.outgoing.specs.Outgoing.{lengthOf}
 use Rattle.terminal.specs.Events.{Event, call}
 use Rattle.texts.specs.Text.{Text}
 use Rattle.screen.specs.Outcomes.{outcomeLine}
@@ -32,13 +26,6 @@ pub record Did (d : Done) (a : Acted) (lent : Lent) (o : List ℕ) : Type 0 wher
 abbrev pub writes : List ℕ → Rehearsal → Lent → Done
 writes w r lent = record { rehearsal = r; lent = lent; written = w }
 
--- the last message that left, which a quiet or refused call leaves in the message buffer
-abbrev pub last : Rehearsal → List ℕ → List ℕ
-last r m = take (r .length) m
-
-abbrev pub messageIn : List ℕ → Message
-messageIn b = readMessage b .message
-
 -- a call: its outcome is written, and what left is the last message
 abbrev pub resulted : Result → Rehearsal → Done
 resulted q r =
@@ -47,8 +34,4 @@ resulted q r =
       written = outcomeLine (q .outcome) (q .lent .message) }
 
 abbrev pub called : Event → Rehearsal → Lent → Done
-called e r lent = resulted (call e (r .terminal .state) lent) r
-
--- the bytes of a message of the simulated centre
-unfoldable pub bytesOf : Message → List ℕ
-bytesOf a = take (lengthOf (writeMessage a (replicate largest 0) .outcome)) (writeMessage a (replicate largest 0) .buffer)
+called e r lent = resulted (call e (r .state) lent) r

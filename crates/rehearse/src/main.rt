@@ -1,6 +1,5 @@
 // A desk and its terminal, driven by a script: that of standard input, or each that an argument names, under its name.
 mod commands;
-mod shows;
 
 use input::Input;
 use libc::STDIN_FILENO;

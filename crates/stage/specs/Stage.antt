@@ -10,10 +10,10 @@ use Rattle.stage.specs.declared.Rehearsal.{Rehearsal}
 
 -- terminal: a fresh terminal and an empty journal; it forgets the last message and keeps the date
 abbrev pub begun : Settings → Rehearsal → Rehearsal
-begun x r = record { begun = true; terminal = record { state = fresh x }; date = r .date; length = 0 }
+begun x r = record { begun = true; state = fresh x; date = r .date; length = 0 }
 
 abbrev pub dated : ℕ → Rehearsal → Rehearsal
-dated d r = record { begun = r .begun; terminal = r .terminal; date = d; length = r .length }
+dated d r = record { begun = r .begun; state = r .state; date = d; length = r .length }
 
 -- a call: what left is the last message
 abbrev pub lengthAfter : Outcome → ℕ → ℕ
@@ -22,4 +22,4 @@ lengthAfter Quiet old = old
 lengthAfter (Refused n) old = old
 
 abbrev pub afterCall : Outcome → State → Rehearsal → Rehearsal
-afterCall o s r = record { begun = true; terminal = record { state = s }; date = r .date; length = lengthAfter o (r .length) }
+afterCall o s r = record { begun = true; state = s; date = r .date; length = lengthAfter o (r .length) }

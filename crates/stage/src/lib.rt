@@ -1,17 +1,16 @@
 // Where a rehearsal of the desk, its terminal and a simulated centre stands.
 use state::Outcome;
 use state::Settings;
-use terminal::Step;
-use terminal::Terminal;
+use state::State;
 ghost use mathlib.Core.Path.{_≡_};
 ghost use mathlib.Core.Bool.{false};
 ghost use Rattle.stage.specs.Stage.{lengthAfter, afterCall, begun, dated};
 
-// Whether a rehearsal has a terminal, the simulated centre's date MMDD, and the length of the last message that left, which
-// stands in the message buffer.
+// Whether a rehearsal has a terminal, the terminal's state, the simulated centre's date MMDD, and the length of the last message
+// that left, which stands in the message buffer.
 pub struct Rehearsal {
     pub begun: bool,
-    pub terminal: Terminal,
+    pub state: State,
     pub date: u16,
     pub length: usize,
 }
@@ -30,7 +29,7 @@ impl Rehearsal {
         };
         Rehearsal {
             begun: false,
-            terminal: Terminal::new(settings),
+            state: State::new(settings),
             date: 101,
             length: 0,
         }
@@ -43,7 +42,7 @@ pub fn begun(settings: Settings, r: Rehearsal) -> Rehearsal
 {
     Rehearsal {
         begun: true,
-        terminal: Terminal::new(settings),
+        state: State::new(settings),
         date: r.date,
         length: 0,
     }
@@ -52,24 +51,22 @@ pub fn begun(settings: Settings, r: Rehearsal) -> Rehearsal
 pub fn dated(date: u16, r: Rehearsal) -> Rehearsal
     ensures { λ a. ⌜ a ≡ dated date r ⌝ }
 {
-    let terminal = r.terminal;
+    let state = r.state;
     Rehearsal {
         begun: r.begun,
-        terminal: terminal,
+        state: state,
         date: date,
         length: r.length,
     }
 }
 
-// After a call.
-pub fn after_call(step: Step, r: Rehearsal) -> Rehearsal
-    ensures { λ a. ⌜ a ≡ afterCall (step .outcome) (step .terminal .state) r ⌝ }
+// After a call that gave this outcome and left this state.
+pub fn after_call(outcome: Outcome, state: State, r: Rehearsal) -> Rehearsal
+    ensures { λ a. ⌜ a ≡ afterCall outcome state r ⌝ }
 {
-    let outcome = step.outcome;
-    let terminal = step.terminal;
     Rehearsal {
         begun: true,
-        terminal: terminal,
+        state: state,
         date: r.date,
         length: length_after(outcome, r.length),
     }

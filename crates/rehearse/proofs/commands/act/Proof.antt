@@ -1,8 +1,7 @@
 -- `rehearse::commands::act` meets its contract.
-use mathlib.Core.Path.{sym}
+use mathlib.Core.Path.{refl, sym}
 use lib.Seq.{length-take-le}
-use Rattle.rehearse.proofs.Calls.{did}
-use Rattle.rehearse.proofs.Laws.{call-done, no-call-done}
+use Rattle.rehearse.proofs.Laws.{did, call-done, no-call-done}
 use borrow.Author.Needs.{needs}
 use Rattle.state.specs.Calls.{lend}
 use Rattle.rehearse.proofs.commands.act.Statement.{statement}
@@ -87,7 +86,7 @@ returns c =
     let at-told = c .before .before .told in
     call-done (at-args .number) (at-args .s .now) (at-args .r) (lend (at-args .journal .now) (at-args .message .now)) (at-parse .ensures)
     (at-last-message .ensures) (at-left-as .ensures) (at-asked-by .ensures) (at-a .given .1)
-    (rw (at-word .ensures) at (at-answer-into .ensures .1)) (did (at-args .r) (at-make .result)
+    (rw (at-word .ensures) at (at-answer-into .ensures .1 refl)) (did (at-args .r) (at-make .result)
     (at-make .ensures) (at-told .ensures))
 
 same-length-4 : tie.Need-same-length-4

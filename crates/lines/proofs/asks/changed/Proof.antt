@@ -1,8 +1,8 @@
--- `rehearse::commands::changed` meets its contract.
-use Rattle.rehearse.proofs.Laws.{changes-nothing}
+-- `lines::asks::changed` meets its contract.
+use Rattle.lines.proofs.Laws.{changes-nothing}
 use borrow.Author.Needs.{needs}
-use Rattle.rehearse.proofs.commands.changed.Statement.{statement}
-use Rattle.rehearse.proofs.commands.changed.Tie as tie
+use Rattle.lines.proofs.asks.changed.Statement.{statement}
+use Rattle.lines.proofs.asks.changed.Tie as tie
 
 enum-told : tie.Need-enum-told
 enum-told c = search needs

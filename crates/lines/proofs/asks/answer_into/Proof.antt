@@ -1,10 +1,9 @@
--- `rehearse::commands::answer_into` meets its contract.
+-- `lines::asks::answer_into` meets its contract.
 use mathlib.Core.Path.{_∙_}
-use Rattle.rehearse.proofs.Calls.{put-front}
-use Rattle.rehearse.proofs.Laws.{hex-fits, hex-bytes, word-answers}
+use Rattle.lines.proofs.Laws.{hex-fits, hex-bytes, word-answers, put-fits, put-front}
 use borrow.Author.Needs.{needs}
-use Rattle.rehearse.proofs.commands.answer_into.Statement.{statement}
-use Rattle.rehearse.proofs.commands.answer_into.Tie as tie
+use Rattle.lines.proofs.asks.answer_into.Statement.{statement}
+use Rattle.lines.proofs.asks.answer_into.Tie as tie
 
 enum-known-command : tie.Need-enum-known-command
 enum-known-command c = search needs
@@ -36,14 +35,13 @@ same-length c = search needs
 returns : tie.Need-returns
 returns c =
     let at-args = c .before .before .before .before .before .before .before .before .before .before .args in
-    let at-pre = c .before .before .before .before .before .before .before .before .before .before .pre in
     let at-command = c .before .before .before .before .before .before .command in
     let at-reply = c .before .before .before .before .reply in
     let at-write-outgoing = c .before .before .write-outgoing in
-    rw (at-command .given .1)
-    (rw (at-reply .ensures) at (put-front (at-reply .result)
-    (at-args .out .now)
-    at-pre (at-write-outgoing .ensures)))
+    rw (at-command .given .1) (
+      put-fits (at-reply .result) (at-args .out .now) (at-write-outgoing .ensures),
+      λ room. rw (at-reply .ensures) at (put-front (at-reply .result) (at-args .out .now) (at-write-outgoing .ensures) room),
+    )
 
 same-length-2 : tie.Need-same-length-2
 same-length-2 c = search needs
@@ -51,15 +49,14 @@ same-length-2 c = search needs
 returns-2 : tie.Need-returns-2
 returns-2 c =
     let at-args = c .before .before .before .before .before .before .before .before .before .before .args in
-    let at-pre = c .before .before .before .before .before .before .before .before .before .before .pre in
     let at-command2 = c .before .before .before .before .before .before .command2 in
     let at-reconciliation = c .before .before .before .before .reconciliation in
     let at-write-outgoing2 = c .before .before .write-outgoing2 in
-    rw (at-command2 .given .1)
-    (rw (at-reconciliation .ensures) at
-    (put-front (at-reconciliation .result)
-    (at-args .out .now)
-    at-pre (at-write-outgoing2 .ensures)))
+    rw (at-command2 .given .1) (
+      put-fits (at-reconciliation .result) (at-args .out .now) (at-write-outgoing2 .ensures),
+      λ room.
+          rw (at-reconciliation .ensures) at (put-front (at-reconciliation .result) (at-args .out .now) (at-write-outgoing2 .ensures) room),
+    )
 
 same-length-3 : tie.Need-same-length-3
 same-length-3 c = search needs
@@ -67,14 +64,13 @@ same-length-3 c = search needs
 returns-3 : tie.Need-returns-3
 returns-3 c =
     let at-args = c .before .before .before .before .before .before .before .before .args in
-    let at-pre = c .before .before .before .before .before .before .before .before .pre in
     let at-match = c .before .before .before .before .before .match in
     let at-hex-into = c .before .before .before .hex-into in (
       hex-fits (at-args .hex .now) (at-args .out .now) (at-hex-into .ensures .0)
           (at-hex-into .ensures .1) (c .hex-length .ensures),
-      hex-bytes (at-args .hex .now) (at-args .out .now) (at-hex-into .ensures .0)
-          (at-hex-into .ensures .1) (c .hex-length .ensures) at-pre ∙ word-answers (at-args .command) (at-args .hex .now) (at-args .sent)
-          (at-args .date) (at-match .keys3),
+      λ room.
+          hex-bytes (at-args .hex .now) (at-args .out .now) (at-hex-into .ensures .0) (at-hex-into .ensures .1) (c .hex-length .ensures) room
+          ∙ word-answers (at-args .command) (at-args .hex .now) (at-args .sent) (at-args .date) (at-match .keys3),
     )
 
 pub answer-into-spec : {M : Type 1} → statement M

@@ -1,9 +1,9 @@
--- `rehearse::shows::add_fault` meets its contract.
+-- `lines::shows::add_fault` meets its contract.
 use mathlib.Core.List.{[]}
 use Rattle.texts.proofs.Texts.{start}
 use borrow.Author.Needs.{needs}
-use Rattle.rehearse.proofs.shows.add_fault.Statement.{statement}
-use Rattle.rehearse.proofs.shows.add_fault.Tie as tie
+use Rattle.lines.proofs.shows.add_fault.Statement.{statement}
+use Rattle.lines.proofs.shows.add_fault.Tie as tie
 
 enum-told : tie.Need-enum-told
 enum-told c = search needs

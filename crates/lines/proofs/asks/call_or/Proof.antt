@@ -1,8 +1,8 @@
--- `rehearse::commands::call_or` meets its contract.
-use Rattle.rehearse.specs.Asked.{callOr}
+-- `lines::asks::call_or` meets its contract.
+use Rattle.lines.specs.Asks.{callOr}
 use borrow.Author.Tests.{eq-eqb, ne-eqb}
-use Rattle.rehearse.proofs.commands.call_or.Statement.{statement}
-use Rattle.rehearse.proofs.commands.call_or.Tie as tie
+use Rattle.lines.proofs.asks.call_or.Statement.{statement}
+use Rattle.lines.proofs.asks.call_or.Tie as tie
 
 returns : tie.Need-returns
 unfolding callOr

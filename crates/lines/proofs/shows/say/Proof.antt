@@ -1,11 +1,11 @@
--- `rehearse::shows::say` meets its contract.
+-- `lines::shows::say` meets its contract.
 use mathlib.Core.List.{[]}
 use Rattle.texts.proofs.Texts.{start}
-use Rattle.rehearse.proofs.Laws.{says-error, says, keeps-silent}
+use Rattle.lines.proofs.Laws.{says-error, says, keeps-silent}
 use borrow.Author.Needs.{needs}
 use Rattle.state.specs.Calls.{lend}
-use Rattle.rehearse.proofs.shows.say.Statement.{statement}
-use Rattle.rehearse.proofs.shows.say.Tie as tie
+use Rattle.lines.proofs.shows.say.Statement.{statement}
+use Rattle.lines.proofs.shows.say.Tie as tie
 
 slice-aggregate-row : tie.Need-slice-aggregate-row
 slice-aggregate-row c = search needs

@@ -1,7 +1,7 @@
--- `rehearse::commands::asked_by` meets its contract.
+-- `lines::asks::asked_by` meets its contract.
 use borrow.Author.Needs.{needs}
-use Rattle.rehearse.proofs.commands.asked_by.Statement.{statement}
-use Rattle.rehearse.proofs.commands.asked_by.Tie as tie
+use Rattle.lines.proofs.asks.asked_by.Statement.{statement}
+use Rattle.lines.proofs.asks.asked_by.Tie as tie
 
 enum-told : tie.Need-enum-told
 enum-told c = search needs

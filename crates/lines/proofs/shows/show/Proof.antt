@@ -1,11 +1,11 @@
--- `rehearse::shows::show` meets its contract.
-use Rattle.rehearse.proofs.Laws.{shows}
+-- `lines::shows::show` meets its contract.
+use Rattle.lines.proofs.Laws.{shows}
 use mathlib.Core.List.{[]}
 use Rattle.texts.proofs.Texts.{start}
 use borrow.Author.Needs.{needs}
 use Rattle.state.specs.Calls.{lend}
-use Rattle.rehearse.proofs.shows.show.Statement.{statement}
-use Rattle.rehearse.proofs.shows.show.Tie as tie
+use Rattle.lines.proofs.shows.show.Statement.{statement}
+use Rattle.lines.proofs.shows.show.Tie as tie
 
 enum-told : tie.Need-enum-told
 enum-told c = search needs
@@ -54,7 +54,7 @@ same-length c = search needs
 
 returns : tie.Need-returns
 returns c =
-    let at-args = c .before .before .before .before .before .before .before .before .before .before .before .before .args in
+    let at-args = c .before .before .before .before .before .before .before .before .before .before .before .args in
     let at-enum-told = c .before .before .before .before .enum-told in
     let at-add-counts = c .before .before .add-counts in
     shows (at-args .r) (lend (at-args .journal .now) (at-args .message .now)) (at-enum-told .given .1) (at-add-counts .ensures [] (start _))
@@ -64,7 +64,7 @@ same-length-2 c = search needs
 
 returns-2 : tie.Need-returns-2
 returns-2 c =
-    let at-args = c .before .before .before .before .before .before .before .before .before .before .before .before .before .args in
+    let at-args = c .before .before .before .before .before .before .before .before .before .before .before .before .args in
     let at-enum-told2 = c .before .before .before .before .before .enum-told2 in
     let at-totals-of = c .before .before .before .before .totals-of in
     let at-add-totals = c .before .before .add-totals in
@@ -77,7 +77,7 @@ same-length-3 c = search needs
 
 returns-3 : tie.Need-returns-3
 returns-3 c =
-    let at-args = c .before .before .before .before .before .before .before .before .before .before .before .before .args in
+    let at-args = c .before .before .before .before .before .before .before .before .before .before .before .args in
     let at-enum-told3 = c .before .before .before .before .enum-told3 in
     let at-add-state = c .before .before .add-state in
     shows (at-args .r) (lend (at-args .journal .now) (at-args .message .now)) (at-enum-told3 .given .1) (at-add-state .ensures [] (start _))
@@ -87,17 +87,18 @@ same-length-4 c = search needs
 
 returns-4 : tie.Need-returns-4
 returns-4 c =
-    let at-args = c .before .before .before .before .before .before .before .before .before .before .before .before .args in
+    let at-args = c .before .before .before .before .before .before .before .before .before .before .before .args in
     let at-enum-told4 = c .before .before .before .before .enum-told4 in
     let at-add-journal = c .before .before .add-journal in
-    shows (at-args .r) (lend (at-args .journal .now) (at-args .message .now)) (at-enum-told4 .given .1) (at-add-journal .ensures [] (start _))
+    shows (at-args .r) (lend (at-args .journal .now) (at-args .message .now)) (at-enum-told4 .given .1)
+    (at-add-journal .ensures [] (start _))
 
 same-length-5 : tie.Need-same-length-5
 same-length-5 c = search needs
 
 returns-5 : tie.Need-returns-5
 returns-5 c =
-    let at-args = c .before .before .before .before .before .before .before .before .before .before .before .before .before .args in
+    let at-args = c .before .before .before .before .before .before .before .before .before .before .before .before .args in
     let at-enum-told5 = c .before .before .before .before .before .enum-told5 in
     let at-last = c .before .before .before .before .last in
     let at-add-message = c .before .before .add-message in
@@ -110,7 +111,7 @@ same-length-6 c = search needs
 
 returns-6 : tie.Need-returns-6
 returns-6 c =
-    let at-args = c .before .before .before .before .before .before .before .before .before .before .before .before .args in
+    let at-args = c .before .before .before .before .before .before .before .before .before .before .before .args in
     let at-enum-told6 = c .before .before .before .before .enum-told6 in
     let at-put-fields = c .before .before .put-fields in
     shows (at-args .r) (lend (at-args .journal .now) (at-args .message .now)) (at-enum-told6 .given .1) (at-put-fields .ensures)

@@ -1,10 +1,10 @@
--- `rehearse::shows::put_fields` meets its contract.
-use Rattle.rehearse.proofs.Laws.{no-fields, some-fields}
+-- `lines::shows::put_fields` meets its contract.
+use Rattle.lines.proofs.Laws.{no-fields, some-fields}
 use mathlib.Core.List.{[]}
 use Rattle.texts.proofs.Texts.{start}
 use borrow.Author.Needs.{needs}
-use Rattle.rehearse.proofs.shows.put_fields.Statement.{statement}
-use Rattle.rehearse.proofs.shows.put_fields.Tie as tie
+use Rattle.lines.proofs.shows.put_fields.Statement.{statement}
+use Rattle.lines.proofs.shows.put_fields.Tie as tie
 
 last-requires : tie.Need-last-requires
 last-requires c κs = search needs

@@ -1,8 +1,8 @@
--- `rehearse::commands::error_after` meets its contract.
-use Rattle.rehearse.specs.Asked.{errorAfter}
+-- `lines::asks::error_after` meets its contract.
+use Rattle.lines.specs.Asks.{errorAfter}
 use borrow.Author.Needs.{needs}
-use Rattle.rehearse.proofs.commands.error_after.Statement.{statement}
-use Rattle.rehearse.proofs.commands.error_after.Tie as tie
+use Rattle.lines.proofs.asks.error_after.Statement.{statement}
+use Rattle.lines.proofs.asks.error_after.Tie as tie
 
 returns : tie.Need-returns
 unfolding errorAfter

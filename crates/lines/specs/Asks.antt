@@ -1,25 +1,44 @@
--- What a line asks for, step by step: a call or an error, the change of the rehearsal, the bytes of an answer, the text.
+-- What a line asks for: a call or an error; the change of the rehearsal, and the bytes of an answer.
 use mathlib.Core.List.{List, [], _∷_}
 use mathlib.Core.Bool.{Bool, true, cond}
 use Prim.Native.Nat.{ℕ}
 use lib.Dec.{eqb}
+use lib.ListN.{take, replicate}
+use Rattle.message.specs.Message.{largest}
 use Rattle.message.specs.declared.Message.{Message}
+use Rattle.writing.specs.Writing.{writeMessage}
+use Rattle.outgoing.specs.Outgoing.{lengthOf}
 use Rattle.state.specs.declared.Settings.{Settings}
-use Rattle.state.specs.Calls.{Lent}
 use Rattle.calls.specs.declared.Call.{Call}
 use Rattle.calls.specs.declared.Call.the-variants as call
-use Rattle.words.specs.Rows.{row}
+use Rattle.hexadecimal.specs.Hexadecimal.{fromHex}
+use Rattle.hexadecimal.specs.declared.Hex.{Hex}
+use Rattle.hexadecimal.specs.declared.Hex.the-variants.{Bytes, Not, TooLong}
+use Rattle.grammar.specs.Shapes.{isBytes}
 use Rattle.script.specs.declared.Command.{Command}
 use Rattle.script.specs.declared.Command.the-variants as command
-use Rattle.screen.specs.Outcomes.{errorLine}
 use Rattle.centre.specs.Centre.{reply, reconciliation}
 use Rattle.centre_types.specs.declared.Left.{Left}
+use Rattle.centre_types.specs.declared.Left.the-variants as left
 use Rattle.stage.specs.declared.Rehearsal.{Rehearsal}
 use Rattle.stage.specs.Stage.{begun, dated}
-use Rattle.rehearse.specs.declared.commands.Asked.{Asked}
-use Rattle.rehearse.specs.declared.commands.Asked.the-variants as asked
-use Rattle.rehearse.specs.Rehearsal.{bytesOf}
-use Rattle.rehearse.specs.Commands.{shown, faultText, bytesIn, errors, replyError, reconcileError}
+use Rattle.lines.specs.declared.asks.Asked.{Asked}
+use Rattle.lines.specs.declared.asks.Asked.the-variants as asked
+
+-- reply answers what left last, unless that is a settlement; reconcile answers a settlement
+abbrev pub replyError : Left → ℕ
+replyError left.Nothing = 2
+replyError left.Request = 0
+replyError left.Reversal = 0
+replyError left.Settlement = 3
+replyError left.Upload = 0
+
+abbrev pub reconcileError : Left → ℕ
+reconcileError left.Nothing = 2
+reconcileError left.Request = 4
+reconcileError left.Reversal = 4
+reconcileError left.Settlement = 0
+reconcileError left.Upload = 4
 
 -- the error of a line that needs a terminal
 unfoldable pub errorAfter : Bool → ℕ → ℕ
@@ -48,6 +67,20 @@ changedBy (command.Date d) x r = dated d r
 changedBy (command.Show y) x r = r
 changedBy (command.Wrong f) x r = r
 
+-- the bytes of a message of the simulated centre
+unfoldable pub bytesOf : Message → List ℕ
+bytesOf a = take (lengthOf (writeMessage a (replicate largest 0) .outcome)) (writeMessage a (replicate largest 0) .buffer)
+
+-- the bytes of an answer; a line that is understood says hexadecimal of at most 2,048 bytes
+unfoldable pub bytesIn : List ℕ → List ℕ
+bytesIn w = cond (isBytes w) (fromHex w) []
+
+-- how many bytes hexadecimal text gave
+abbrev pub hexLength : Hex → ℕ
+hexLength (Bytes n) = n
+hexLength Not = 0
+hexLength TooLong = 0
+
 -- the bytes of an answer to m, on this date: the simulated centre's, or those of word w
 abbrev pub answerBytes : Command → List ℕ → Message → ℕ → List ℕ
 answerBytes command.Terminal w m date = bytesIn w
@@ -57,16 +90,3 @@ answerBytes (command.Reconcile digit) w m date = bytesOf (reconciliation m digit
 answerBytes (command.Date d) w m date = bytesIn w
 answerBytes (command.Show x) w m date = bytesIn w
 answerBytes (command.Wrong f) w m date = bytesIn w
-
--- what line number writes where it makes no call
-abbrev pub saidBy : Command → ℕ → Rehearsal → Lent → List ℕ
-saidBy command.Terminal number r lent = []
-saidBy (command.Call c) number r lent = []
-saidBy (command.Reply a b good) number r lent = []
-saidBy (command.Reconcile digit) number r lent = []
-saidBy (command.Date d) number r lent = []
-saidBy (command.Show x) number r lent = shown x r lent
-saidBy (command.Wrong f) number r lent = errorLine number (faultText f)
-
-unfoldable pub said : ℕ → ℕ → Command → Rehearsal → Lent → List ℕ
-said error number k r lent = cond (eqb error 0) (saidBy k number r lent) (errorLine number (row error errors))

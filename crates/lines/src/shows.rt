@@ -9,9 +9,7 @@ ghost use Rattle.state.specs.Calls.{lend};
 ghost use Rattle.texts.specs.Text.{Text};
 ghost use Rattle.grammar.specs.declared.Fault.the-variants.{Word};
 ghost use Rattle.screen.specs.Outcomes.{errorLine};
-ghost use Rattle.rehearse.specs.Rehearsal.{last, messageIn};
-ghost use Rattle.rehearse.specs.Commands.{fieldsText, shown, faultText};
-ghost use Rattle.rehearse.specs.Asked.{said};
+ghost use Rattle.lines.specs.Shows.{last, messageIn, fieldsText, shown, faultText, said};
 
 // Why a line that is understood is not obeyed: row k is error k, and 0 is none.
 const ERRORS: [u8; 100] = *b"
@@ -21,14 +19,7 @@ a settlement left last: reconcile answers it
 no settlement left last
 ";
 
-// The last message that left; all of the buffer where it is shorter.
-pub fn last(r: Rehearsal, message: &[u8]) -> &[u8]
-    ensures { λ b. ⌜ now b ≡ last r (now (message .entry)) ⌝ }
-{
-    texts::front(message, r.length)
-}
-
-// The same as a message.
+// The last message that left.
 pub fn last_message(r: Rehearsal, message: &[u8]) -> Message
     ensures { λ a. ⌜ a ≡ messageIn (last r (now (message .entry))) ⌝ }
 {
@@ -59,12 +50,18 @@ pub fn say(
     }
 }
 
+// Its bytes; all of the buffer where it is shorter.
+fn last(r: Rehearsal, message: &[u8]) -> &[u8]
+    ensures { λ b. ⌜ now b ≡ last r (now (message .entry)) ⌝ }
+{
+    texts::front(message, r.length)
+}
+
 // Writes what is shown of the terminal.
 fn show(x: Show, r: Rehearsal, journal: &[u8], message: &[u8], out: &mut [u8]) -> usize
     ensures { λ n. ⌜ Text (shown x r (lend (now (journal .entry)) (now (message .entry)))) n (now (out .exit)) ⌝ }
 {
-    let terminal = r.terminal;
-    let state = terminal.state;
+    let state = r.state;
     let counts = state.counts;
     let phase = state.phase;
     match x {

@@ -1,10 +1,10 @@
--- `rehearse::shows::add_word_fault` meets its contract.
+-- `lines::shows::add_word_fault` meets its contract.
 use mathlib.Core.List.{[]}
 use Rattle.texts.proofs.Texts.{start}
-use Rattle.rehearse.proofs.Laws.{word-fault}
+use Rattle.lines.proofs.Laws.{word-fault}
 use borrow.Author.Needs.{needs}
-use Rattle.rehearse.proofs.shows.add_word_fault.Statement.{statement}
-use Rattle.rehearse.proofs.shows.add_word_fault.Tie as tie
+use Rattle.lines.proofs.shows.add_word_fault.Statement.{statement}
+use Rattle.lines.proofs.shows.add_word_fault.Tie as tie
 
 slice-aggregate-add-named : tie.Need-slice-aggregate-add-named
 slice-aggregate-add-named c = search needs

@@ -1,7 +1,7 @@
--- `rehearse::shows::last_message` meets its contract.
+-- `lines::shows::last_message` meets its contract.
 use borrow.Author.Needs.{needs}
-use Rattle.rehearse.proofs.shows.last_message.Statement.{statement}
-use Rattle.rehearse.proofs.shows.last_message.Tie as tie
+use Rattle.lines.proofs.shows.last_message.Statement.{statement}
+use Rattle.lines.proofs.shows.last_message.Tie as tie
 
 last-requires : tie.Need-last-requires
 last-requires c κs = search needs

@@ -1,0 +1,2 @@
+-- Laws of the lines of a script, for the proofs of this crate.
+pub mod Laws
