@@ -32,14 +32,13 @@ use Rattle.checks.proofs.Choices.{passed}
 use Rattle.rules.specs.Rules.{unvoidedAt, originalUnvoided, requestKept}
 use Rattle.state_rules.specs.StateRules.{isCard, requestInForm, past}
 use Rattle.rules.proofs.InOrder.{Fit}
-use Rattle.state_rules.proofs.Holds.{RequestHolds, card-holds}
+use Rattle.state_rules.proofs.Holds.{RequestHolds, card-holds, request-back}
 use Rattle.outgoing.specs.Outgoing.{requestMessage}
 use Rattle.call_start.proofs.Held.{found-for, entry-in-form}
 use Rattle.call_start.specs.Start.{originalOf, entryOf, namedBy, startRules, start}
 use Rattle.desk.specs.DeskRules.{deskInForm, requestOf}
 use Rattle.state_effects.specs.StateEffects.{requested}
 use Rattle.desk.specs.declared.Desk.{Desk}
-use Rattle.call_theorems.proofs.Back.{request-back}
 use Rattle.call_theorems.proofs.Refusing.{Fits, judged-fits, sent-fits}
 
 -- a request leaves a resting terminal

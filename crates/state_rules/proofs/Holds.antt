@@ -1,4 +1,4 @@
--- What follows from rule 2 for settings and state.
+-- What follows from rule 2 for settings and state, and the way back: where it holds, the rule lets them pass.
 use mathlib.Core.Path.{_≡_}
 use mathlib.Core.List.{List, [], _∷_}
 use mathlib.Core.Bool.{Bool, true, cond, not, _&&_, and-eq-true-iff}
@@ -6,10 +6,10 @@ use Prim.Native.Nat.{_+_, _^_, _≤_, _<_}
 use native.Mathlib.Omega.{arith}
 use lib.Dec.{leb, ltb, eqb}
 use lib.ListN.{length}
-use borrow.Author.Tests.{leb-true, ltb-true, eqb-true}
+use borrow.Author.Tests.{leb-true, ltb-true, eqb-true, le-leb, lt-ltb, eq-eqb}
 use Rattle.numbers.specs.Limits.{largestAmount, lastNumber, mostRequests, mostEntries, mostSendings}
 use Rattle.numbers.specs.Numbers.{within}
-use Rattle.numbers.proofs.Bounds.{within-bounds}
+use Rattle.numbers.proofs.Bounds.{within-bounds, within-yes}
 use Rattle.field.specs.Contents.{allPrintable}
 use Rattle.kinds.specs.Kinds.{isKind, takesOriginal, isNeverReversed}
 use Rattle.state.specs.declared.Card.{Card}
@@ -165,3 +165,51 @@ room-for-one s o =
         unanswered = omega arith;
       };
     }
+
+-- the way back
+pub settings-back : (x : Settings) → SettingsHold x → settingsInForm x ≡ true
+unfolding settingsInForm
+settings-back x h =
+    rw (
+      within-yes 1 (x .limit) mostEntries (h .limit-least) (h .limit-most),
+      within-yes 1 (x .sendings) mostSendings (h .sendings-least) (h .sendings-most),
+      within-yes 1 (x .refund) largestAmount (h .refund-least) (h .refund-most),
+      h .terminal-printable,
+      h .merchant-printable,
+    )
+
+pub card-back : (c : Card) → CardHolds c → isCard c ≡ true
+unfolding isCard
+card-back c h = rw (within-yes 13 (c .length) 19 (h .least) (h .most), lt-ltb (c .number) (10 ^ c .length) (h .below))
+
+pub request-back : (q : Request) → RequestHolds q → requestInForm q ≡ true
+unfolding requestInForm
+request-back q h =
+    rw (
+      h .kind-listed,
+      within-yes 1 (q .amount) largestAmount (h .amount-least) (h .amount-most),
+      card-back (q .card) (record { least = h .card-least; most = h .card-most; below = h .card-below }),
+      within-yes 1 (q .trace .0) lastNumber (h .trace-least) (h .trace-most),
+    )
+    (h .original-form)
+
+pub state-form-back : (s : State) → StateHolds s → stateInForm s ≡ true
+unfolding stateInForm
+state-form-back s h =
+    rw (
+      within-yes 1 (s .batch .0) lastNumber (h .batch-least) (h .batch-most),
+      within-yes 1 (s .next .0) lastNumber (h .next-least) (h .next-most),
+      le-leb (s .counts .sent) mostRequests (h .sent-most),
+    )
+    (h .phase-form)
+
+pub state-back : (s : State) → StateHolds s → stateKept s ≡ true
+unfolding stateKept balanced
+state-back s h =
+    rw (
+      settings-back (s .settings) (h .settings),
+      state-form-back s h,
+      le-leb (s .entries) (s .settings .limit) (h .few),
+      eq-eqb _ _ (h .balance),
+      eq-eqb _ _ (h .approvals),
+    )
