@@ -10,11 +10,20 @@ use state::State;
 ghost use mathlib.Core.Path.{_≡_};
 ghost use Rattle.state.specs.State.{fresh};
 ghost use Rattle.state.specs.Calls.{lend};
-ghost use Rattle.terminal.specs.Terminal.{stepResult, stepOf};
+ghost use Rattle.terminal.specs.Terminal.{limits, stepResult, stepOf};
 ghost use Rattle.terminal.specs.Events.{call, signed-on, starts, answers, no-answer, power-returned, send-reversal, settles, send-next-upload};
 
 pub struct Terminal {
     pub state: State,
+}
+
+// The constants of the terminal as one value.
+pub struct Limits {
+    pub message: usize,
+    pub entry: usize,
+    pub entries: u32,
+    pub sendings: u8,
+    pub refund: u64,
 }
 
 // What a call gives back: a message to send, a quiet change or a refusal, with the terminal beside it.
@@ -34,6 +43,19 @@ impl Terminal {
     pub const MOST_SENDINGS: u8 = numbers::MOST_SENDINGS;
 
     pub const LARGEST_REFUND: u64 = numbers::LARGEST_AMOUNT;
+
+    // These constants, for a program that cannot name them.
+    pub fn limits() -> Limits
+        ensures { λ r. ⌜ r ≡ limits ⌝ }
+    {
+        Limits {
+            message: Terminal::MESSAGE,
+            entry: Terminal::ENTRY,
+            entries: Terminal::MOST_ENTRIES,
+            sendings: Terminal::MOST_SENDINGS,
+            refund: Terminal::LARGEST_REFUND,
+        }
+    }
 
     // A fresh terminal of any settings; the calls judge them.
     pub fn new(settings: Settings) -> Self

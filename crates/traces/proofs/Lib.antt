@@ -6,3 +6,4 @@ pub mod Compared
 pub mod Noted
 pub mod Passing
 pub mod Free
+pub mod Theorems
