@@ -38,7 +38,7 @@ pub record Left (limit n : ℕ) (es : List Entry) (q : Request) : Type 0 where
   pub original : originalUnvoided (q .kind) (q .original .0) es ≡ true
   pub free : absent (q .trace .0) es ≡ true
 
-left : (limit n : ℕ) (es : List Entry) (q : Request) → requestKept limit n es q ≡ true → Left limit n es q
+pub left : (limit n : ℕ) (es : List Entry) (q : Request) → requestKept limit n es q ≡ true → Left limit n es q
 unfolding requestKept
 left limit n es q h =
     let o = originalUnvoided (q .kind) (q .original .0) es in

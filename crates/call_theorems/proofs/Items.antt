@@ -54,7 +54,7 @@ module _ (x : ℕ) (e : Entry) where
       go false b p q = refl
 
 -- the awaited item is the next
-item-next : (f : Found) (i : ℕ) → isAt f i ≡ true → f ≡ At i
+pub item-next : (f : Found) (i : ℕ) → isAt f i ≡ true → f ≡ At i
 item-next (At k) i h = rw (eqb-true k i h)
 item-next Nowhere i h = absurd (true≢false (sym h))
 

@@ -19,3 +19,8 @@ pub mod Giving
 pub mod Facts
 pub mod Steady
 pub mod Order
+pub mod Alike
+pub mod Rest
+pub mod Unwritten
+pub mod Unread
+pub mod Unchanged

@@ -1,3 +1,5 @@
 pub mod Ready
 pub mod Facts
 pub mod Order
+pub mod UnusedFields
+pub mod JournalRest

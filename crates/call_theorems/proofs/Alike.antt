@@ -1,0 +1,115 @@
+-- Fields 32, 44 and 63 of an answer change nothing: each word that a call uses of an answer says the same of two answers that
+-- are alike in all other fields.
+use mathlib.Core.Path.{_≡_, refl}
+use mathlib.Core.List.{List}
+use mathlib.Core.Bool.{Bool, false}
+use Prim.Native.Nat.{ℕ}
+use Rattle.message.specs.declared.Message.{Message}
+use Rattle.reading.specs.Reading.{readMessage}
+use Rattle.numbers.specs.declared.Trace.{Trace}
+use Rattle.numbers.specs.declared.Batch.{Batch}
+use Rattle.parts.specs.Parts.{matches, copies, numberIn}
+use Rattle.entry.specs.declared.Entry.{Entry}
+use Rattle.state.specs.declared.Awaited.{Awaited}
+use Rattle.state.specs.declared.Awaited.the-variants as awaited
+use Rattle.state.specs.declared.Phase.{Phase}
+use Rattle.state.specs.declared.Phase.the-variants.{Resting, Waiting, Pending, Settling, Uploading}
+use Rattle.state.specs.declared.Request.{Request}
+use Rattle.state.specs.declared.Settings.{Settings}
+use Rattle.state.specs.declared.State.{State}
+use Rattle.state.specs.Calls.{Lent}
+use Rattle.answer_match.specs.Match.{matchesSent, hasCode, approvalHolds, holdsNamed, isAnswer, goodMac, endsReversal, closesBatch}
+use Rattle.approval.specs.Approval.{fieldOr, approvedEntry}
+use Rattle.journal_effects.specs.JournalEffects.{onRequest, onItem, answered}
+use Rattle.state_effects.specs.StateEffects.{onReversal, onSettlement, onEnd}
+use Rattle.call_answer.specs.Answer.{answersIn, answeredIn, answerIn, answer}
+use Rattle.call_theorems.specs.UnusedFields.{unused, AlikeButUnused, UnusedFieldsChangeNothing}
+
+module _ (a b : Message) (h : AlikeButUnused a b) where
+  -- the words for a field
+  matches-same : (n : ℕ) → unused n ≡ false → (x : List ℕ) → matches a n x ≡ matches b n x
+  unfolding matches
+  matches-same n u x = rw (h .named n u, h .fields n u)
+
+  copies-same : (n k : ℕ) → unused n ≡ false → copies a n k ≡ copies b n k
+  unfolding copies
+  copies-same n k u = rw (h .named n u, h .fields n u)
+
+  number-same : (n i k : ℕ) → unused n ≡ false → numberIn a n i k ≡ numberIn b n i k
+  unfolding numberIn
+  number-same n i k u = rw (h .named n u, h .fields n u)
+
+  field-same : (n k : ℕ) (x : List ℕ) → unused n ≡ false → fieldOr n k x a ≡ fieldOr n k x b
+  unfolding fieldOr
+  field-same n k x u = rw (copies-same n k u, h .fields n u)
+
+  -- what the answer says
+  code-same : (x y : ℕ) → hasCode x y a ≡ hasCode x y b
+  code-same x y = matches-same 39 refl _
+
+  mac-same : (good : Bool) → goodMac good a ≡ goodMac good b
+  unfolding goodMac
+  mac-same good = rw (h .named 64 refl)
+
+  ends-same : (good : Bool) → endsReversal good a ≡ endsReversal good b
+  unfolding endsReversal
+  ends-same good = rw (code-same 0x30 0x30, code-same 0x32 0x35, code-same 0x31 0x32, mac-same good)
+
+  closes-same : closesBatch a ≡ closesBatch b
+  unfolding closesBatch
+  closes-same = rw (number-same 48 30 1 refl)
+
+  entry-same : (q : Request) → approvedEntry q a ≡ approvedEntry q b
+  unfolding approvedEntry
+  entry-same q = rw (field-same 13 2 _ refl, field-same 38 6 _ refl, field-same 37 12 _ refl)
+
+  -- whether it is the answer
+  sent-same : (x : Settings) (batch : Batch) (n : ℕ) (trace : Trace) → matchesSent x batch n trace a ≡ matchesSent x batch n trace b
+  unfolding matchesSent
+  sent-same x batch n trace =
+      rw (matches-same 11 refl _, matches-same 41 refl _, matches-same 42 refl _, number-same 60 2 6 refl, h .indicator)
+
+  approval-same : (n : ℕ) → approvalHolds n a ≡ approvalHolds n b
+  unfolding approvalHolds
+  approval-same n = rw (code-same 0x30 0x30, matches-same 4 refl _, h .named 13 refl, h .named 37 refl)
+
+  holds-same : (w : Awaited) → holdsNamed w a ≡ holdsNamed w b
+  holds-same (awaited.Request q) = rw (h .named 39 refl, approval-same (q .amount))
+  holds-same (awaited.Reversal v) = h .named 39 refl
+  holds-same (awaited.Settlement x) = rw (number-same 48 30 1 refl)
+  holds-same (awaited.Item i) = h .named 39 refl
+  holds-same (awaited.End x) = h .named 39 refl
+
+  is-same : (x : Settings) (batch : Batch) (trace : Trace) (w : Awaited) → isAnswer x batch trace w a ≡ isAnswer x batch trace w b
+  unfolding isAnswer
+  is-same x batch trace w = rw (sent-same x batch _ trace, holds-same w)
+
+  answers-same : (p : Phase) (es : List Entry) (s : State) → answersIn p es s a ≡ answersIn p es s b
+  answers-same Resting es s = refl
+  answers-same (Waiting w) es s = is-same (s .settings) (s .batch) _ w
+  answers-same (Pending v) es s = refl
+  answers-same Settling es s = refl
+  answers-same Uploading es s = refl
+
+  -- what it leaves
+  answered-same : (good : Bool) (w : Awaited) (s : State) (j : List ℕ) → answered good a w s j ≡ answered good b w s j
+  unfolding answered onRequest onReversal onSettlement onItem onEnd
+  answered-same good (awaited.Request q) s j = rw (code-same 0x30 0x30, mac-same good, entry-same q)
+  answered-same good (awaited.Reversal v) s j = rw (ends-same good)
+  answered-same good (awaited.Settlement x) s j = rw (closes-same)
+  answered-same good (awaited.Item i) s j = rw (code-same 0x30 0x30)
+  answered-same good (awaited.End x) s j = rw (code-same 0x30 0x30)
+
+  in-phase-same : (p : Phase) (good : Bool) (s : State) (j : List ℕ) → answeredIn p good a s j ≡ answeredIn p good b s j
+  in-phase-same Resting good s j = refl
+  in-phase-same (Waiting w) good s j = answered-same good w s j
+  in-phase-same (Pending v) good s j = refl
+  in-phase-same Settling good s j = refl
+  in-phase-same Uploading good s j = refl
+
+  answer-same : (good : Bool) (s : State) (lent : Lent) → answerIn good a s lent ≡ answerIn good b s lent
+  answer-same good s lent = rw (answers-same (s .phase) _ s, in-phase-same (s .phase) good s (lent .journal))
+
+pub unused-fields-change-nothing : UnusedFieldsChangeNothing
+unfolding answer
+unused-fields-change-nothing a b good s lent p q h = rw (p, q, answer-same (readMessage a .message) (readMessage b .message) h good s lent)
