@@ -1,21 +1,21 @@
 -- Fields of any table: those that are written read back, and those that are read are written as the same bytes.
 use mathlib.Core.Path.{_≡_, refl, ap, sym, _∙_}
-use mathlib.Core.List.{List, [], _∷_, _++_, append-assoc, append-nil}
+use mathlib.Core.List.{List, [], _∷_, _++_, append-assoc}
 use mathlib.Core.Bool.{Bool, true, false, cond, _&&_, and-eq-true-iff}
-use Prim.Native.Nat.{ℕ, zero, suc, _+_, _-_, _≤_, _<_}
+use Prim.Native.Nat.{ℕ, suc, _+_, _-_, _≤_}
 use native.Mathlib.Omega.{arith}
 use native.Mathlib.Decide.{ℕ-discrete}
 use lib.Dec.{eqb}
 use lib.ListN.{length, getD, take, drop, replicate, length-append, length-drop, length-replicate, take-append-drop}
-use lib.Seq.{take-at, drop-at, take-append-le, length-take-le, drop-append-seam, take-length}
-use borrow.Author.Tests.{eq-eqb, ne-eqb, eqb-true}
+use lib.Seq.{take-at, drop-at, length-take-le}
+use borrow.Author.Tests.{eq-eqb, ne-eqb}
 use Rattle.field.specs.Bitmap.{names}
-use Rattle.field.specs.Contents.{size, room, skip, allowed, fault}
+use Rattle.field.specs.Contents.{size, room, skip}
 use Rattle.field.specs.declared.Format.{Format}
 use Rattle.span.specs.Span.{spanAt, span, fieldBytes}
 use Rattle.span.specs.declared.Span.{Span}
 use Rattle.span.specs.declared.Span.the-variants.{Held, Refused}
-use Rattle.span.proofs.Held.{IsHeld, span-held, size-bound}
+use Rattle.span.proofs.Held.{span-held, size-bound}
 use Rattle.span.proofs.Bytes.{wellFormed, length-field, drop-prefix, span-back, held-bytes}
 use Rattle.message.specs.Message.{Field, fieldIn}
 use Rattle.message.specs.Build.{padded}
@@ -47,7 +47,7 @@ in-length : (f : Format) (bm : List ℕ) (n : ℕ) (bs : List ℕ) → names bm 
 in-length f bm n bs e l z = length-take-le (size (f .class) n) bs (omega (arith, size-bound f n (field-sound f bm n bs e z .allows)))
 
 -- one field, written and read
-turn-back : (f : Format) (bm : List ℕ) (n : ℕ) (bs rest : List ℕ) (next : List ℕ → Fields)
+pub turn-back : (f : Format) (bm : List ℕ) (n : ℕ) (bs rest : List ℕ) (next : List ℕ → Fields)
     → wellFormed f ≡ true → room f ≤ length bs → fieldFault f bm n bs ≡ 0
     → afterSpan f (namedBytes f bm n bs ++ rest) next (span f bm (namedBytes f bm n bs ++ rest))
     ≡ prepend (cond (names bm (f .number)) n 0 ∷ []) (padded (room f) (keptBytes f bm n bs)) (next rest)
@@ -157,7 +157,7 @@ taken f bm s n p z q = go (names bm (f .number)) refl q
         let ze : 0 ≡ z = cc in
         rw (← pe, ← ze) (record { fits = omega arith; sound = λ rest. rw e; bytes = λ rest. rw e })
 
-prepend-good : (n : ℕ) (b : List ℕ) (x : Fields) (cs bs : List ℕ) → prepend (n ∷ []) b x ≡ good cs bs
+pub prepend-good : (n : ℕ) (b : List ℕ) (x : Fields) (cs bs : List ℕ) → prepend (n ∷ []) b x ≡ good cs bs
     → (cs′ : List ℕ) × (bs′ : List ℕ) × (x ≡ good cs′ bs′) × (n ∷ cs′ ≡ cs) × (b ++ bs′ ≡ bs)
 prepend-good n b (bad e) cs bs q = absurd (let z : _≡_ {A = ℕ} 0 1 = cc in omega arith)
 prepend-good n b (good cs′ bs′) cs bs q = (cs′, bs′, refl, cc, cc)

@@ -1,15 +1,14 @@
 -- The theorems on whole messages.
-use mathlib.Core.Path.{_≡_, refl, ap, sym, _∙_}
+use mathlib.Core.Path.{_≡_, refl, ap, sym}
 use mathlib.Core.List.{List, [], _∷_, _++_}
 use mathlib.Core.Bool.{Bool, true, false, cond}
-use Prim.Native.Nat.{ℕ, zero, suc, _+_, _*_, _/_, _%_, _≤_, _<_}
+use Prim.Native.Nat.{ℕ, _+_, _*_, _/_, _%_, _≤_}
 use native.Mathlib.Nat.{not-suc-le-zero}
 use native.Mathlib.Omega.{arith}
-use native.Mathlib.Decide.{ℕ-discrete, decLt}
 use lib.Dec.{ltb, eqb}
 use lib.ListN.{length, getD, take, drop, length-append, take-append-drop}
 use lib.Seq.{take-at, drop-at}
-use borrow.Author.Tests.{lt-ltb, le-ltb, ltb-false, eq-eqb, eqb-true}
+use borrow.Author.Tests.{le-ltb, ltb-false, eqb-true}
 use Rattle.field.specs.Table.{among, indicators, formats}
 use Rattle.field.specs.Bitmap.{listed}
 use Rattle.message.specs.Message.{Shaped, largest}
@@ -18,16 +17,16 @@ use Rattle.message.specs.declared.Message.{Message}
 use Rattle.reading.specs.Reading.{Fields, bad, good, readFields, refused, accepted, assembled, indicatorIn, bitmapOf, readMessage}
 use Rattle.reading.specs.declared.Reading.{Reading}
 use Rattle.reading.specs.declared.ReadOutcome.the-variants.{Read, Refused as Not}
-use Rattle.message.proofs.Places.{roomsOf, rooms-formats}
+use Rattle.message.proofs.Places.{rooms-formats}
 use Rattle.message.proofs.Late.{late-named}
-use Rattle.writing.specs.Writing.{WriteResult, fieldsFault, fieldsBytes, messageBytes, messageFault, written, writeMessage}
+use Rattle.writing.specs.Writing.{fieldsFault, fieldsBytes, messageBytes, messageFault, written, writeMessage}
 use Rattle.writing.specs.declared.Writing.the-variants.{Written, Refused}
-use Rattle.writing.proofs.Faults.{Writable, fault-inversion}
+use Rattle.writing.proofs.Faults.{fault-inversion}
 use Rattle.writing.proofs.Putting.{message-fits}
 use Rattle.message_theorems.specs.RoundTrip.{Bytes, ReadsBack, WrittenReadsBack, ReadWritesBack, NeverLonger}
 use Rattle.message_theorems.proofs.Fields.{allWellFormed, keptCounts, keptContents, fields-back, kept-fields, Again, fields-again}
 
-formats-well-formed : allWellFormed formats ≡ true
+pub formats-well-formed : allWellFormed formats ≡ true
 unfolding formats
 formats-well-formed = refl
 
@@ -37,7 +36,7 @@ record IsWritten (m : Message) (o : List ℕ) (k : ℕ) : Type 0 where
   count : k ≡ length (messageBytes m)
   buffer : (writeMessage m o) .buffer ≡ messageBytes m ++ drop k o
 
-refused-written : {e k : ℕ} → Refused e ≡ Written k → ⊥
+pub refused-written : {e k : ℕ} → Refused e ≡ Written k → ⊥
 refused-written {e} {k} q = let z : _≡_ {A = ℕ} 0 1 = cc in omega arith
 
 is-written : (m : Message) (o : List ℕ) (k : ℕ) → (writeMessage m o) .outcome ≡ Written k → IsWritten m o k
@@ -60,7 +59,7 @@ is-written m o k = short (ltb (length o) largest) refl
     short false e q = room (eqb (messageFault m) 0) refl e q
 
 -- the message that is left where only what the bitmap names is kept
-kept : Message → Message
+unfoldable pub kept : Message → Message
 kept m =
     record {
       indicator = m .indicator;
@@ -69,33 +68,53 @@ kept m =
       contents = keptContents formats (m .bitmap) (m .counts) (m .contents);
     }
 
+-- the first fault of its fields
+abbrev pub faultOf : Message → ℕ
+faultOf m = fieldsFault formats (m .bitmap) (m .counts) (m .contents)
+
 -- it has what the bitmap names, so the late rules judge it alike
-kept-same : (m : Message) → Shaped m → messageFault m ≡ 0 → SameNamed (kept m) m
+kept-same : (m : Message) → Shaped m → faultOf m ≡ 0 → SameNamed (kept m) m
 unfolding kept
 kept-same m s z =
     record {
       indicator = refl;
       bitmap = refl;
-      fields = kept-fields formats (m .bitmap) (m .counts) (m .contents) (omega (arith, rooms-formats, s .contents-length)) (fault-inversion m z .no-fault);
+      fields = kept-fields formats (m .bitmap) (m .counts) (m .contents) (omega (arith, rooms-formats, s .contents-length)) z;
     }
 
-kept-late : (m : Message) → Shaped m → messageFault m ≡ 0 → lateFault (kept m) ≡ 0
-kept-late m s z = late-named (kept m) m (kept-same m s z) ∙ fault-inversion m z .late
+pub kept-late : (m : Message) → Shaped m → faultOf m ≡ 0 → lateFault (kept m) ≡ lateFault m
+kept-late m s z = late-named (kept m) m (kept-same m s z)
 
-bytes-read : (m : Message) → Shaped m → messageFault m ≡ 0 → readMessage (messageBytes m) ≡ record { outcome = Read; message = kept m }
-unfolding readMessage messageBytes kept
-bytes-read m s z =
-    let w = fault-inversion m z in
-    let bm = m .bitmap in
-    let rest = fieldsBytes formats bm (m .counts) (m .contents) in
-    let i : m .indicator / 256 * 256 + m .indicator % 256 ≡ m .indicator = omega arith in
-    let tb : take 8 (bm ++ rest) ≡ bm = take-at bm rest 8 (s .bitmap-length) in
-    let dr : drop 8 (bm ++ rest) ≡ rest = drop-at bm rest 8 (s .bitmap-length) in
-    let l : ltb (length (messageBytes m)) 10 ≡ false = le-ltb (length (messageBytes m)) 10 (omega (arith, length-append bm rest, s .bitmap-length)) in
-    let fb = fields-back formats bm (m .counts) (m .contents) formats-well-formed (omega (arith, rooms-formats, s .contents-length)) (w .no-fault) in
-    rw (l, i, w .indicator-listed, tb, w .fields-listed, dr, fb, kept-late m s z)
+-- what is judged after the length: the type, the bitmap, then the fields and the message
+unfoldable pub afterHead : ℕ → List ℕ → Fields → Reading
+afterHead i bm x = cond (among i indicators) (cond (listed bm) (assembled i bm x) (refused 5)) (refused 4)
 
-kept-reads : (m : Message) → Shaped m → messageFault m ≡ 0 → ReadsBack m (record { outcome = Read; message = kept m })
+pub head-read : (x y : ℕ) (bm rest : List ℕ) → length bm ≡ 8
+    → readMessage (x ∷ y ∷ (bm ++ rest)) ≡ afterHead (x * 256 + y) bm (readFields formats bm rest)
+unfolding readMessage afterHead
+head-read x y bm rest l =
+    rw (le-ltb (length (x ∷ y ∷ (bm ++ rest))) 10 (omega (arith, length-append bm rest)), take-at bm rest 8 l, drop-at bm rest 8 l)
+
+module _ (m : Message) (s : Shaped m) where
+  pub bytes-head : readMessage (messageBytes m)
+      ≡ afterHead (m .indicator) (m .bitmap) (readFields formats (m .bitmap) (fieldsBytes formats (m .bitmap) (m .counts) (m .contents)))
+  unfolding messageBytes
+  bytes-head =
+      let i : m .indicator / 256 * 256 + m .indicator % 256 ≡ m .indicator = omega arith in
+      rw i at (head-read (m .indicator / 256) (m .indicator % 256) (m .bitmap) (fieldsBytes formats (m .bitmap) (m .counts) (m .contents)) (s .bitmap-length))
+
+  pub fields-kept : faultOf m ≡ 0
+      → readFields formats (m .bitmap) (fieldsBytes formats (m .bitmap) (m .counts) (m .contents)) ≡ good (kept m .counts) (kept m .contents)
+  unfolding kept
+  fields-kept z = fields-back formats (m .bitmap) (m .counts) (m .contents) formats-well-formed (omega (arith, rooms-formats, s .contents-length)) z
+
+  bytes-read : messageFault m ≡ 0 → readMessage (messageBytes m) ≡ record { outcome = Read; message = kept m }
+  unfolding afterHead kept
+  bytes-read z =
+      let w = fault-inversion m z in
+      rw (bytes-head, w .indicator-listed, w .fields-listed, fields-kept (w .no-fault), kept-late m s (w .no-fault), w .late)
+
+kept-reads : (m : Message) → Shaped m → faultOf m ≡ 0 → ReadsBack m (record { outcome = Read; message = kept m })
 kept-reads m s z =
     let k = kept-same m s z in
     record { outcome = refl; indicator = k .indicator; bitmap = k .bitmap; fields = k .fields }
@@ -104,19 +123,19 @@ pub written-reads-back : WrittenReadsBack
 written-reads-back m o k s q =
     let w = is-written m o k q in
     let t : take k ((writeMessage m o) .buffer) ≡ messageBytes m = rw (w .buffer) (take-at (messageBytes m) (drop k o) k (sym (w .count))) in
-    rw (t, bytes-read m s (w .no-fault)) (kept-reads m s (w .no-fault))
+    rw (t, bytes-read m s (w .no-fault)) (kept-reads m s (fault-inversion m (w .no-fault) .no-fault))
 
 pub never-longer : NeverLonger
 never-longer m o k s q = let w = is-written m o k q in rw (w .count) (message-fits m s (w .no-fault))
 
-not-read : {e : ℕ} → Not e ≡ Read → ⊥
+pub not-read : {e : ℕ} → Not e ≡ Read → ⊥
 not-read {e} q = let z : _≡_ {A = ℕ} 0 1 = cc in omega arith
 
 passed-no : (b : Bool) (e : ℕ) (y : Reading) → (cond b (refused e) y) .outcome ≡ Read → (b ≡ false) × (y .outcome ≡ Read)
 passed-no true e y q = absurd (not-read q)
 passed-no false e y q = (refl, q)
 
-passed-yes : (b : Bool) (e : ℕ) (y : Reading) → (cond b y (refused e)) .outcome ≡ Read → (b ≡ true) × (y .outcome ≡ Read)
+pub passed-yes : (b : Bool) (e : ℕ) (y : Reading) → (cond b y (refused e)) .outcome ≡ Read → (b ≡ true) × (y .outcome ≡ Read)
 passed-yes true e y q = (refl, q)
 passed-yes false e y q = absurd (not-read q)
 
@@ -131,7 +150,7 @@ late-passed m = go (eqb (lateFault m) 0) refl
     go true e q = eqb-true (lateFault m) 0 e
     go false e q = absurd (not-read q)
 
-fields-good : (i : ℕ) (bm : List ℕ) (x : Fields) → (assembled i bm x) .outcome ≡ Read
+pub fields-good : (i : ℕ) (bm : List ℕ) (x : Fields) → (assembled i bm x) .outcome ≡ Read
     → (cs : List ℕ) × (bs : List ℕ) × (x ≡ good cs bs) × (lateFault (messageFrom i bm cs bs) ≡ 0)
 fields-good i bm (bad e) q = absurd (not-read q)
 fields-good i bm (good cs bs) q = (cs, bs, refl, late-passed (messageFrom i bm cs bs) q)
@@ -177,7 +196,7 @@ pub read-head : (s : List ℕ) → (readMessage s) .outcome ≡ Read
 read-head s q = let r = is-read s q in rw (r .message) (refl, refl)
 
 -- ten bytes and the rest
-split-ten : (s : List ℕ) → 10 ≤ length s → getD s 0 0 ∷ getD s 1 0 ∷ (take 8 (drop 2 s) ++ drop 10 s) ≡ s
+pub split-ten : (s : List ℕ) → 10 ≤ length s → getD s 0 0 ∷ getD s 1 0 ∷ (take 8 (drop 2 s) ++ drop 10 s) ≡ s
 split-ten [] h = absurd (not-suc-le-zero h)
 split-ten (a ∷ []) h = absurd (omega arith)
 split-ten (a ∷ b ∷ s) h = ap (λ (l : List ℕ). a ∷ b ∷ l) (take-append-drop 8 s)

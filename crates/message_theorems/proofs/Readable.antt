@@ -85,7 +85,7 @@ read-keeps-formats s q n e =
     fields-keep formats (m .bitmap) (m .counts) (m .contents) (omega (arith, rooms-formats, r .shape .contents-length)) (r .no-fault) n 0 0 e
 
 -- a field that is named has a bit of the bitmap
-bit-listed : (bm : List ℕ) → length bm ≡ 8 → listed bm ≡ true → (n : ℕ) → names bm n ≡ true → among n (numbers formats) ≡ true
+pub bit-listed : (bm : List ℕ) → length bm ≡ 8 → listed bm ≡ true → (n : ℕ) → names bm n ≡ true → among n (numbers formats) ≡ true
 unfolding names listed listedAt
 bit-listed bm l h n e =
     let t = and-eq-true-iff (ltb 0 n) (bit bm (n - 1)) .0 e in

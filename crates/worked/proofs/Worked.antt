@@ -1,28 +1,19 @@
--- The starred cases hold: all but *i compute.
-use mathlib.Core.Path.{refl}
-use Rattle.digits.specs.Digits.{half, packedByte, pack, halfAllowed, isPacked}
-use Rattle.field.specs.Table.{formats, indicators}
-use Rattle.field.specs.Bitmap.{bit, names, listedAt, listed}
-use Rattle.field.specs.Contents.{allowed, allPrintable}
-use Rattle.span.specs.Span.{fieldBytes}
-use Rattle.checks.specs.Checks.{firstBroken}
-use Rattle.writing.specs.Writing.{fieldFault, fieldsFault, namedBytes, fieldsBytes, messageBytes, messageFault, writeMessage}
+-- The starred cases hold.
 use Rattle.worked.specs.Worked.{Worked}
 use Rattle.worked.proofs.Cases as calls
 use Rattle.worked.proofs.Sales as sales
 
 pub worked : Worked
-unfolding half packedByte pack isPacked halfAllowed formats indicators bit names listedAt listed allowed allPrintable fieldBytes
-    fieldFault fieldsFault namedBytes fieldsBytes messageBytes messageFault writeMessage firstBroken
 worked =
     record {
-      a = refl;
-      b = refl;
-      c = refl;
-      d = refl;
-      d-fields = refl;
-      e = refl;
-      longest = refl;
+      sent-bytes = calls.sent-bytes;
+      a = calls.sent-at 22 6;
+      b = calls.sent-at 31 2;
+      c = calls.sent-at 60 8;
+      d = calls.sent-at 2 8;
+      d-fields = calls.d-fields;
+      e = calls.e;
+      longest = calls.longest;
       f = calls.f;
       f-counts = calls.f-counts;
       f-settles = calls.f-settles;
@@ -37,5 +28,6 @@ worked =
       i-refused = sales.i-refused;
       j = calls.j;
       j-refused = calls.j-refused;
+      k-rest = calls.k-rest;
       k = calls.k;
     }

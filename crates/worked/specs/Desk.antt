@@ -1,8 +1,8 @@
--- Document 01, "Worked at the desk": terminals, cards and answers of the starred cases f to k.
-use mathlib.Core.List.{List, [], _∷_, _++_}
-use mathlib.Core.Bool.{Bool, true}
+-- Document 01, "Worked at the desk": terminals, cards and answers of the starred cases.
+use mathlib.Core.List.{List, [], _∷_}
+use mathlib.Core.Bool.{true}
 use Prim.Native.Nat.{ℕ, _*_}
-use lib.ListN.{replicate, take}
+use lib.ListN.{replicate}
 use Rattle.digits.specs.Numbers.{digitsOf}
 use Rattle.message.specs.Message.{largest}
 use Rattle.message.specs.Build.{Item, digits, bytes, messageOf}
@@ -13,9 +13,8 @@ use Rattle.kinds.specs.declared.Totals.{Totals}
 use Rattle.state.specs.State.{fresh}
 use Rattle.state.specs.Calls.{lend, Result, quiet}
 use Rattle.state.specs.declared.Settings.{Settings}
-use Rattle.desk.specs.declared.Desk.{Desk}
 use Rattle.outgoing.specs.Outgoing.{field60}
-use Rattle.terminal.specs.Events.{Event, signed-on, starts, answers, no-answer, send-reversal, run}
+use Rattle.terminal.specs.Events.{Event, signed-on, starts, answers, run}
 
 -- three sendings, refunds up to 100,000 fen
 abbrev pub settings : ℕ → Settings
