@@ -9,21 +9,18 @@ use lib.ListN.{length}
 use borrow.Author.Tests.{eqb-true, eqb-false, eq-eqb, leb-true, not-false}
 use Rattle.numbers.specs.Limits.{lastNumber}
 use Rattle.numbers.specs.declared.Batch.{Batch}
-use Rattle.digits.specs.Numbers.{digitsOf}
-use Rattle.digits.proofs.Numbers.{digitsOf-digits, length-digitsOf}
-use Rattle.digits.specs.declared.Number.the-variants.{Is}
+use Rattle.numbers.specs.declared.Trace.{Trace}
+use Rattle.message.specs.Build.{Item, digits, bytes}
 use Rattle.message.specs.Message.{Field, largest}
 use Rattle.message.specs.declared.Message.{Message}
 use Rattle.reading.specs.Reading.{readMessage}
 use Rattle.reading.specs.declared.ReadOutcome.{ReadOutcome}
 use Rattle.reading.specs.declared.ReadOutcome.the-variants.{Read, Refused}
 use Rattle.writing.specs.Writing.{messageBytes}
-use Rattle.parts.specs.Parts.{numberIn, partOf}
-use Rattle.parts.specs.declared.Part.the-variants as part
 use Rattle.entry.specs.Form.{inForm, keepsResends, keepsSilent}
 use Rattle.entry.specs.declared.Entry.{Entry}
-use Rattle.entry.proofs.Form.{InForm, in-form}
-use Rattle.journal.specs.Journal.{entriesOf, entryAt, setByte, isAt, nextDue, withResends}
+use Rattle.entry.proofs.Form.{in-form}
+use Rattle.journal.specs.Journal.{entriesOf, entryAt, setByte, isAt, nextDue, taken, withResends}
 use Rattle.journal.specs.declared.Found.{Found}
 use Rattle.journal.specs.declared.Found.the-variants.{At as Found-at, Nowhere}
 use Rattle.journal.proofs.Entries.{set-resends}
@@ -38,9 +35,11 @@ use Rattle.checks.specs.Checks.{firstBroken}
 use Rattle.checks.proofs.Choices.{passed}
 use Rattle.rules.specs.Rules.{rules12, due}
 use Rattle.rules.proofs.InOrder.{Fit, fit}
-use Rattle.batch_messages.specs.BatchMessages.{itemFields, itemMessage}
-use Rattle.batch_messages.proofs.Held.{EntryHeld, item-held, upload-listed}
+use Rattle.traces.proofs.Free.{taken-range}
+use Rattle.batch_messages.specs.BatchMessages.{itemFields, itemMessage, endFields, endMessage}
+use Rattle.batch_messages.proofs.Held.{EntryHeld, item-held, end-held, upload-listed}
 use Rattle.outgoing.specs.Held.{SettingsHeld}
+use Rattle.outgoing_theorems.specs.Theorems.{Reads}
 use Rattle.journal_effects.specs.JournalEffects.{silentIn, resent}
 use Rattle.call_sign_on.specs.SignOn.{signedOn}
 use Rattle.call_start.specs.Start.{start}
@@ -49,23 +48,25 @@ use Rattle.call_reversal.specs.SendReversal.{sendFrom, sendReversal}
 use Rattle.call_settle.specs.Settle.{settle}
 use Rattle.call_upload.specs.SendNextUpload.{sendsNext, sendNextUploadRules, uploadFrom, sendNextUpload}
 use Rattle.terminal.specs.Events.{Event, signed-on, starts, answers, no-answer, power-returned, send-reversal, settles, send-next-upload, call}
-use Rattle.history.specs.Words.{messageIn, kindIn, amountIn, isRequest, isApproval, macGood, isEnd, closesBatch}
+use Rattle.history.specs.Words.{messageIn, kindIn, isRequest, isApproval, macGood, closesBatch}
 use Rattle.history.specs.History as history
 use Rattle.history.specs.History.{Given, Account}
-use Rattle.history.proofs.Said.{handedOut, sent-reads, number-read}
-use Rattle.history.proofs.Sent.{item-typed, end-typed, item-says}
+use Rattle.history.proofs.Said.{handedOut, sent-reads}
 use Rattle.history.proofs.Settles.{settings-held, entry-held}
 use Rattle.history.proofs.Starts.{fit-first}
 use Rattle.history.proofs.Tied.{Tied}
-use Rattle.history_theorems.specs.Standing.{Standing}
+use Rattle.history_theorems.specs.Standing.{Standing, traceIn}
 use Rattle.history_theorems.specs.Approvals.{Approval, IsEntry}
-use Rattle.history_theorems.specs.Uploads.{Progress, unsent, silent, ended, Place, none, at, nextItem, leaves, changeAt, Upload, withItem, whenSent, isItem, changed, falls-silent, isAnswered, whenSilent, whenHeard, whenQuiet, whenGiven, IsItemOf, SendsNext, EachFew}
+use Rattle.history_theorems.specs.Fields.{processingFor, field60, yuan, uploadItems, endItems}
+use Rattle.history_theorems.specs.Uploads.{Progress, unsent, silent, ended, Place, none, at, nextItem, leaves, changeAt, Upload, withItem, whenSent, isItem, changed, falls-silent, isAnswered, whenSilent, whenHeard, whenQuiet, whenGiven, SendsNext, EachFew}
 use Rattle.history_theorems.proofs.Stands.{Stands}
 use Rattle.history_theorems.proofs.Said.{givenIn}
-use Rattle.history_theorems.proofs.Sends.{trace-read, end-goes}
+use Rattle.history_theorems.proofs.Sends.{trace-read}
 use Rattle.history_theorems.proofs.Booked.{Booked}
-use Rattle.history_theorems.proofs.Progress.{IsMarked, Marks, marks-changed, marks-progress, placeOf, next-alike, at-place, MayLeaveAt, may-leave-at, few-leaves, few-changed, few-more, silent-few}
-use Rattle.history_theorems.proofs.Uploaded.{Uploads, item-said, silent-in, heard-uploads}
+use Rattle.history_theorems.proofs.Copies.{Copied, EachExact, copied-place}
+use Rattle.history_theorems.proofs.ByKind.{processing-is}
+use Rattle.history_theorems.proofs.Progress.{IsMarked, Marks, marks-changed, marks-progress, placeOf, next-alike, MayLeaveAt, may-leave-at, few-leaves, few-changed, few-more, silent-few}
+use Rattle.history_theorems.proofs.Uploaded.{Uploads, silent-in, heard-uploads}
 
 -- as an item leaves, its resends grow
 left-unsent : (e : Entry) (p : Progress) → e .mark ≡ 0 → IsMarked e p → IsMarked e (leaves p)
@@ -94,38 +95,48 @@ resent-marks n i j ps h = go (eqb (e .mark) 0) refl
         (marks-changed (withResends (e .resends + 1)) leaves i (entriesOf n j) ps h (λ p m. left-again e p (eqb-false (e .mark) 0 q) m))
 
 -- the item of an entry is that of its approval
-kind-said : (m : Message) (k : ℕ) → partOf m part.Kind ≡ Is k → kindIn m ≡ k
-unfolding kindIn
-kind-said m k e = rw e
+abbrev itemWith : Settings → Field → List ℕ → Field → Field → Field → List ℕ → List ℕ → List Item
+itemWith x card processing amount trace reference authorisation sixty =
+    record { number = 2; field = card }
+    ∷ digits 3 processing
+    ∷ record { number = 4; field = amount }
+    ∷ record { number = 11; field = trace }
+    ∷ record { number = 37; field = reference }
+    ∷ bytes 38 authorisation
+    ∷ bytes 41 (x .terminal)
+    ∷ bytes 42 (x .merchant)
+    ∷ bytes 49 yuan
+    ∷ digits 60 sixty
+    ∷ []
 
-amount-said : (m : Message) (n : ℕ) → numberIn m 4 0 12 ≡ Is n → amountIn m ≡ n
-unfolding amountIn
-amount-said m n e = rw e
+same-item : (x : Settings) {c c′ a a′ t t′ r r′ : Field} {p p′ k k′ s s′ : List ℕ} → c ≡ c′ → p ≡ p′ → a ≡ a′ → t ≡ t′ → r ≡ r′ → k ≡ k′ → s ≡ s′
+    → itemWith x c p a t r k s ≡ itemWith x c′ p′ a′ t′ r′ k′ s′
+same-item x c p a t r k s = rw (c, p, a, t, r, k, s)
 
-item-of : (s : Settings) (batch : Batch) (m : List ℕ) (e : Entry) → largest ≤ length m → batch .0 ≤ lastNumber → SettingsHeld s → EntryHeld e → InForm e
-    → (x : Approval) (later : List Approval) → IsEntry e x later → IsItemOf (messageIn (handedOut (messageBytes (itemMessage s batch e)) m)) x
+items-same : (s : Settings) (batch : Batch) (n : ℕ) (e : Entry) (x : Approval) (later : List Approval) → batch .0 ≡ n → IsEntry e x later → Copied e x
+    → itemFields s batch e ≡ uploadItems s n x
+items-same s batch n e x later p h c =
+    same-item s (c .card-copied) (processing-is (e .kind) ∙ ap processingFor (h .kind-is)) (c .amount-copied) (c .trace-copied) (c .reference-copied)
+    (h .authorisation-is) (ap (λ (k : ℕ). field60 k (batch .0) 201) (h .kind-is) ∙ ap (λ (k : ℕ). field60 (kindIn (x .request)) k 201) p)
+
+item-reads : (s : Settings) (batch : Batch) (m : List ℕ) (e : Entry) → largest ≤ length m → SettingsHeld s → EntryHeld e
+    → Reads 0x0320 (itemFields s batch e) (readMessage (handedOut (messageBytes (itemMessage s batch e)) m))
 unfolding itemMessage
-item-of s batch m e room small held entry form x later h =
-    let xs = itemFields s batch e in
-    let r = sent-reads 0x0320 xs m upload-listed (item-held s batch held e entry) room in
-    let said = item-says s batch m room small e held entry (form .kind-listed) in
-    let amount = number-read _ 0x0320 xs r 4 (digitsOf 12 (e .amount)) (omega arith) (omega arith) refl refl (digitsOf-digits 12 (e .amount))
-    0 12 (e .amount) (omega arith) refl (omega arith) (omega (arith, form .amount-most)) in
-    record {
-      type-is = item-said _ (item-typed _ (said .indicator) (said .code-number)) (said .indicator);
-      named = r .named;
-      kind-is = kind-said _ (e .kind) (said .kind-number) ∙ h .kind-is;
-      amount-is = amount-said _ (e .amount) amount ∙ h .amount-is;
-      trace-is = trace-read _ 0x0320 xs (e .trace) r refl refl (form .trace-most) ∙ h .trace-is;
-      digits-are = ap (λ (f : Field). f .count) (r .fields 2 refl) ∙ length-digitsOf (e .digits) _ ∙ h .digits-are;
-      reference-is = ap (λ (f : Field). f .bytes) (r .fields 37 refl) ∙ h .reference-is;
-      authorisation-is = ap (λ (f : Field). f .bytes) (r .fields 38 refl) ∙ h .authorisation-is;
-    }
+item-reads s batch m e room held entry = sent-reads 0x0320 (itemFields s batch e) m upload-listed (item-held s batch held e entry) room
+
+-- the end of the upload, with the trace that it took
+end-reads : (s : Settings) (batch : Batch) (n : ℕ) (m : List ℕ) (trace : Trace) → largest ≤ length m → SettingsHeld s → trace .0 ≤ lastNumber → batch .0 ≡ n
+    → (let b = handedOut (messageBytes (endMessage s batch trace)) m in Reads 0x0320 (endItems s n (traceIn (messageIn b))) (readMessage b))
+unfolding endMessage
+end-reads s batch n m trace room held most p =
+    let r = sent-reads 0x0320 (endFields s batch trace) m upload-listed (end-held s batch held trace) room in
+    rw (trace-read _ 0x0320 (endFields s batch trace) trace r refl refl most, ← p) r
 
 -- what is said of a call's result
 pub record Uploaded (l : ℕ) (e : Event) (y : Standing) (xs : List Approval) (u : Upload) (r : Result) : Type 0 where
   pub uploads : Uploads (r .state) (r .lent .journal) (whenGiven l (givenIn r) e y xs u)
-  pub sends-next : (b : List ℕ) → e ≡ send-next-upload → givenIn r ≡ history.sent b → SendsNext (nextItem xs (u .progress)) xs (messageIn b)
+  pub sends-next : (b : List ℕ) → e ≡ send-next-upload → givenIn r ≡ history.sent b
+      → SendsNext (r .state .settings) (y .batch) (nextItem xs (u .progress)) xs b
   pub may-leave : (b : List ℕ) → e ≡ send-next-upload → givenIn r ≡ history.sent b → (i : ℕ) → nextItem xs (u .progress) ≡ at i
       → MayLeaveAt l i (u .progress)
 
@@ -171,7 +182,8 @@ module _ (l : ℕ) (y : Standing) (xs : List Approval) (u : Upload) where
 
   -- the next item, or the end
   module _ (t : State) (lent : Lent) (a : Account) (tied : Tied l (inPhase Uploading t) (lent .journal) a) (d : Stands (inPhase Uploading t) (lent .journal) y)
-      (booked : Booked t (lent .journal) xs) (h : Uploads (inPhase Uploading t) (lent .journal) u) (f : Fit (inPhase Uploading t) lent) where
+      (booked : Booked t (lent .journal) xs) (exact : EachExact xs) (h : Uploads (inPhase Uploading t) (lent .journal) u)
+      (f : Fit (inPhase Uploading t) lent) where
     abbrev es : List Entry
     es = entriesOf (t .entries) (lent .journal)
 
@@ -198,14 +210,16 @@ module _ (l : ℕ) (y : Standing) (xs : List Approval) (u : Upload) where
         let x = entryAt es i in
         let k = next-at es i e .below in
         let g = in-form x (every-at (λ i e. inForm e) 0 es (f .order .journal .form) i k) in
-        let item = item-of (t .settings) (t .batch) (lent .message) x (f .message-room) (f .order .state .batch-most)
-        (settings-held l (inPhase Uploading t) lent a tied f) (entry-held (t .entries) i (lent .journal) g) g in
+        let r = item-reads (t .settings) (t .batch) (lent .message) x (f .message-room) (settings-held l (inPhase Uploading t) lent a tied f)
+        (entry-held (t .entries) i (lent .journal) g) in
         let b = handedOut (messageBytes (itemMessage (t .settings) (t .batch) x)) (lent .message) in
         record {
           uploads = rw (next-is (Found-at i) e) (record { marks = resent-marks (t .entries) i (lent .journal) (u .progress) (h .marks); item-is = refl });
           sends-next =
               λ c p q.
-              rw (next-is (Found-at i) e, ← same-sent b c q) (at-place (IsItemOf (messageIn b)) i es xs booked k item);
+              rw (next-is (Found-at i) e, ← same-sent b c q)
+              (copied-place (λ v. Reads 0x0320 (uploadItems (t .settings) (y .batch) v) (readMessage b)) i es xs booked exact k (g .digits-most)
+              (λ v later w z. rw (items-same (t .settings) (t .batch) (y .batch) x v later (d .members .1) w z) at r));
           may-leave =
               λ c p q m z.
               let same : i ≡ m = let w : at i ≡ at m = sym (next-is (Found-at i) e) ∙ z in cc in
@@ -214,31 +228,30 @@ module _ (l : ℕ) (y : Standing) (xs : List Approval) (u : Upload) where
 
     end-uploaded : nextDue (due Uploading) es ≡ Nowhere → Uploaded l send-next-upload y xs u (sendsNext Nowhere (inPhase Uploading t) lent)
     end-uploaded e =
-        let said = end-goes l t lent a y 0 refl tied d f .stands .phase-is .1 in
+        let trace : Trace = record { 0 = taken es (t .next .0) } in
+        let most = taken-range es (t .next .0) (f .order .state .next-least) (f .order .state .next-most) .1 in
+        let r = end-reads (t .settings) (t .batch) (y .batch) (lent .message) trace (f .message-room) (settings-held l (inPhase Uploading t) lent a tied f) most
+        (d .members .1) in
+        let b = handedOut (messageBytes (endMessage (t .settings) (t .batch) trace)) (lent .message) in
         record {
           uploads = rw (next-is Nowhere e) (record { marks = h .marks; item-is = tt });
-          sends-next =
-              λ c p q.
-              rw (next-is Nowhere e) (ends c q (end-typed _ (said .indicator) (said .code-number) .is-end));
+          sends-next = λ c p q. rw (next-is Nowhere e, ← same-sent b c q) r;
           may-leave = λ c p q m z. let w : none ≡ at m = sym (next-is Nowhere e) ∙ z in let v : _≡_ {A = ℕ} 0 1 = cc in absurd (omega arith);
         }
-      where
-        ends : (c : List ℕ) {b : List ℕ} → history.sent b ≡ history.sent c → isEnd (messageIn b) ≡ true → isEnd (messageIn c) ≡ true
-        ends c {b} q k = rw (same-sent b c q) at k
 
     next-uploaded : (x : Found) → nextDue (due Uploading) es ≡ x → Uploaded l send-next-upload y xs u (sendsNext x (inPhase Uploading t) lent)
     next-uploaded (Found-at i) e = item-uploaded i e
     next-uploaded Nowhere e = end-uploaded e
 
 upload-from : (p : Phase) (l : ℕ) (t : State) (lent : Lent) (a : Account) (y : Standing) (xs : List Approval) (u : Upload) → Tied l (inPhase p t) (lent .journal) a
-    → Stands (inPhase p t) (lent .journal) y → Booked t (lent .journal) xs → Uploads (inPhase p t) (lent .journal) u → Fit (inPhase p t) lent
+    → Stands (inPhase p t) (lent .journal) y → Booked t (lent .journal) xs → EachExact xs → Uploads (inPhase p t) (lent .journal) u → Fit (inPhase p t) lent
     → Uploaded l send-next-upload y xs u (uploadFrom p (inPhase p t) lent)
-upload-from Resting l t lent a y xs u tied d b h f = quiet-uploaded l y xs u send-next-upload (quiet (inPhase Resting t) lent) refl h
-upload-from (Waiting w) l t lent a y xs u tied d b h f = quiet-uploaded l y xs u send-next-upload (quiet (inPhase (Waiting w) t) lent) refl h
-upload-from (Pending v) l t lent a y xs u tied d b h f = quiet-uploaded l y xs u send-next-upload (quiet (inPhase (Pending v) t) lent) refl h
-upload-from Settling l t lent a y xs u tied d b h f = quiet-uploaded l y xs u send-next-upload (quiet (inPhase Settling t) lent) refl h
-upload-from Uploading l t lent a y xs u tied d b h f =
-    next-uploaded l y xs u t lent a tied d b h f (nextDue (due Uploading) (entriesOf (t .entries) (lent .journal))) refl
+upload-from Resting l t lent a y xs u tied d b k h f = quiet-uploaded l y xs u send-next-upload (quiet (inPhase Resting t) lent) refl h
+upload-from (Waiting w) l t lent a y xs u tied d b k h f = quiet-uploaded l y xs u send-next-upload (quiet (inPhase (Waiting w) t) lent) refl h
+upload-from (Pending v) l t lent a y xs u tied d b k h f = quiet-uploaded l y xs u send-next-upload (quiet (inPhase (Pending v) t) lent) refl h
+upload-from Settling l t lent a y xs u tied d b k h f = quiet-uploaded l y xs u send-next-upload (quiet (inPhase Settling t) lent) refl h
+upload-from Uploading l t lent a y xs u tied d b k h f =
+    next-uploaded l y xs u t lent a tied d b k h f (nextDue (due Uploading) (entriesOf (t .entries) (lent .journal))) refl
 
 -- an answer
 answered-in : (b : List ℕ) (good : Bool) → readMessage b .outcome ≡ Read → (p : Phase) (s : State) (lent : Lent) (y : Standing) (u : Upload)
@@ -265,7 +278,7 @@ read-uploaded (Refused n) l b good r s lent y xs u f d h = refused-uploaded l y 
 
 -- any call
 module _ (l : ℕ) (s : State) (lent : Lent) (a : Account) (y : Standing) (xs : List Approval) (u : Upload) (tied : Tied l s (lent .journal) a)
-    (d : Stands s (lent .journal) y) (booked : Booked s (lent .journal) xs) (h : Uploads s (lent .journal) u) where
+    (d : Stands s (lent .journal) y) (booked : Booked s (lent .journal) xs) (exact : EachExact xs) (h : Uploads s (lent .journal) u) where
   pub call-uploaded : (e : Event) → Uploaded l e y xs u (call e s lent)
   unfolding signedOn start answer noAnswer powerReturned sendReversal settle sendNextUpload
   call-uploaded (signed-on batch) =
@@ -296,7 +309,7 @@ module _ (l : ℕ) (s : State) (lent : Lent) (a : Account) (y : Standing) (xs : 
       (λ z. sent-other l y xs u settles _ (λ p. let q : _≡_ {A = ℕ} 0 1 = cc in omega arith) (record { marks = h .marks; item-is = tt }))
   call-uploaded send-next-upload =
       judged-uploaded l y xs u send-next-upload (firstBroken (sendNextUploadRules s lent)) s lent (uploadFrom (s .phase) s lent) h
-      (λ z. upload-from (s .phase) l s lent a y xs u tied d booked h (fit-first s lent _ refl z))
+      (λ z. upload-from (s .phase) l s lent a y xs u tied d booked exact h (fit-first s lent _ refl z))
 
 -- the resends stay at most L
 heard-few : (l : ℕ) (good : Bool) (m : Message) (y : Standing) (u : Upload) → EachFew l (u .progress) → EachFew l (whenHeard good m y u .progress)

@@ -8,8 +8,14 @@ pub mod Ledger
 pub mod Starts
 pub mod Entered
 pub mod Booked
+pub mod Copies
 pub mod Traced
 pub mod Progress
 pub mod Uploaded
 pub mod Items
+pub mod Settled
+pub mod ByKind
+pub mod Requests
+pub mod Keyed
+pub mod Started
 pub mod Theorems

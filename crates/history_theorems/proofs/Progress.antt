@@ -5,7 +5,6 @@ use mathlib.Core.Bool.{Bool, true, false, cond, _&&_}
 use Prim.Native.Nat.{ℕ, zero, suc, _≤_, _<_}
 use native.Mathlib.Omega.{arith}
 use lib.Dec.{eqb, leb}
-use lib.ListN.{length}
 use borrow.Author.Tests.{ne-eqb}
 use Rattle.kinds.specs.Kinds as kinds
 use Rattle.entry.specs.Form.{dueEntry}
@@ -15,7 +14,7 @@ use Rattle.journal.specs.declared.Found.{Found}
 use Rattle.journal.specs.declared.Found.the-variants.{At, Nowhere}
 use Rattle.history.specs.Words.{isDebit, isCredit}
 use Rattle.history_theorems.specs.Approvals.{Approval, IsEntry, AreEntries}
-use Rattle.history_theorems.specs.Uploads.{Progress, unsent, silent, ended, isUnsent, isSilent, isDue, Place, none, at, firstAt, orElse, nextItem, leaves, falls-silent, changeAt, AtPlace, Few, EachFew}
+use Rattle.history_theorems.specs.Uploads.{Progress, unsent, silent, ended, isUnsent, isSilent, isDue, Place, none, at, firstAt, orElse, nextItem, leaves, falls-silent, changeAt, Few, EachFew}
 
 -- what the mark and the resends of an entry say
 abbrev pub IsMarked : Entry → Progress → Type 0
@@ -117,14 +116,6 @@ next-alike es xs ps h m =
     go : (f g : Found) → orElse (placeOf f) (placeOf g) ≡ placeOf (otherwise f g)
     go (At i) g = refl
     go Nowhere g = refl
-
--- the approval at a place, by its entry
-pub at-place : (P : Approval → Type 0) (i : ℕ) (es : List Entry) (xs : List Approval) → AreEntries es xs → i < length es
-    → ((x : Approval) (later : List Approval) → IsEntry (entryAt es i) x later → P x) → AtPlace i P xs
-at-place P i [] xs h l f = absurd (omega arith)
-at-place P i (e ∷ es) [] h l f = absurd h
-at-place P zero (e ∷ es) (x ∷ xs) h l f = f x xs (h .0)
-at-place P (suc i) (e ∷ es) (x ∷ xs) h l f = at-place P i es xs (h .1) (omega arith) f
 
 -- an item that is sent again has been sent fewer than L times
 abbrev pub MayLeave : ℕ → Progress → Type 0

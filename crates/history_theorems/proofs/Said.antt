@@ -28,6 +28,27 @@ pub record Said (e : Event) (y : Standing) (n : ℕ) (r : Result) : Type 0 where
   pub stands : Stands (r .state) (r .lent .journal) (whenGiven (givenIn r) e y)
   pub is-judged : (givenIn r ≡ history.refused 1 → ⊥) → (givenIn r ≡ history.refused 2 → ⊥) → JudgedBy n e y (givenIn r)
 
+-- rules 1 and 2, then these: what holds of the result, by how it is refused, or of what is done
+pub judged-as : (P : Result → Type 0) (s : State) (lent : Lent) (qs : List Rule) (done : Result) → P (refused 1 s lent) → P (refused 2 s lent)
+    → (Fit s lent → (firstBroken qs ≡ 0 → ⊥) → P (refused (firstBroken qs) s lent))
+    → (firstBroken qs ≡ 0 → firstBroken (rules12 s lent ++ qs) ≡ 0 → Fit s lent → P done)
+    → P (judged (firstBroken (rules12 s lent ++ qs)) s lent done)
+unfolding firstBroken judged
+judged-as P s lent qs done one two f g = go (tooShort s lent) (keepsRule2 s (entriesOf (s .entries) (lent .journal))) refl refl
+  where
+    go : (a b : Bool) → tooShort s lent ≡ a → keepsRule2 s (entriesOf (s .entries) (lent .journal)) ≡ b
+        → P (cond (eqb (cond a 1 (cond (not b) 2 (firstBroken qs))) 0) done (refused (cond a 1 (cond (not b) 2 (firstBroken qs))) s lent))
+    go true b p q = one
+    go false false p q = two
+    go false true p q = last (eqb (firstBroken qs) 0) refl
+      where
+        fits : Fit s lent
+        fits = fit s lent (rw (p, q))
+
+        last : (t : Bool) → eqb (firstBroken qs) 0 ≡ t → P (cond t done (refused (firstBroken qs) s lent))
+        last true t = let z = eqb-true (firstBroken qs) 0 t in g z (rw (p, q) z) fits
+        last false t = f fits (eqb-false (firstBroken qs) 0 t)
+
 module _ (e : Event) (y : Standing) (n : ℕ) where
   -- a call that goes
   pub goes : (r : Result) → n ≡ 0 → Stands (r .state) (r .lent .journal) (whenGiven (givenIn r) e y) → Gives e y (givenIn r) → Said e y n r
@@ -42,19 +63,9 @@ module _ (e : Event) (y : Standing) (n : ℕ) where
     pub judged-said : (qs : List Rule) (done : Result) → ((firstBroken qs ≡ 0 → ⊥) → JudgedBy n e y (history.refused (firstBroken qs)))
         → (firstBroken qs ≡ 0 → firstBroken (rules12 s lent ++ qs) ≡ 0 → Fit s lent → Said e y n done)
         → Said e y n (judged (firstBroken (rules12 s lent ++ qs)) s lent done)
-    unfolding firstBroken judged
-    judged-said qs done f g = go (tooShort s lent) (keepsRule2 s (entriesOf (s .entries) (lent .journal))) refl refl
-      where
-        go : (a b : Bool) → tooShort s lent ≡ a → keepsRule2 s (entriesOf (s .entries) (lent .journal)) ≡ b
-            → Said e y n
-            (cond (eqb (cond a 1 (cond (not b) 2 (firstBroken qs))) 0) done (refused (cond a 1 (cond (not b) 2 (firstBroken qs))) s lent))
-        go true b p q = record { stands = h; is-judged = λ u v. absurd (u refl) }
-        go false false p q = record { stands = h; is-judged = λ u v. absurd (v refl) }
-        go false true p q = last (eqb (firstBroken qs) 0) refl
-          where
-            last : (t : Bool) → eqb (firstBroken qs) 0 ≡ t → Said e y n (cond t done (refused (firstBroken qs) s lent))
-            last true t = let z = eqb-true (firstBroken qs) 0 t in g z (rw (p, q) z) (fit s lent (rw (p, q)))
-            last false t = refused-said (firstBroken qs) (f (eqb-false (firstBroken qs) 0 t))
+    judged-said qs done f g =
+        judged-as (Said e y n) s lent qs done (record { stands = h; is-judged = λ u v. absurd (u refl) })
+        (record { stands = h; is-judged = λ u v. absurd (v refl) }) (λ fits z. refused-said (firstBroken qs) (f z)) g
 
 -- the number of the rules is that of the history
 pub same-number : (e : Event) (y : Standing) (n k : ℕ) → k ≡ n → (k ≡ 0 → ⊥) → JudgedBy n e y (history.refused k)

@@ -162,7 +162,7 @@ module _ (l : ℕ) (s : State) (lent : Lent) (a : Account) (y : Standing) (tied 
   abbrev pub number : ℕ
   number = numberOf (starts d) y (reversalPending (a .requests))
 
-  number-is : cond (not (s .«signed_on»)) 10 (cond (waits (s .phase)) 11 (cond (pends (s .phase)) 12 (cond (state.closes (s .phase)) 13 0)))
+  pub number-is : cond (not (s .«signed_on»)) 10 (cond (waits (s .phase)) 11 (cond (pends (s .phase)) 12 (cond (state.closes (s .phase)) 13 0)))
       ≡ number
   number-is =
       let here = awaits (s .settings) (s .batch) entries y (s .phase) (h .phase-is) in

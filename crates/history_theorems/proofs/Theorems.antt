@@ -1,7 +1,7 @@
 -- Every call of every list is judged as the history says, and what leaves reads.
 use mathlib.Core.Path.{_≡_, refl, sym, _∙_}
 use mathlib.Core.List.{List, [], _∷_}
-use mathlib.Core.Bool.{true}
+use mathlib.Core.Bool.{true, true≢false}
 use Prim.Native.Nat.{ℕ}
 use native.Mathlib.Omega.{arith}
 use lib.ListN.{take, drop}
@@ -15,9 +15,12 @@ use Rattle.state.specs.declared.State.{State}
 use Rattle.state.specs.Calls.{Lent, lend}
 use Rattle.call_theorems.specs.Facts.{Leaves}
 use Rattle.call_theorems.proofs.Facts.{sent-reads}
+use Rattle.call_theorems.proofs.Steady.{settings-stay}
+use Rattle.outgoing_theorems.specs.Theorems as outgoing
 use Rattle.terminal.specs.Events.{Event, signed-on, starts, answers, no-answer, power-returned, send-reversal, settles, send-next-upload, call}
+use Rattle.desk.specs.declared.Desk.{Desk}
 use Rattle.terminal.specs.Shapes.{SettingsShaped, EventShaped}
-use Rattle.history.specs.Words.{messageIn}
+use Rattle.history.specs.Words.{messageIn, isRequest}
 use Rattle.history.specs.History as history
 use Rattle.history.specs.History.{Call, Account, account, batchOf}
 use Rattle.history.specs.Demand.{Invocation, Run, givenBy, recorded, runs, begun, InvocationsShaped, Each}
@@ -27,6 +30,9 @@ use Rattle.history.proofs.Events.{call-after}
 use Rattle.history_theorems.specs.Standing.{Standing, traceIn, isNew, next, standing}
 use Rattle.history_theorems.specs.Judged.{reversalPending, numberOf, JudgedBy, CallsJudged, SentAlwaysReads}
 use Rattle.history_theorems.specs.Approvals.{approvals, JournalIsApprovals}
+use Rattle.history_theorems.specs.Fields.{settlementItems}
+use Rattle.history_theorems.specs.Settlements.{SettlementsRead}
+use Rattle.history_theorems.specs.Requests.{StartJudged, StartsJudged}
 use Rattle.history_theorems.specs.Traces.{IsTaken, TracesTaken}
 use Rattle.history_theorems.specs.Uploads.{nextItem, upload, SendsNext, EachFew, UploadsInOrder, FewResends}
 use Rattle.history_theorems.proofs.Stands.{Stands}
@@ -35,9 +41,12 @@ use Rattle.history_theorems.proofs.Quiet.{signed-said, answer-said, sil
 use Rattle.history_theorems.proofs.Sends.{reversal-said, settle-said, upload-said}
 use Rattle.history_theorems.proofs.Starts.{start-said}
 use Rattle.history_theorems.proofs.Booked.{Booked, call-booked}
+use Rattle.history_theorems.proofs.Copies.{Exactly, call-exactly}
 use Rattle.history_theorems.proofs.Traced.{call-traced}
+use Rattle.history_theorems.proofs.Started.{call-started}
 use Rattle.history_theorems.proofs.Uploaded.{Uploads}
 use Rattle.history_theorems.proofs.Items.{call-uploaded, given-few}
+use Rattle.history_theorems.proofs.Settled.{call-settled}
 
 call-said : (e : Event) (l : ℕ) (s : State) (lent : Lent) (a : Account) (y : Standing) → EventShaped e → Tied l s (lent .journal) a → Stands s (lent .journal) y
     → Said e y (numberOf e y (reversalPending (a .requests))) (call e s lent)
@@ -74,19 +83,36 @@ abbrev TracedCall : Call → history.History → Type 0
 TracedCall c h = (b : List ℕ) → c .given ≡ history.sent b → isNew (messageIn b) ≡ true → IsTaken (approvals h) (standing h .taken) (traceIn (messageIn b))
 
 -- an upload sends what is due next
-abbrev SendsInOrder : ℕ → Call → history.History → Type 0
-SendsInOrder l c h = (b : List ℕ) → c .event ≡ send-next-upload → c .given ≡ history.sent b
-    → SendsNext (nextItem (approvals h) (upload l h .progress)) (approvals h) (messageIn b)
+abbrev SendsInOrder : Settings → ℕ → Call → history.History → Type 0
+SendsInOrder x l c h = (b : List ℕ) → c .event ≡ send-next-upload → c .given ≡ history.sent b
+    → SendsNext x (standing h .batch) (nextItem (approvals h) (upload l h .progress)) (approvals h) b
 
-record Holds (l : ℕ) (r : Run) : Type 0 where
+-- what settle sends
+abbrev SettledCall : Settings → ℕ → Call → history.History → Type 0
+SettledCall x l c h = (b : List ℕ) → c .event ≡ settles → c .given ≡ history.sent b
+    → outgoing.Reads 0x0500 (settlementItems x (standing h .batch) (traceIn (messageIn b)) (batchOf l h)) (readMessage b)
+
+-- a start is refused by its number, or sends its message
+abbrev StartedCall : Settings → ℕ → Call → history.History → Type 0
+StartedCall x l c h = (d : Desk) → c .event ≡ starts d → (c .given ≡ history.refused 1 → ⊥) → (c .given ≡ history.refused 2 → ⊥)
+    → numberOf (c .event) (standing h) (reversalPending (batchOf l h)) ≡ 0 → StartJudged x (standing h) (approvals h) d (c .given)
+
+started-with : (l : ℕ) (c : Call) (h : history.History) {z x : Settings} → z ≡ x → StartedCall z l c h → StartedCall x l c h
+started-with l c h e s = rw e at s
+
+record Holds (l : ℕ) (x : Settings) (r : Run) : Type 0 where
+  settings-are : r .state .settings ≡ x
   tied : Tied l (r .state) (r .journal) (account l (r .history))
   stands : Stands (r .state) (r .journal) (standing (r .history))
   each : Each (IsJudged l) (r .history)
   reads : Each (λ c h. Reads c) (r .history)
   booked : Booked (r .state) (r .journal) (approvals (r .history))
+  exactly : Exactly (standing (r .history)) (approvals (r .history))
   traced : Each TracedCall (r .history)
+  started : Each (StartedCall x l) (r .history)
   uploads : Uploads (r .state) (r .journal) (upload l (r .history))
-  in-order : Each (SendsInOrder l) (r .history)
+  in-order : Each (SendsInOrder x l) (r .history)
+  settled : Each (SettledCall x l) (r .history)
   few : EachFew l (upload l (r .history) .progress)
   each-few : Each (λ c h. EachFew l (upload l (c ∷ h) .progress)) (r .history)
 
@@ -94,22 +120,27 @@ fresh-next : _≡_ {A = ℕ} 1 (next 0)
 unfolding next
 fresh-next = refl
 
-begun-holds : (x : Settings) (j : List ℕ) → SettingsShaped x → Holds (x .sendings) (begun x j)
+begun-holds : (x : Settings) (j : List ℕ) → SettingsShaped x → Holds (x .sendings) x (begun x j)
+unfolding isRequest
 begun-holds x j w =
     record {
+      settings-are = refl;
       tied = record { kept = record { sendings-set = refl; shaped = w; books = no-books }; shape = tt };
       stands = record { members = (refl, refl, refl, fresh-next); phase-is = record { awaits-is = refl; stage-is = refl }; details = tt };
       each = tt;
       reads = tt;
       booked = tt;
+      exactly = record { last = λ e. absurd (true≢false (sym e)); each = tt };
       traced = tt;
+      started = tt;
       uploads = record { marks = tt; item-is = tt };
       in-order = tt;
+      settled = tt;
       few = tt;
       each-few = tt;
     }
 
-all-hold : (ts : List Invocation) (l : ℕ) (r : Run) → InvocationsShaped ts → Holds l r → Holds l (runs ts r)
+all-hold : (ts : List Invocation) (l : ℕ) {x : Settings} (r : Run) → InvocationsShaped ts → Holds l x r → Holds l x (runs ts r)
 all-hold [] l r w h = h
 all-hold (t ∷ ts) l r w h =
     let a = account l (r .history) in
@@ -117,11 +148,13 @@ all-hold (t ∷ ts) l r w h =
     let d = call-said (t .event) l (r .state) (lend (r .journal) (t .message)) a (standing (r .history)) (w .0) (h .tied) (h .stands) in
     let q = call (t .event) (r .state) (lend (r .journal) (t .message)) in
     let n = call-uploaded l (r .state) (lend (r .journal) (t .message)) a (standing (r .history)) (approvals (r .history)) (upload l (r .history)) (h .tied)
-    (h .stands) (h .booked) (h .uploads) (t .event) in
+    (h .stands) (h .booked) (h .exactly .each) (h .uploads) (t .event) in
+    let same = settings-stay (t .event) (r .state) (lend (r .journal) (t .message)) ∙ h .settings-are in
     let few = given-few l (givenBy (q .outcome) (q .lent .message)) (t .event) (standing (r .history)) (approvals (r .history)) (upload l (r .history))
     (n .may-leave) (h .few) in
     all-hold ts l (recorded t r q) (w .1)
     (record {
+      settings-are = same;
       tied = k .tied;
       stands = d .stands;
       each = (d .is-judged, h .each);
@@ -132,13 +165,25 @@ all-hold (t ∷ ts) l r w h =
       );
       booked =
           call-booked (t .event) (r .state) (lend (r .journal) (t .message)) (standing (r .history)) (approvals (r .history)) (h .stands) (h .booked);
+      exactly =
+          call-exactly (t .event) (standing (r .history)) (approvals (r .history)) _ (givenBy (q .outcome) (q .lent .message)) (q .state) (q .lent .journal)
+          (d .stands) (d .is-judged) (h .exactly);
       traced = (
         call-traced (t .event) l (r .state) (lend (r .journal) (t .message)) a (standing (r .history)) (approvals (r .history)) (w .0) (h .tied)
             (h .stands) (h .booked) d,
         h .traced,
       );
+      started = (
+        started-with l _ (r .history) (h .settings-are) (call-started l (r .state) (lend (r .journal) (t .message)) a (standing (r .history)) (approvals (r .history)) (h .tied)
+            (h .stands) (h .booked) (h .exactly .each) (t .event) (w .0)),
+        h .started,
+      );
       uploads = n .uploads;
-      in-order = (n .sends-next, h .in-order);
+      in-order = (rw same at (n .sends-next), h .in-order);
+      settled = (
+        call-settled l (r .state) (lend (r .journal) (t .message)) a (standing (r .history)) (h .tied) (h .stands) (t .event) _ (h .settings-are),
+        h .settled,
+      );
       few = few;
       each-few = (few, h .each-few);
     })
@@ -155,8 +200,14 @@ journal-is-approvals x j ts w v = all-hold ts (x .sendings) (begun x j) v (begun
 pub traces-taken : TracesTaken
 traces-taken x j ts w v = all-hold ts (x .sendings) (begun x j) v (begun-holds x j w) .traced
 
+pub starts-judged : StartsJudged
+starts-judged x j ts w v = all-hold ts (x .sendings) (begun x j) v (begun-holds x j w) .started
+
 pub uploads-in-order : UploadsInOrder
 uploads-in-order x j ts w v = all-hold ts (x .sendings) (begun x j) v (begun-holds x j w) .in-order
+
+pub settlements-read : SettlementsRead
+settlements-read x j ts w v = all-hold ts (x .sendings) (begun x j) v (begun-holds x j w) .settled
 
 pub few-resends : FewResends
 few-resends x j ts w v = all-hold ts (x .sendings) (begun x j) v (begun-holds x j w) .each-few

@@ -22,8 +22,8 @@ use Rattle.state.specs.declared.State.{State}
 use Rattle.state.specs.State.{inPhase}
 use Rattle.state.specs.Calls.{Lent, Result, judged, refused, quiet}
 use Rattle.checks.specs.Checks.{Rule, firstBroken}
-use Rattle.rules.specs.Rules.{rules12, tooShort, keepsRule2, due}
-use Rattle.rules.proofs.InOrder.{Fit, fit}
+use Rattle.rules.specs.Rules.{rules12, due}
+use Rattle.rules.proofs.InOrder.{Fit}
 use Rattle.desk.specs.declared.Desk.{Desk}
 use Rattle.desk.specs.DeskRules.{restRules}
 use Rattle.call_start.specs.Start.{start}
@@ -41,7 +41,7 @@ use Rattle.history_theorems.specs.Approvals.{Approval, AreEntries}
 use Rattle.history_theorems.specs.Judged.{reversalPending, numberOf, Gives, JudgedBy}
 use Rattle.history_theorems.specs.Traces.{isUsed, after, IsTaken}
 use Rattle.history_theorems.proofs.Stands.{Stands}
-use Rattle.history_theorems.proofs.Said.{givenIn, Said}
+use Rattle.history_theorems.proofs.Said.{givenIn, Said, judged-as}
 use Rattle.history_theorems.proofs.Sends.{item-goes, end-goes, settled, settle-goes, settle-number}
 use Rattle.history_theorems.proofs.Starts.{own, done, start-goes}
 use Rattle.history_theorems.proofs.Booked.{Booked}
@@ -155,19 +155,9 @@ module _ (y : Standing) (xs : List Approval) where
   judged-traced : (s : State) (lent : Lent) (qs : List Rule) (result : Result)
       → (firstBroken qs ≡ 0 → firstBroken (rules12 s lent ++ qs) ≡ 0 → Fit s lent → Traced y xs result)
       → Traced y xs (judged (firstBroken (rules12 s lent ++ qs)) s lent result)
-  unfolding firstBroken judged
-  judged-traced s lent qs result f = go (tooShort s lent) (keepsRule2 s (entriesOf (s .entries) (lent .journal))) refl refl
-    where
-      go : (a b : Bool) → tooShort s lent ≡ a → keepsRule2 s (entriesOf (s .entries) (lent .journal)) ≡ b
-          → Traced y xs
-          (cond (eqb (cond a 1 (cond (not b) 2 (firstBroken qs))) 0) result (refused (cond a 1 (cond (not b) 2 (firstBroken qs))) s lent))
-      go true b p q = unsent (refused 1 s lent) 1 refl
-      go false false p q = unsent (refused 2 s lent) 2 refl
-      go false true p q = last (eqb (firstBroken qs) 0) refl
-        where
-          last : (t : Bool) → eqb (firstBroken qs) 0 ≡ t → Traced y xs (cond t result (refused (firstBroken qs) s lent))
-          last true t = let z = eqb-true (firstBroken qs) 0 t in f z (rw (p, q) z) (fit s lent (rw (p, q)))
-          last false t = unsent (refused (firstBroken qs) s lent) (firstBroken qs) refl
+  judged-traced s lent qs result f =
+      judged-as (Traced y xs) s lent qs result (unsent (refused 1 s lent) 1 refl) (unsent (refused 2 s lent) 2 refl)
+      (λ fits z. unsent (refused (firstBroken qs) s lent) (firstBroken qs) refl) f
 
 reversal-old : (b : List ℕ) → isReversal (messageIn b) ≡ true → isNew (messageIn b) ≡ false
 unfolding isReversal isNew

@@ -92,7 +92,7 @@ item-mark es i (Found-at k) e h = rw (eqb-true k i h) at (next-at es k e .mark-m
 item-mark es i Nowhere e h = absurd (true≢false (sym h))
 
 -- which messages are items
-pub item-said : (m : Message) → Typed false false false false m → m .indicator ≡ 0x0320 → isItem m ≡ true
+item-said : (m : Message) → Typed false false false false m → m .indicator ≡ 0x0320 → isItem m ≡ true
 unfolding isItem isUpload
 item-said m k e = rw (k .is-end, e)
 

@@ -3,7 +3,7 @@
 use mathlib.Core.Path.{_≡_}
 use mathlib.Core.List.{List, [], _∷_, _++_}
 use mathlib.Core.Bool.{Bool, false, cond, _&&_, _||_}
-use Prim.Native.Nat.{ℕ}
+use Prim.Native.Nat.{ℕ, zero, suc}
 use lib.Dec.{eqb}
 use lib.ListN.{length, take}
 use Rattle.digits.specs.Packed.{numeral}
@@ -67,6 +67,16 @@ abbrev pub voidedBy : Message → List Approval → Bool
 voidedBy m [] = false
 voidedBy m (x ∷ xs) = voids (x .request) m || voidedBy m xs
 
+-- field 38 of an answer, or six spaces
+abbrev pub authorisationIn : Message → List ℕ
+authorisationIn a = cond (names (a .bitmap) 38) (fieldOf a 38 .bytes) (0x20 ∷ 0x20 ∷ 0x20 ∷ 0x20 ∷ 0x20 ∷ 0x20 ∷ [])
+
+-- of the approval at a place
+abbrev pub AtPlace : ℕ → (Approval → Type 0) → List Approval → Type 0
+AtPlace i P [] = ⊥
+AtPlace zero P (x ∷ xs) = P x
+AtPlace (suc i) P (x ∷ xs) = AtPlace i P xs
+
 -- an entry of an approval, with those after it
 pub record IsEntry (e : Entry) (x : Approval) (later : List Approval) : Type 0 where
   pub kind-is : e .kind ≡ kindIn (x .request)
@@ -74,10 +84,9 @@ pub record IsEntry (e : Entry) (x : Approval) (later : List Approval) : Type 0 w
   pub amount-is : e .amount ≡ amountIn (x .request)
   pub digits-are : e .digits ≡ fieldOf (x .request) 2 .count
   pub card-is : take (length (fieldOf (x .request) 2 .bytes)) (e .card) ≡ fieldOf (x .request) 2 .bytes
-  -- its date is the answer's field 13; without field 38 there are six spaces
+  -- its date is the answer's field 13
   pub date-is : e .date ≡ fieldOf (x .answer) 13 .bytes
-  pub authorisation-is : e .authorisation
-      ≡ cond (names (x .answer .bitmap) 38) (fieldOf (x .answer) 38 .bytes) (0x20 ∷ 0x20 ∷ 0x20 ∷ 0x20 ∷ 0x20 ∷ 0x20 ∷ [])
+  pub authorisation-is : e .authorisation ≡ authorisationIn (x .answer)
   pub reference-is : e .reference ≡ fieldOf (x .answer) 37 .bytes
   -- it is voided exactly where a later approval voids it
   pub voided-is : e .voided ≡ cond (voidedBy (x .request) later) 1 0

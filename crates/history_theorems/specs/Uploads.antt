@@ -5,18 +5,19 @@ use mathlib.Core.List.{List, [], _∷_, _++_}
 use mathlib.Core.Bool.{Bool, true, false, cond, not, _&&_, _||_}
 use Prim.Native.Nat.{ℕ, zero, suc, _+_, _≤_}
 use lib.Dec.{leb}
-use Rattle.field.specs.Bitmap.{names}
-use Rattle.message.specs.Message.{fieldOf}
 use Rattle.message.specs.declared.Message.{Message}
+use Rattle.reading.specs.Reading.{readMessage}
+use Rattle.outgoing_theorems.specs.Theorems.{Reads}
 use Rattle.state.specs.declared.Settings.{Settings}
 use Rattle.terminal.specs.Events.{Event, signed-on, starts, answers, no-answer, power-returned, send-reversal, settles, send-next-upload}
 use Rattle.terminal.specs.Shapes.{SettingsShaped}
-use Rattle.history.specs.Words.{messageIn, kindIn, amountIn, isRequest, isApproval, macGood, isEnd, closesBatch, isDebit, isCredit}
+use Rattle.history.specs.Words.{messageIn, isRequest, isApproval, macGood, isEnd, closesBatch, isDebit, isCredit}
 use Rattle.history.specs.History.{Given, sent, quiet, refused, History}
 use Rattle.history.specs.Demand.{Invocation, runs, begun, InvocationsShaped, Each}
 use Rattle.history_theorems.specs.Standing.{Standing, traceIn, standing}
-use Rattle.history_theorems.specs.Judged.{isUpload, NamesJust}
-use Rattle.history_theorems.specs.Approvals.{Approval, approvals}
+use Rattle.history_theorems.specs.Judged.{isUpload}
+use Rattle.history_theorems.specs.Approvals.{Approval, approvals, AtPlace}
+use Rattle.history_theorems.specs.Fields.{uploadItems, endItems}
 
 -- what the upload has made of an approved request: not sent; silent, after so many resends; accepted, rejected or given up
 pub data Progress : Type 0 where
@@ -132,28 +133,10 @@ abbrev pub upload : ℕ → History → Upload
 upload l [] = record { progress = []; item = 0 }
 upload l (c ∷ h) = whenGiven l (c .given) (c .event) (standing h) (approvals h) (upload l h)
 
--- the item of an approval
-pub record IsItemOf (m : Message) (x : Approval) : Type 0 where
-  pub type-is : isItem m ≡ true
-  pub named : NamesJust (2 ∷ 3 ∷ 4 ∷ 11 ∷ 37 ∷ 38 ∷ 41 ∷ 42 ∷ 49 ∷ 60 ∷ []) m
-  pub kind-is : kindIn m ≡ kindIn (x .request)
-  pub amount-is : amountIn m ≡ amountIn (x .request)
-  pub trace-is : traceIn m ≡ traceIn (x .request)
-  pub digits-are : fieldOf m 2 .count ≡ fieldOf (x .request) 2 .count
-  pub reference-is : fieldOf m 37 .bytes ≡ fieldOf (x .answer) 37 .bytes
-  pub authorisation-is : fieldOf m 38 .bytes
-      ≡ cond (names (x .answer .bitmap) 38) (fieldOf (x .answer) 38 .bytes) (0x20 ∷ 0x20 ∷ 0x20 ∷ 0x20 ∷ 0x20 ∷ 0x20 ∷ [])
-
--- of the approval at a place
-abbrev pub AtPlace : ℕ → (Approval → Type 0) → List Approval → Type 0
-AtPlace i P [] = ⊥
-AtPlace zero P (x ∷ xs) = P x
-AtPlace (suc i) P (x ∷ xs) = AtPlace i P xs
-
--- the item that is due leaves, and the end only where none is
-abbrev pub SendsNext : Place → List Approval → Message → Type 0
-SendsNext none xs m = isEnd m ≡ true
-SendsNext (at i) xs m = AtPlace i (IsItemOf m) xs
+-- the item that is due leaves, field by field, and the end only where none is
+abbrev pub SendsNext : Settings → ℕ → Place → List Approval → List ℕ → Type 0
+SendsNext x batch none vs b = Reads 0x0320 (endItems x batch (traceIn (messageIn b))) (readMessage b)
+SendsNext x batch (at i) vs b = AtPlace i (λ v. Reads 0x0320 (uploadItems x batch v) (readMessage b)) vs
 
 -- an item has been sent again at most L times
 abbrev pub Few : ℕ → Progress → Type 0
@@ -170,7 +153,7 @@ abbrev pub UploadsInOrder : Type 0
 UploadsInOrder = (x : Settings) (j : List ℕ) (ts : List Invocation) → SettingsShaped x → InvocationsShaped ts
     → Each
     (λ c h. (b : List ℕ) → c .event ≡ send-next-upload → c .given ≡ sent b
-    → SendsNext (nextItem (approvals h) (upload (x .sendings) h .progress)) (approvals h) (messageIn b))
+    → SendsNext x (standing h .batch) (nextItem (approvals h) (upload (x .sendings) h .progress)) (approvals h) b)
     (runs ts (begun x j) .history)
 
 -- no item leaves more than 1 + L times

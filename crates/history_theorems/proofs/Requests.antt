@@ -1,0 +1,265 @@
+-- The message of a start is the one that the history says, field by field.
+use mathlib.Core.Path.{_≡_, refl, sym, ap, _∙_}
+use mathlib.Core.List.{List, [], _∷_, _++_}
+use mathlib.Core.Bool.{Bool, true, false, cond, not, _&&_, _||_, and-eq-true-iff, true≢false}
+use Prim.Native.Nat.{ℕ, _+_, _-_, _*_, _/_, _%_, _≤_}
+use native.Mathlib.Omega.{arith}
+use lib.Dec.{eqb}
+use lib.ListN.{length, replicate}
+use Rattle.digits.specs.Digits.{unpack, isPacked}
+use Rattle.digits.specs.Numbers.{digitsOf}
+use Rattle.digits.specs.Packed.{packedNumber}
+use Rattle.digits.proofs.Numbers.{digitsOf-value}
+use Rattle.digits.proofs.Packing.{length-unpack, unpack-digits}
+use Rattle.digits.proofs.Packed.{number-value}
+use Rattle.message.specs.Build.{Item, digits, bytes}
+use Rattle.message.specs.Message.{Field, fieldOf}
+use Rattle.reading.specs.declared.Reading.{Reading}
+use Rattle.numbers.specs.Numbers.{within}
+use Rattle.numbers.proofs.Bounds.{within-bounds}
+use Rattle.numbers.specs.declared.Batch.{Batch}
+use Rattle.kinds.specs.Kinds.{takesOriginal, keysAuthorisation, keysDate, isKind, indicatorOf, originalKind}
+use Rattle.entry.specs.declared.Entry.{Entry}
+use Rattle.entry.proofs.Form.{InForm, in-form}
+use Rattle.state.specs.declared.Request.{Request}
+use Rattle.state.specs.declared.Settings.{Settings}
+use Rattle.outgoing.specs.Outgoing.{field61, cardFields, originalFields, requestFields, requestMessage}
+use Rattle.outgoing.specs.declared.Original.{Original}
+use Rattle.outgoing_theorems.specs.Theorems.{Reads}
+use Rattle.approval.specs.Cards.{cardOf}
+use Rattle.desk.specs.declared.Desk.{Desk}
+use Rattle.desk.specs.DeskRules.{deskInForm, requestOf, restRules}
+use Rattle.call_start.specs.Start.{namedBy, originalOf, entryOf, startRules}
+use Rattle.reading.specs.Reading.{readMessage}
+use Rattle.writing.specs.Writing.{messageBytes}
+use Rattle.journal.specs.Journal.{entriesOf, hasTrace, isOriginal, nowhere, taken}
+use Rattle.journal.specs.declared.Found.{Found}
+use Rattle.journal.specs.declared.Found.the-variants.{At, Nowhere}
+use Rattle.journal.proofs.Searches.{first-at}
+use Rattle.state.specs.declared.State.{State}
+use Rattle.state.specs.Calls.{Lent}
+use Rattle.checks.specs.Checks.{firstBroken}
+use Rattle.rules.proofs.InOrder.{Fit}
+use Rattle.outgoing.proofs.Leaving.{request-held, request-listed}
+use Rattle.call_start.proofs.Refusals.{unbroken}
+use Rattle.call_start.proofs.Held.{found-for, entry-in-form, may-send}
+use Rattle.history.specs.Words.{messageIn}
+use Rattle.history.specs.History.{Account}
+use Rattle.history.proofs.Said.{handedOut, sent-reads}
+use Rattle.history.proofs.Tied.{Tied}
+use Rattle.history_theorems.specs.Standing.{traceIn, Standing}
+use Rattle.history_theorems.specs.Approvals.{Approval, AtPlace, IsEntry}
+use Rattle.history_theorems.specs.Fields.{copied, requestItems, keyedDate, keyedItems, originalItems, typeFor}
+use Rattle.history_theorems.specs.Requests.{isNamed, SaysRequest}
+use Rattle.history_theorems.proofs.ByKind.{authorisation-keyed, processing-is, condition-is, void-is, type-is}
+use Rattle.history_theorems.proofs.Copies.{Copied, EachExact, copied-place}
+use Rattle.history_theorems.proofs.Stands.{Stands}
+use Rattle.history_theorems.proofs.Starts.{own, start-goes}
+use Rattle.history_theorems.proofs.Booked.{Booked}
+
+-- what every card request holds
+card-items : (x : Settings) (batch : Batch) (q : Request)
+    → cardFields x batch q
+    ≡ requestItems x (batch .0) (q .trace .0) (q .kind) (digits 2 (digitsOf (q .card .length) (q .card .number))) (digits 4 (digitsOf 12 (q .amount)))
+card-items x batch q = rw (ap (digits 3) (processing-is (q .kind)), ap (digits 25) (condition-is (q .kind)))
+
+-- month and day, two digits each
+date-digits : (month day : ℕ) → day ≤ 31 → digitsOf 4 (month * 100 + day) ≡ digitsOf 2 month ++ digitsOf 2 day
+date-digits month day h =
+    let a : (month * 100 + day) / 10 / 10 / 10 % 10 ≡ month / 10 % 10 = omega arith in
+    let b : (month * 100 + day) / 10 / 10 % 10 ≡ month % 10 = omega arith in
+    let c : (month * 100 + day) / 10 % 10 ≡ day / 10 % 10 = omega arith in
+    let e : (month * 100 + day) % 10 ≡ day % 10 = omega arith in
+    rw (a, b, c, e)
+
+-- a request other than a void names no batch and no trace
+module _ (d : Desk) where
+  abbrev keyedBy : Original
+  keyedBy =
+      record {
+        batch = record { 0 = 0 };
+        trace = record { 0 = 0 };
+        date = d .month * 100 + d .day;
+        authorisation = d .authorisation;
+        reference = d .reference;
+      }
+
+  abbrev keyedFor : ℕ → Request
+  keyedFor trace = record { kind = d .kind; amount = d .amount; card = d .card; trace = record { 0 = trace }; original = record { 0 = 0 } }
+
+  date-laid : (within 1 (d .month) 12 && within 1 (d .day) 31) ≡ true → digits 61 (field61 keyedBy) ≡ keyedDate d
+  date-laid h =
+      let k = within-bounds 1 (d .day) 31 (and-eq-true-iff (within 1 (d .month) 12) (within 1 (d .day) 31) .0 h .1) in
+      ap (λ (ds : List ℕ). digits 61 (replicate 12 0 ++ ds)) (date-digits (d .month) (d .day) (k .1))
+
+  date-items : (x : Item) → (within 1 (d .month) 12 && within 1 (d .day) 31) ≡ true
+      → _≡_ {A = List Item} (x ∷ digits 61 (field61 keyedBy) ∷ []) (x ∷ keyedDate d ∷ [])
+  date-items x h = ap (λ (y : Item). x ∷ y ∷ []) (date-laid h)
+
+  added : (r a : Bool) → (not (a || r) || within 1 (d .month) 12 && within 1 (d .day) 31) ≡ true
+      → cond r (bytes 37 (d .reference) ∷ digits 61 (field61 keyedBy) ∷ [])
+      (cond a (bytes 38 (d .authorisation) ∷ digits 61 (field61 keyedBy) ∷ []) [])
+      ≡ cond r (bytes 37 (d .reference) ∷ keyedDate d ∷ []) (cond a (bytes 38 (d .authorisation) ∷ keyedDate d ∷ []) [])
+  added true true h = date-items (bytes 37 (d .reference)) h
+  added true false h = date-items (bytes 37 (d .reference)) h
+  added false true h = date-items (bytes 38 (d .authorisation)) h
+  added false false h = refl
+
+  module _ (keyed : takesOriginal (d .kind) ≡ false) where
+    keyed-items : (not (keysDate (d .kind)) || within 1 (d .month) 12 && within 1 (d .day) 31) ≡ true → originalFields (d .kind) keyedBy ≡ keyedItems d
+    keyed-items h =
+        rw (keyed, ← authorisation-keyed (d .kind)) (added (eqb (d .kind) 25) (keysAuthorisation (d .kind)) h)
+
+    named-keyed : (batch : Batch) (e : Entry) → namedBy d batch e ≡ keyedBy
+    named-keyed batch e = rw keyed
+
+    keyed-request : (e : Entry) (trace : ℕ) → requestOf d e trace ≡ keyedFor trace
+    keyed-request e trace = rw keyed
+
+appended : {us vs xs ys : List Item} → us ≡ vs → xs ≡ ys → us ++ xs ≡ vs ++ ys
+appended p q = rw (p, q)
+
+-- the fields of a request other than a void
+keyed-fields : (x : Settings) (batch : Batch) (trace : ℕ) (d : Desk) (e : Entry) → takesOriginal (d .kind) ≡ false → deskInForm d ≡ true
+    → requestFields x batch (requestOf d e trace) (namedBy d batch e)
+    ≡ requestItems x (batch .0) trace (d .kind) (digits 2 (digitsOf (d .card .length) (d .card .number))) (digits 4 (digitsOf 12 (d .amount))) ++ keyedItems d
+unfolding deskInForm
+keyed-fields x batch trace d e t f =
+    let k = simp and-eq-true-iff at f in
+    ap (requestFields x batch (requestOf d e trace)) (named-keyed d t batch e)
+    ∙ ap (λ (q : Request). requestFields x batch q (keyedBy d)) (keyed-request d t e trace)
+    ∙ appended (card-items x batch (keyedFor d trace)) (keyed-items d t (k .0 .0 .1))
+
+-- the digits of a packed number
+number-digits : (n : ℕ) (s : List ℕ) → n ≤ 19 → isPacked n s ≡ true → digitsOf n (packedNumber n s) ≡ unpack n s
+number-digits n s h p =
+    let a = unpack-digits n s p in
+    rw (number-value n s h a) (rw length-unpack at (digitsOf-value (unpack n s) a))
+
+three : {a b c x y z : Item} → a ≡ x → b ≡ y → c ≡ z → _≡_ {A = List Item} (a ∷ b ∷ c ∷ []) (x ∷ y ∷ z ∷ [])
+three p q r = rw (p, q, r)
+
+same-item : (n : ℕ) {f g : Field} → f ≡ g → _≡_ {A = Item} (record { number = n; field = f }) (record { number = n; field = g })
+same-item n e = rw e
+
+-- a void has the card and the amount of its original, and names it
+module _ (x : Settings) (batch : Batch) (trace : ℕ) (d : Desk) (e : Entry) (v : Approval) (later : List Approval) (t : takesOriginal (d .kind) ≡ true)
+    (f : InForm e) (w : Copied e v) (h : IsEntry e v later) where
+  abbrev nameOf : Original
+  nameOf =
+      record { batch = batch; trace = e .trace; date = packedNumber 4 (e .date); authorisation = e .authorisation; reference = e .reference }
+
+  original-laid : field61 nameOf ≡ digitsOf 6 (batch .0) ++ digitsOf 6 (traceIn (v .request)) ++ unpack 4 (fieldOf (v .answer) 13 .bytes)
+  original-laid =
+      rw (← h .trace-is, ← h .date-is)
+      (ap (λ (ds : List ℕ). digitsOf 6 (batch .0) ++ digitsOf 6 (e .trace .0) ++ ds) (number-digits 4 (e .date) (omega arith) (f .date-packed)))
+
+  original-items : originalFields (d .kind) nameOf ≡ originalItems (batch .0) v
+  original-items = rw t (three (same-item 37 (w .reference-copied)) (ap (bytes 38) (h .authorisation-is)) (ap (digits 61) original-laid))
+
+  abbrev asked : Request
+  asked = record { kind = d .kind; amount = e .amount; card = cardOf e; trace = record { 0 = trace }; original = d .original }
+
+  copied-items : cardFields x batch asked ≡ requestItems x (batch .0) trace (d .kind) (copied 2 (v .request)) (copied 4 (v .request))
+  copied-items =
+      card-items x batch asked
+      ∙ ap (λ (i : Item). requestItems x (batch .0) trace (d .kind) i (digits 4 (digitsOf 12 (e .amount)))) (same-item 2 (w .card-copied))
+      ∙ ap (requestItems x (batch .0) trace (d .kind) (copied 2 (v .request))) (same-item 4 (w .amount-copied))
+
+  void-fields : requestFields x batch (requestOf d e trace) (namedBy d batch e)
+      ≡ requestItems x (batch .0) trace (d .kind) (copied 2 (v .request)) (copied 4 (v .request)) ++ originalItems (batch .0) v
+  void-fields =
+      let named : namedBy d batch e ≡ nameOf = rw t in
+      let request : requestOf d e trace ≡ asked = rw t in
+      ap (requestFields x batch (requestOf d e trace)) named ∙ ap (λ (q : Request). requestFields x batch q nameOf) request
+      ∙ appended copied-items original-items
+
+reads-as : {i j : ℕ} {xs ys : List Item} {r : Reading} → i ≡ j → xs ≡ ys → Reads i xs r → Reads j ys r
+reads-as p q h = rw (p, q) at h
+
+-- the approval that a void names has the entry that it is for
+pub named-alike : (d : Desk) (e : Entry) (v : Approval) (later : List Approval) → IsEntry e v later
+    → isOriginal (originalKind (d .kind)) (d .original .0) e ≡ isNamed d v
+unfolding isOriginal hasTrace originalKind isNamed
+named-alike d e v later h = rw (h .kind-is, h .trace-is)
+
+kind-keyed : (d : Desk) → deskInForm d ≡ true → isKind (d .kind) ≡ true
+unfolding deskInForm
+kind-keyed d f = let k = simp and-eq-true-iff at f in k .0 .0 .0 .0
+
+-- a request that no rule refuses
+module _ (l : ℕ) (s : State) (lent : Lent) (a : Account) (y : Standing) (vs : List Approval) (tied : Tied l s (lent .journal) a)
+    (stands : Stands s (lent .journal) y) (booked : Booked s (lent .journal) vs) (exact : EachExact vs) (d : Desk)
+    (authorisation : length (d .authorisation) ≡ 6) (reference : length (d .reference) ≡ 12) where
+  abbrev es : List Entry
+  es = entriesOf (s .entries) (lent .journal)
+
+  abbrev o : Entry
+  o = entryOf (originalOf d es) es
+
+  abbrev trace : ℕ
+  trace = taken es (s .next .0)
+
+  abbrev b : List ℕ
+  b = handedOut (messageBytes (requestMessage (s .settings) (s .batch) (requestOf d o trace) (namedBy d (s .batch) o))) (lent .message)
+
+  module _ (z : firstBroken (restRules s ++ own l s lent a y tied stands d authorisation reference) ≡ 0)
+      (u : firstBroken (startRules d s es o lent) ≡ 0) (f : Fit s lent) where
+    sent-fields : Reads (indicatorOf (d .kind)) (requestFields (s .settings) (s .batch) (requestOf d o trace) (namedBy d (s .batch) o)) (readMessage b)
+    unfolding requestMessage
+    sent-fields =
+        let w = may-send d s lent (tied .kept .shaped .terminal-length) (tied .kept .shaped .merchant-length) reference authorisation trace
+        (unbroken d s o lent u) in
+        sent-reads (indicatorOf (d .kind)) (requestFields (s .settings) (s .batch) (requestOf d o trace) (namedBy d (s .batch) o)) (lent .message)
+        (request-listed (d .kind)) (request-held (s .settings) (s .batch) (requestOf d o trace) (namedBy d (s .batch) o) (w .card) (w .original)) (f .message-room)
+
+    trace-said : traceIn (messageIn b) ≡ trace
+    trace-said = start-goes l s lent a y tied stands d authorisation reference z u f .stands .details .1 .trace-is
+
+    in-terms : (xs : List Item) → requestFields (s .settings) (s .batch) (requestOf d o trace) (namedBy d (s .batch) o) ≡ xs
+        → Reads (typeFor (d .kind)) xs (readMessage b)
+    in-terms xs e = reads-as (type-is (d .kind) (kind-keyed d (unbroken d s o lent u .keyed))) e sent-fields
+
+    keyed-says : takesOriginal (d .kind) ≡ false
+        → Reads (typeFor (d .kind))
+        (requestItems (s .settings) (y .batch) (traceIn (messageIn b)) (d .kind) (digits 2 (digitsOf (d .card .length) (d .card .number)))
+        (digits 4 (digitsOf 12 (d .amount))) ++ keyedItems d)
+        (readMessage b)
+    keyed-says t =
+        rw (← stands .members .1, trace-said)
+        (in-terms _ (keyed-fields (s .settings) (s .batch) trace d o t (unbroken d s o lent u .keyed)))
+
+    -- the approval that a void names
+    abbrev Voids : Approval → Type 0
+    Voids v =
+        (isNamed d v ≡ true)
+        × Reads (typeFor (d .kind))
+        (requestItems (s .settings) (y .batch) (traceIn (messageIn b)) (d .kind) (copied 2 (v .request)) (copied 4 (v .request))
+        ++ originalItems (y .batch) v)
+        (readMessage b)
+
+    original-form : takesOriginal (d .kind) ≡ true → InForm o
+    original-form t = in-form o (entry-in-form d es (f .order .journal .form) (originalOf d es) refl (unbroken d s o lent u .found t))
+
+    void-says : (v : Approval) (later : List Approval) → takesOriginal (d .kind) ≡ true → IsEntry o v later → isOriginal (originalKind (d .kind)) (d .original .0) o ≡ true
+        → Copied o v → Voids v
+    void-says v later t h n w = (
+        sym (named-alike d o v later h) ∙ n,
+        rw (← stands .members .1, trace-said) (in-terms _ (void-fields (s .settings) (s .batch) trace d o v later t (original-form t) w h)),
+    )
+
+    original-says : takesOriginal (d .kind) ≡ true → (k : Found) → originalOf d es ≡ k → nowhere k ≡ false → (i : ℕ) × AtPlace i Voids vs
+    original-says t (At i) e n =
+        let first = first-at (isOriginal (originalKind (d .kind)) (d .original .0)) 0 es i (found-for d es (At i) e n) in
+        let z : i - 0 ≡ i = omega arith in
+        let holds = rw z at (first .holds) in
+        let short = rw e at (original-form t .digits-most) in
+        (i, copied-place Voids i es vs booked exact (omega (arith, first .below)) short (λ v later h w. void-says v later t (rw e h) (rw e holds) (rw e w)))
+    original-says t Nowhere e n = absurd (true≢false n)
+
+    pub says-request : SaysRequest (s .settings) y vs d b
+    says-request =
+        record {
+          keyed = λ t. keyed-says (void-is (d .kind) ∙ t);
+          original = λ t. let k = void-is (d .kind) ∙ t in original-says k (originalOf d es) refl (unbroken d s o lent u .found k);
+        }

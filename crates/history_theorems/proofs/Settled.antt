@@ -1,0 +1,91 @@
+-- What settle sends reads back to the words of the history.
+use mathlib.Core.Path.{_≡_, refl, sym, ap, subst, _∙_}
+use mathlib.Core.List.{List}
+use mathlib.Core.Bool.{Bool, true, false, cond}
+use Prim.Native.Nat.{ℕ, _≤_}
+use native.Mathlib.Omega.{arith}
+use lib.Dec.{eqb}
+use lib.ListN.{length}
+use borrow.Author.Tests.{eqb-true}
+use Rattle.message.specs.Build.{Item}
+use Rattle.message.specs.Message.{largest}
+use Rattle.reading.specs.Reading.{readMessage}
+use Rattle.writing.specs.Writing.{messageBytes}
+use Rattle.numbers.specs.Limits.{lastNumber}
+use Rattle.numbers.specs.declared.Batch.{Batch}
+use Rattle.numbers.specs.declared.Trace.{Trace}
+use Rattle.kinds.specs.declared.Totals.{Totals}
+use Rattle.entry.specs.declared.Entry.{Entry}
+use Rattle.journal.specs.Journal.{entriesOf, taken, totalsOf}
+use Rattle.state.specs.declared.Settings.{Settings}
+use Rattle.state.specs.declared.State.{State}
+use Rattle.state.specs.Calls.{Lent, judged, refused}
+use Rattle.checks.specs.Checks.{firstBroken}
+use Rattle.rules.proofs.InOrder.{Fit}
+use Rattle.traces.proofs.Free.{taken-range}
+use Rattle.outgoing.specs.Held.{SettingsHeld}
+use Rattle.outgoing_theorems.specs.Theorems.{Reads}
+use Rattle.batch_messages.specs.BatchMessages.{settlementFields, settlementMessage}
+use Rattle.batch_messages.proofs.Held.{settlement-held, settlement-listed}
+use Rattle.call_settle.specs.Settle.{settleRules, settleNow, settle}
+use Rattle.terminal.specs.Events.{Event, settles, call}
+use Rattle.history.specs.Words.{messageIn}
+use Rattle.history.specs.History as history
+use Rattle.history.specs.History.{Request, Account}
+use Rattle.history.proofs.Books.{requestSums}
+use Rattle.history.proofs.Said.{handedOut, sent-reads}
+use Rattle.history.proofs.Settles.{settings-held}
+use Rattle.history.proofs.Starts.{fit-first}
+use Rattle.history.proofs.Tied.{Tied}
+use Rattle.history_theorems.specs.Standing.{Standing, traceIn}
+use Rattle.history_theorems.specs.Fields.{settlementItems}
+use Rattle.history_theorems.proofs.Stands.{Stands}
+use Rattle.history_theorems.proofs.Said.{givenIn}
+use Rattle.history_theorems.proofs.Sends.{trace-read}
+
+-- the totals are those of the batch's approved requests, and the trace is the one that it took
+settlement-reads : (x : Settings) (batch : Batch) (n : ℕ) (m : List ℕ) (trace : Trace) (t : Totals) (rs : List Request) → largest ≤ length m → SettingsHeld x
+    → trace .0 ≤ lastNumber → batch .0 ≡ n → t ≡ requestSums rs
+    → (let b = handedOut (messageBytes (settlementMessage x batch trace t)) m in
+    Reads 0x0500 (settlementItems x n (traceIn (messageIn b)) rs) (readMessage b))
+unfolding settlementMessage
+settlement-reads x batch n m trace t rs room held most p e =
+    let b = handedOut (messageBytes (settlementMessage x batch trace t)) m in
+    let r = sent-reads 0x0500 (settlementFields x batch trace t) m settlement-listed (settlement-held x batch held trace t) room in
+    let took = trace-read b 0x0500 (settlementFields x batch trace t) trace r refl refl most in
+    subst (λ (xs : List Item). Reads 0x0500 xs (readMessage b))
+    (ap (settlementFields x batch trace) e ∙ ap (λ (k : ℕ). settlementItems x k (trace .0) rs) p ∙ ap (λ (k : ℕ). settlementItems x n k rs) (sym took)) r
+
+module _ (l : ℕ) (s : State) (lent : Lent) (a : Account) (y : Standing) (tied : Tied l s (lent .journal) a) (d : Stands s (lent .journal) y) where
+  -- what settle sends where it gives these bytes
+  abbrev ReadsSettled : List ℕ → Type 0
+  ReadsSettled b = Reads 0x0500 (settlementItems (s .settings) (y .batch) (traceIn (messageIn b)) (a .requests)) (readMessage b)
+
+  abbrev es : List Entry
+  es = entriesOf (s .entries) (lent .journal)
+
+  abbrev trace : Trace
+  trace = record { 0 = taken es (s .next .0) }
+
+  settled-reads : Fit s lent → (b : List ℕ) → givenIn (settleNow s trace (totalsOf es) lent) ≡ history.sent b → ReadsSettled b
+  settled-reads f b g =
+      let r = settlement-reads (s .settings) (s .batch) (y .batch) (lent .message) trace (totalsOf es) (a .requests) (f .message-room)
+      (settings-held l s lent a tied f) (taken-range es (s .next .0) (f .order .state .next-least) (f .order .state .next-most) .1) (d .members .1)
+      (tied .kept .books .summed) in
+      let c = handedOut (messageBytes (settlementMessage (s .settings) (s .batch) trace (totalsOf es))) (lent .message) in
+      let same : c ≡ b = cc in
+      rw same at r
+
+  settle-reads : (b : List ℕ) → givenIn (settle s lent) ≡ history.sent b → ReadsSettled b
+  unfolding settle judged
+  settle-reads b g = go (eqb (firstBroken (settleRules s lent)) 0) refl g
+    where
+      go : (t : Bool) → eqb (firstBroken (settleRules s lent)) 0 ≡ t
+          → givenIn (cond t (settleNow s trace (totalsOf es) lent) (refused (firstBroken (settleRules s lent)) s lent)) ≡ history.sent b → ReadsSettled b
+      go true q g = settled-reads (fit-first s lent _ refl (eqb-true _ 0 q)) b g
+      go false q g = let z : _≡_ {A = ℕ} 0 1 = cc in absurd (omega arith)
+
+  -- by the event, with the settings under another name
+  pub call-settled : (e : Event) (x : Settings) → s .settings ≡ x → (b : List ℕ) → e ≡ settles → givenIn (call e s lent) ≡ history.sent b
+      → Reads 0x0500 (settlementItems x (y .batch) (traceIn (messageIn b)) (a .requests)) (readMessage b)
+  call-settled e x same b p g = rw same at (settle-reads b (rw p at g))

@@ -1,0 +1,114 @@
+-- The fields of the messages sent, by number and value, from what the desk keyed, the settings and the history (document 01, "Kinds" and
+-- "Calls").
+use mathlib.Core.List.{List, [], _∷_, _++_}
+use mathlib.Core.Bool.{cond}
+use Prim.Native.Nat.{ℕ}
+use lib.Dec.{eqb}
+use lib.ListN.{replicate}
+use Rattle.digits.specs.Digits.{unpack}
+use Rattle.digits.specs.Numbers.{digitsOf}
+use Rattle.field.specs.Table.{among}
+use Rattle.message.specs.Build.{Item, digits, bytes}
+use Rattle.message.specs.Message.{fieldOf}
+use Rattle.message.specs.declared.Message.{Message}
+use Rattle.state.specs.declared.Settings.{Settings}
+use Rattle.desk.specs.declared.Desk.{Desk}
+use Rattle.history.specs.Words.{kindIn}
+use Rattle.history.specs.History.{Request, count, amount, approvedDebit, approvedCredit}
+use Rattle.history_theorems.specs.Standing.{traceIn}
+use Rattle.history_theorems.specs.Approvals.{Approval, authorisationIn}
+
+-- types: 10 and 11 go as 0100; 20 to 23 as 0200; 25 as 0220
+unfoldable pub typeFor : ℕ → ℕ
+typeFor kind = cond (among kind (10 ∷ 11 ∷ [])) 0x0100 (cond (eqb kind 25) 0x0220 0x0200)
+
+-- field 3: 030000 for 10; 000000 for 20 and 22; 200000 otherwise
+unfoldable pub processingFor : ℕ → List ℕ
+processingFor kind =
+    cond (eqb kind 10) (0 ∷ 3 ∷ 0 ∷ 0 ∷ 0 ∷ 0 ∷ [])
+      (cond (among kind (20 ∷ 22 ∷ [])) (0 ∷ 0 ∷ 0 ∷ 0 ∷ 0 ∷ 0 ∷ []) (2 ∷ 0 ∷ 0 ∷ 0 ∷ 0 ∷ 0 ∷ []))
+
+-- field 25: 06 for 10, 11, 20, 21, else 00
+unfoldable pub conditionFor : ℕ → List ℕ
+conditionFor kind = cond (among kind (10 ∷ 11 ∷ 20 ∷ 21 ∷ [])) (0 ∷ 6 ∷ []) (0 ∷ 0 ∷ [])
+
+-- field 60 is kind (2), batch (6), management code (3)
+abbrev pub field60 : ℕ → ℕ → ℕ → List ℕ
+field60 kind batch code = digitsOf 2 kind ++ digitsOf 6 batch ++ digitsOf 3 code
+
+-- field 49: currency 156
+abbrev pub yuan : List ℕ
+yuan = 0x31 ∷ 0x35 ∷ 0x36 ∷ []
+
+-- field n as another message holds it
+abbrev pub copied : ℕ → Message → Item
+copied n m = record { number = n; field = fieldOf m n }
+
+-- every card request holds 2, 3, 4, 11, 22, 25, 41, 42, 49, 60, 64; field 22 is 012, the management code 000, and 64 leaves as eight zero
+-- bytes
+abbrev pub requestItems : Settings → ℕ → ℕ → ℕ → Item → Item → List Item
+requestItems x batch trace kind card amount =
+    card
+    ∷ digits 3 (processingFor kind)
+    ∷ amount
+    ∷ digits 11 (digitsOf 6 trace)
+    ∷ digits 22 (0 ∷ 1 ∷ 2 ∷ [])
+    ∷ digits 25 (conditionFor kind)
+    ∷ bytes 41 (x .terminal)
+    ∷ bytes 42 (x .merchant)
+    ∷ bytes 49 yuan
+    ∷ digits 60 (field60 kind batch 0)
+    ∷ bytes 64 (replicate 8 0)
+    ∷ []
+
+-- with batch and trace zero and the desk's date
+abbrev pub keyedDate : Desk → Item
+keyedDate d = digits 61 (replicate 12 0 ++ digitsOf 2 (d .month) ++ digitsOf 2 (d .day))
+
+-- kind 25 adds 37 and 61, kinds 11 and 20 add 38 and 61
+abbrev pub keyedItems : Desk → List Item
+keyedItems d =
+    cond (eqb (d .kind) 25) (bytes 37 (d .reference) ∷ keyedDate d ∷ [])
+      (cond (among (d .kind) (11 ∷ 20 ∷ [])) (bytes 38 (d .authorisation) ∷ keyedDate d ∷ []) [])
+
+-- kinds 21 and 23 add 37, 38 and 61 from the original: batch, trace and date
+abbrev pub originalItems : ℕ → Approval → List Item
+originalItems batch v =
+    copied 37 (v .answer)
+    ∷ bytes 38 (authorisationIn (v .answer))
+    ∷ digits 61 (digitsOf 6 batch ++ digitsOf 6 (traceIn (v .request)) ++ unpack 4 (fieldOf (v .answer) 13 .bytes))
+    ∷ []
+
+-- settle sends 11, 41, 42, 48, 49, 60 = 00, batch, 201; field 48 is debit amount (12), debit count (3), credit amount (12), credit count (3),
+-- reconciliation digit (1), 0 in the request, then 31 zeros
+abbrev pub settlementItems : Settings → ℕ → ℕ → List Request → List Item
+settlementItems x batch trace rs =
+    digits 11 (digitsOf 6 trace)
+    ∷ bytes 41 (x .terminal)
+    ∷ bytes 42 (x .merchant)
+    ∷ digits 48
+      (digitsOf 12 (amount approvedDebit rs) ++ digitsOf 3 (count approvedDebit rs) ++ digitsOf 12 (amount approvedCredit rs)
+      ++ digitsOf 3 (count approvedCredit rs) ++ replicate 32 0)
+    ∷ bytes 49 yuan
+    ∷ digits 60 (field60 0 batch 201)
+    ∷ []
+
+-- an upload item holds 2, 3, 4, 11, 37, 38, 41, 42, 49, 60 = kind, batch, 201
+abbrev pub uploadItems : Settings → ℕ → Approval → List Item
+uploadItems x batch v =
+    copied 2 (v .request)
+    ∷ digits 3 (processingFor (kindIn (v .request)))
+    ∷ copied 4 (v .request)
+    ∷ copied 11 (v .request)
+    ∷ copied 37 (v .answer)
+    ∷ bytes 38 (authorisationIn (v .answer))
+    ∷ bytes 41 (x .terminal)
+    ∷ bytes 42 (x .merchant)
+    ∷ bytes 49 yuan
+    ∷ digits 60 (field60 (kindIn (v .request)) batch 201)
+    ∷ []
+
+-- the upload's end holds 11, 41, 42, 60 = 00, batch, 202
+abbrev pub endItems : Settings → ℕ → ℕ → List Item
+endItems x batch trace =
+    digits 11 (digitsOf 6 trace) ∷ bytes 41 (x .terminal) ∷ bytes 42 (x .merchant) ∷ digits 60 (field60 0 batch 202) ∷ []
