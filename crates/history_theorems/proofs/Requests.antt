@@ -244,8 +244,8 @@ module _ (l : ℕ) (s : State) (lent : Lent) (a : Account) (y : Standing) (vs : 
     void-says : (v : Approval) (later : List Approval) → takesOriginal (d .kind) ≡ true → IsEntry o v later → isOriginal (originalKind (d .kind)) (d .original .0) o ≡ true
         → Copied o v → Voids v
     void-says v later t h n w = (
-        sym (named-alike d o v later h) ∙ n,
-        rw (← stands .members .1, trace-said) (in-terms _ (void-fields (s .settings) (s .batch) trace d o v later t (original-form t) w h)),
+      sym (named-alike d o v later h) ∙ n,
+      rw (← stands .members .1, trace-said) (in-terms _ (void-fields (s .settings) (s .batch) trace d o v later t (original-form t) w h)),
     )
 
     original-says : takesOriginal (d .kind) ≡ true → (k : Found) → originalOf d es ≡ k → nowhere k ≡ false → (i : ℕ) × AtPlace i Voids vs

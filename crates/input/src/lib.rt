@@ -1,10 +1,9 @@
 // The lines of a file or of standard input, and the words of the line in hand.
 ghost use mathlib.Core.Path.{_≡_};
-ghost use mathlib.Core.Bool.{false};
-ghost use Prim.Native.Nat.{_≤_};
+ghost use mathlib.Core.Bool.{true, false};
 ghost use lib.Dec.{ltb};
 ghost use lib.ListN.{length};
-ghost use Rattle.input.specs.Input.{inHand, wordsIn};
+ghost use Rattle.input.specs.Input.{inHand, wordsIn, Refills, Takes, NextLine};
 
 // Where the bytes of a chunk that are still to be taken begin and end.
 pub struct Left {
@@ -29,7 +28,7 @@ impl Input {
 
     // Before the first line of an open file.
     pub fn new(file: i32) -> Self
-        ensures { λ r. ⌜ (r .number ≡ 0) × (r .len ≡ 0) × (r .ended ≡ false) ⌝ }
+        ensures { λ r. ⌜ (r .file ≡ file) × (r .number ≡ 0) × (r .len ≡ 0) × (r .ended ≡ false) × (r .left .from ≡ 0) × (r .left .end ≡ 0) ⌝ }
     {
         Input {
             file: file,
@@ -43,7 +42,7 @@ impl Input {
 
     // The same line, where nothing more comes.
     fn at_end(self) -> Self
-        ensures { λ r. ⌜ r .len ≡ self .len ⌝ }
+        ensures { λ r. ⌜ (r .file ≡ self .file) × (r .number ≡ self .number) × (r .len ≡ self .len) × (r .whole ≡ false) × (r .ended ≡ true) × (r .left .from ≡ 0) × (r .left .end ≡ 0) ⌝ }
     {
         Input {
             file: self.file,
@@ -63,11 +62,11 @@ pub fn buffer() -> [u8; 4098]
     [0; 4098]
 }
 
-// Reads the next line: its first bytes stand in line, as many as fit, and the rest of it is dropped. The input has ended
-// where nothing more comes; bytes after the last line feed are a line too. A proved loop has to end, and nothing says that
-// the line does, so the loop counts its turns down.
+// Reads the next line: its first bytes stand in line, as many as fit, and the rest of it is dropped; what stands behind its line
+// feed is left for the next one. The input has ended where nothing more comes; bytes after the last line feed are a line too. A
+// proved loop has to end, and nothing says that the line does, so the loop counts its turns down.
 pub fn next(input: Input, chunk: &mut [u8], line: &mut [u8]) -> Input
-    ensures { λ r. ⌜ r .len ≤ length (now (line .entry)) ⌝ }
+    ensures { λ r. ⌜ NextLine input (now (chunk .entry)) (now (line .entry)) r (now (chunk .exit)) (now (line .exit)) ⌝ }
 {
     let left = input.left;
     let mut at = Input {
@@ -115,7 +114,7 @@ fn in_hand(at: Input, line: &[u8]) -> &[u8]
 
 // What is left of the chunk, or what a read brings where that is nothing.
 fn refilled(left: Left, file: i32, chunk: &mut [u8]) -> Left
-    ensures { λ r. ⌜ (r .from ≤ r .end) × (r .end ≤ length (now (chunk .entry))) ⌝ }
+    ensures { λ r. ⌜ Refills left (now (chunk .entry)) r (now (chunk .exit)) ⌝ }
 {
     if (left.from < left.end) & (left.end <= chunk.len()) {
         return left;
@@ -127,10 +126,9 @@ fn refilled(left: Left, file: i32, chunk: &mut [u8]) -> Left
     }
 }
 
-// Takes what is left of the chunk into the line, up to a line feed.
+// Takes what is left of the chunk, or what a read brings, into the line, up to a line feed.
 fn more(at: Input, chunk: &mut [u8], line: &mut [u8]) -> Input
-    requires { ⌜ at .len ≤ length (now line) ⌝ }
-    ensures { λ r. ⌜ r .len ≤ length (now (line .entry)) ⌝ }
+    ensures { λ r. ⌜ (r .file ≡ at .file) × (r .number ≡ at .number) × (r .ended ≡ true → r .whole ≡ false) × Takes (at .left) (now (chunk .entry)) (at .len) (now (line .entry)) r (now (chunk .exit)) (now (line .exit)) ⌝ }
 {
     let left = refilled(at.left, at.file, chunk);
     let from = left.from;

@@ -2,9 +2,9 @@
 mod asks;
 mod shows;
 
+pub use asks::Asked;
 pub use asks::answer_into;
 pub use asks::asked_by;
 pub use asks::changed;
-pub use asks::Asked;
 pub use shows::last_message;
 pub use shows::say;

@@ -1,9 +1,9 @@
 -- `input::more` meets its contract.
+use mathlib.Core.Path.{refl, sym}
+use mathlib.Core.Bool.{true≢false}
 use borrow.Author.Needs.{needs}
 use native.Mathlib.Omega.{arith}
-use Prim.Native.Nat.{_-_, _≤_}
-use Rattle.line_ends.proofs.Feeds.{used-part}
-use Rattle.input.proofs.Feeds.{grown-within}
+use Rattle.input.proofs.Feeds.{takes-none-read, piece-within, takes-piece}
 use Rattle.input.proofs.more.Statement.{statement}
 use Rattle.input.proofs.more.Tie as tie
 
@@ -17,7 +17,12 @@ same-length : tie.Need-same-length
 same-length c = search needs
 
 returns : tie.Need-returns
-returns c = search needs
+returns c =
+    let at-end = c .at-end .ensures in
+    let taken =
+    takes-none-read (c .at-end .result) (c .before .before .before .before .refilled .ensures) (omega arith)
+    (at-end .2) (at-end .3) (at-end .5) (at-end .6) in
+    (at-end .0, at-end .1, λ e. at-end .3, taken)
 
 sub-take-in : tie.Need-sub-take-in
 sub-take-in c = search needs
@@ -33,10 +38,9 @@ take-in-requires c κs = search needs
 
 add-t12 : tie.Need-add-t12
 add-t12 c =
-    let at-take-in = c .before .before .before .take-in in
-    let r = c .before .before .before .before .before .before .before .before .before .before .refilled .result in
-    let h : at-take-in .result .used ≤ r .end - r .from = rw (at-take-in .ensures .1) (used-part _ _) in
-    omega arith
+    let at-refilled-ensures = c .before .before .before .before .before .before .before .before .before .before .refilled .ensures in
+    let at-take-in-ensures = c .before .before .before .take-in .ensures in
+    omega (arith, at-take-in-ensures .1, piece-within at-refilled-ensures)
 
 same-length-2 : tie.Need-same-length-2
 same-length-2 c = search needs
@@ -46,10 +50,13 @@ same-length-3 c = search needs
 
 returns-2 : tie.Need-returns-2
 returns-2 c =
-    let at-pre = c .before .before .before .before .before .before .before .before .before .before .before .before .before .before .before
-    .before .pre in
-    let at-take-in-ensures = c .before .before .before .before .take-in .ensures in
-    omega (arith, grown-within (at-take-in-ensures .0) at-pre)
+    let at-refilled-ensures = c .before .before .before .before .before .before .before .before .before .before .before .refilled .ensures in
+    let at-take-in-ensures = c .before .before .before .before .take-in .ensures in (
+      search needs,
+      refl,
+      λ e. absurd (true≢false (sym e)),
+      takes-piece at-refilled-ensures _ (at-take-in-ensures .0) (at-take-in-ensures .2) (rw (at-take-in-ensures .1)) refl,
+    )
 
 pub more-spec : {M : Type 1} → statement M
 more-spec =

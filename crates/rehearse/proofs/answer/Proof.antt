@@ -1,9 +1,10 @@
 -- `rehearse::answer` meets its contract.
-use mathlib.Core.Path.{sym}
-use lib.Seq.{length-take-le}
-use Rattle.texts.proofs.Texts.{start, within}
+use mathlib.Core.Path.{sym, ap, _∙_}
+use mathlib.Core.List.{[]}
+use lib.ListN.{length}
+use Rattle.texts.proofs.Texts.{start}
 use borrow.Author.Needs.{needs}
-use native.Mathlib.Omega.{arith}
+use Rattle.rehearse.proofs.Scripts.{answered-long, answered-none, answered-words}
 use Rattle.rehearse.proofs.answer.Statement.{statement}
 use Rattle.rehearse.proofs.answer.Tie as tie
 
@@ -16,44 +17,26 @@ slice-aggregate-add-error c = search needs
 add-error-requires : tie.Need-add-error-requires
 add-error-requires c κs = search needs
 
-slice-reshare-prefix-write-all : tie.Need-slice-reshare-prefix-write-all
-slice-reshare-prefix-write-all c =
-    let at-add-error-ensures = c .before .before .add-error .ensures in
-    omega (arith, within (at-add-error-ensures _ (start _)))
-
-slice-aggregate-write-all : tie.Need-slice-aggregate-write-all
-slice-aggregate-write-all c =
-    let at-add-error-ensures = c .before .before .before .add-error .ensures in
-    sym (length-take-le _ _ (omega (arith, within (at-add-error-ensures _ (start _)))))
-
-write-all-requires : tie.Need-write-all-requires
-write-all-requires c κs = search needs
-
 same-length : tie.Need-same-length
 same-length c = search needs
 
 returns : tie.Need-returns
-returns c = search needs
+returns c =
+    let at-is-too-long = c .before .before .before .before .before .before .is-too-long in
+    let at-add-error = c .before .before .add-error in
+    answered-long _ _ _ _ (sym (at-is-too-long .ensures) ∙ c .before .before .before .before .before .if1 .taken) (at-add-error .ensures [] (start _))
 
 words-of-requires : tie.Need-words-of-requires
 words-of-requires c κs = search needs
 
 returns-2 : tie.Need-returns-2
-returns-2 c = search needs
+returns-2 c =
+    let at-is-too-long = c .before .before .before .is-too-long in
+    let at-words-of = c .before .words-of in
+    answered-none _ _ _ _ _ (sym (at-is-too-long .ensures) ∙ c .before .before .if1 .left) (sym (ap length (at-words-of .ensures)) ∙ c .if2 .taken)
 
 act-requires : tie.Need-act-requires
 act-requires c κs = search needs
-
-slice-reshare-prefix-write-all-2 : tie.Need-slice-reshare-prefix-write-all-2
-slice-reshare-prefix-write-all-2 c = search needs
-
-slice-aggregate-write-all-2 : tie.Need-slice-aggregate-write-all-2
-slice-aggregate-write-all-2 c =
-    let at-act-ensures = c .before .before .before .before .before .before .before .act .ensures in
-    sym (length-take-le _ _ (omega (arith, within (at-act-ensures .text-is))))
-
-write-all-requires-2 : tie.Need-write-all-requires-2
-write-all-requires-2 c κs = search needs
 
 same-length-2 : tie.Need-same-length-2
 same-length-2 c = search needs
@@ -65,7 +48,12 @@ same-length-4 : tie.Need-same-length-4
 same-length-4 c = search needs
 
 returns-3 : tie.Need-returns-3
-returns-3 c = search needs
+returns-3 c =
+    let at-is-too-long = c .before .before .before .before .before .before .before .before .before .before .before .before .before .is-too-long in
+    let at-words-of = c .before .before .before .before .before .before .before .before .before .before .before .words-of in
+    let at-act = c .before .before .before .before .before .before .act in
+    answered-words _ _ _ _ (sym (at-is-too-long .ensures) ∙ c .before .before .before .before .before .before .before .before .before .before .before .before .if1 .left) (λ z. c .before .before .before .before .before .before .before .before .before .before .if2 .left (ap length (at-words-of .ensures) ∙ z))
+    (rw (at-words-of .ensures) at (at-act .ensures))
 
 pub answer-spec : {M : Type 1} → statement M
 answer-spec =
@@ -74,17 +62,11 @@ answer-spec =
     is-too-long-requires
     slice-aggregate-add-error
     add-error-requires
-    slice-reshare-prefix-write-all
-    slice-aggregate-write-all
-    write-all-requires
     same-length
     returns
     words-of-requires
     returns-2
     act-requires
-    slice-reshare-prefix-write-all-2
-    slice-aggregate-write-all-2
-    write-all-requires-2
     same-length-2
     same-length-3
     same-length-4

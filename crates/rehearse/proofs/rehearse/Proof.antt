@@ -1,98 +1,38 @@
 -- `rehearse::rehearse` meets its contract.
-use mathlib.Core.Path.{_≡_}
-use lib.ListN.{length}
+use mathlib.Core.Path.{_∙_}
 use borrow.Author.Needs.{needs}
+use Rattle.rehearse.proofs.Scripts.{last-number}
 use Rattle.rehearse.proofs.rehearse.Statement.{statement}
 use Rattle.rehearse.proofs.rehearse.Tie as tie
 
-abbrev Inv-loop : tie.InvT-loop
-Inv-loop script chunk₀ line₀ journal₀ message₀ text₀ rehearsal₀ at₀ turns₀ chunk line journal message text rehearsal at turns =
-    (length chunk ≡ length chunk₀) × (length line ≡ length line₀) × (length journal ≡ length journal₀) × (length message ≡ length message₀)
-    × (length text ≡ length text₀)
-
-abbrev μ-loop : tie.MeasureT-loop
-μ-loop script chunk₀ line₀ journal₀ message₀ text₀ rehearsal₀ at₀ turns₀ chunk line journal message text rehearsal at turns =
-    turns
-
-buffer-requires : tie.Need-buffer-requires Inv-loop μ-loop
+buffer-requires : tie.Need-buffer-requires
 buffer-requires c κs = search needs
 
-buffer-requires-2 : tie.Need-buffer-requires-2 Inv-loop μ-loop
-buffer-requires-2 c κs = search needs
-
-large-buffer-requires : tie.Need-large-buffer-requires Inv-loop μ-loop
-large-buffer-requires c κs = search needs
-
-new-requires : tie.Need-new-requires Inv-loop μ-loop
+new-requires : tie.Need-new-requires
 new-requires c κs = search needs
 
-new-requires-2 : tie.Need-new-requires-2 Inv-loop μ-loop
+new-requires-2 : tie.Need-new-requires-2
 new-requires-2 c κs = search needs
 
-loop-holds : tie.Need-loop-holds Inv-loop μ-loop
-loop-holds c = search needs
+slice-aggregate-rehearse-lines : tie.Need-slice-aggregate-rehearse-lines
+slice-aggregate-rehearse-lines c = search needs
 
-slice-aggregate-next : tie.Need-slice-aggregate-next Inv-loop μ-loop
-slice-aggregate-next c = search needs
+rehearse-lines-requires : tie.Need-rehearse-lines-requires
+rehearse-lines-requires c κs = search needs
 
-slice-aggregate-next-2 : tie.Need-slice-aggregate-next-2 Inv-loop μ-loop
-slice-aggregate-next-2 c = search needs
-
-next-requires : tie.Need-next-requires Inv-loop μ-loop
-next-requires c κs = search needs
-
-slice-aggregate-answer : tie.Need-slice-aggregate-answer Inv-loop μ-loop
-slice-aggregate-answer c = search needs
-
-slice-aggregate-answer-2 : tie.Need-slice-aggregate-answer-2 Inv-loop μ-loop
-slice-aggregate-answer-2 c = search needs
-
-slice-aggregate-answer-3 : tie.Need-slice-aggregate-answer-3 Inv-loop μ-loop
-slice-aggregate-answer-3 c = search needs
-
-slice-aggregate-answer-4 : tie.Need-slice-aggregate-answer-4 Inv-loop μ-loop
-slice-aggregate-answer-4 c = search needs
-
-answer-requires : tie.Need-answer-requires Inv-loop μ-loop
-answer-requires c κs = search needs
-
-sub-turns : tie.Need-sub-turns Inv-loop μ-loop
-sub-turns c = search needs
-
-loop-less : tie.Need-loop-less Inv-loop μ-loop
-loop-less c = search needs
-
-loop-again : tie.Need-loop-again Inv-loop μ-loop
-loop-again c = search needs
-
-returns : tie.Need-returns Inv-loop μ-loop
-returns c = search needs
-
-returns-2 : tie.Need-returns-2 Inv-loop μ-loop
-returns-2 c = search needs
+returns : tie.Need-returns
+returns c =
+    let at-new = c .before .before .before .new2 .ensures in
+    let at-rehearse-lines = c .before .rehearse-lines .ensures in
+    (at-rehearse-lines .file-is ∙ at-new .0 ∙ search needs, last-number at-rehearse-lines (at-new .1))
 
 pub rehearse-spec : {M : Type 1} → statement M
 rehearse-spec =
     tie.close
     (tie.spec
-    Inv-loop
-    μ-loop
     buffer-requires
-    buffer-requires-2
-    large-buffer-requires
     new-requires
     new-requires-2
-    loop-holds
-    slice-aggregate-next
-    slice-aggregate-next-2
-    next-requires
-    slice-aggregate-answer
-    slice-aggregate-answer-2
-    slice-aggregate-answer-3
-    slice-aggregate-answer-4
-    answer-requires
-    sub-turns
-    loop-less
-    loop-again
-    returns
-    returns-2)
+    slice-aggregate-rehearse-lines
+    rehearse-lines-requires
+    returns)
