@@ -1,4 +1,4 @@
--- Document 01, "Messages": settlement, upload item and the upload's end.
+-- Document 01, "Calls": settlement, upload item and the upload's end.
 use mathlib.Core.List.{List, [], _∷_}
 use Prim.Native.Nat.{ℕ}
 use Rattle.approval.specs.Cards.{cardOf}

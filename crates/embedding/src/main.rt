@@ -76,13 +76,7 @@ fn told(name: &[u8], step: Step, message: &[u8]) -> Terminal {
 }
 
 fn settings() -> Settings {
-    Settings {
-        limit: LIMIT,
-        sendings: Settings::SENDINGS,
-        refund: Settings::REFUND,
-        terminal: *b"10000001",
-        merchant: *b"100000000000001",
-    }
+    Settings::usual(LIMIT, *b"10000001", *b"100000000000001")
 }
 
 // A fee of 80.00 yuan; what a sale does not send is left zero.

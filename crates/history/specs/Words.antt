@@ -99,9 +99,47 @@ endsIt good a = isApproval a && macGood good a || codeIs 0x32 0x35 a || codeIs 0
 unfoldable pub closesBatch : Message → Message → Bool
 closesBatch m a = isSettlement m && eqb (digitIn a) 1 || isEnd m && isApproval a
 
+-- the kinds: 22 sale, 23 sale void, 25 refund, 10 pre-authorisation, 11 its void, 20 completion, 21 completion void
+abbrev pub listedKinds : List ℕ
+listedKinds = 10 ∷ 11 ∷ 20 ∷ 21 ∷ 22 ∷ 23 ∷ 25 ∷ []
+
 -- debit is 20 and 22, credit is 21, 23, 25
+abbrev pub debitKinds : List ℕ
+debitKinds = 20 ∷ 22 ∷ []
+
+abbrev pub creditKinds : List ℕ
+creditKinds = 21 ∷ 23 ∷ 25 ∷ []
+
 unfoldable pub isDebit : Message → Bool
-isDebit m = among (kindIn m) (20 ∷ 22 ∷ [])
+isDebit m = among (kindIn m) debitKinds
 
 unfoldable pub isCredit : Message → Bool
-isCredit m = among (kindIn m) (21 ∷ 23 ∷ 25 ∷ [])
+isCredit m = among (kindIn m) creditKinds
+
+-- a 23 voids a 22, a 21 a 20
+abbrev pub voidKinds : List ℕ
+voidKinds = 21 ∷ 23 ∷ []
+
+abbrev pub voidedKind : ℕ → ℕ
+voidedKind kind = cond (eqb kind 23) 22 20
+
+-- the desk keys a date for 11, 20 and 25, an authorisation for 11 and 20
+abbrev pub datedKinds : List ℕ
+datedKinds = 11 ∷ 20 ∷ 25 ∷ []
+
+abbrev pub authorisedKinds : List ℕ
+authorisedKinds = 11 ∷ 20 ∷ []
+
+-- types: 10 and 11 go as 0100; 20 to 23 as 0200; 25 as 0220
+unfoldable pub typeFor : ℕ → ℕ
+typeFor kind = cond (among kind (10 ∷ 11 ∷ [])) 0x0100 (cond (eqb kind 25) 0x0220 0x0200)
+
+-- field 3: 030000 for 10; 000000 for 20 and 22; 200000 otherwise
+unfoldable pub processingFor : ℕ → List ℕ
+processingFor kind =
+    cond (eqb kind 10) (0 ∷ 3 ∷ 0 ∷ 0 ∷ 0 ∷ 0 ∷ [])
+      (cond (among kind (20 ∷ 22 ∷ [])) (0 ∷ 0 ∷ 0 ∷ 0 ∷ 0 ∷ 0 ∷ []) (2 ∷ 0 ∷ 0 ∷ 0 ∷ 0 ∷ 0 ∷ []))
+
+-- field 25: 06 for 10, 11, 20, 21, else 00
+unfoldable pub conditionFor : ℕ → List ℕ
+conditionFor kind = cond (among kind (10 ∷ 11 ∷ 20 ∷ 21 ∷ [])) (0 ∷ 6 ∷ []) (0 ∷ 0 ∷ [])

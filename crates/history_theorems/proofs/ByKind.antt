@@ -9,7 +9,7 @@ use borrow.Author.Tests.{ne-eqb, eqb-true}
 use Rattle.digits.specs.Numbers.{digitsOf}
 use Rattle.field.specs.Table.{among}
 use Rattle.kinds.specs.Kinds.{isKind, indicatorOf, processingOf, conditionOf, takesOriginal, keysAuthorisation, keysDate}
-use Rattle.history_theorems.specs.Fields.{typeFor, processingFor, conditionFor}
+use Rattle.history.specs.Words.{typeFor, processingFor, conditionFor}
 use Rattle.history_theorems.specs.Requests.{isVoid}
 
 eqb-turned : (a b : ℕ) → eqb a b ≡ eqb b a

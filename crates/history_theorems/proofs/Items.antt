@@ -48,7 +48,7 @@ use Rattle.call_reversal.specs.SendReversal.{sendFrom, sendReversal}
 use Rattle.call_settle.specs.Settle.{settle}
 use Rattle.call_upload.specs.SendNextUpload.{sendsNext, sendNextUploadRules, uploadFrom, sendNextUpload}
 use Rattle.terminal.specs.Events.{Event, signed-on, starts, answers, no-answer, power-returned, send-reversal, settles, send-next-upload, call}
-use Rattle.history.specs.Words.{messageIn, kindIn, isRequest, isApproval, macGood, closesBatch}
+use Rattle.history.specs.Words.{messageIn, kindIn, isRequest, isApproval, macGood, closesBatch, processingFor}
 use Rattle.history.specs.History as history
 use Rattle.history.specs.History.{Given, Account}
 use Rattle.history.proofs.Said.{handedOut, sent-reads}
@@ -57,7 +57,7 @@ use Rattle.history.proofs.Starts.{fit-first}
 use Rattle.history.proofs.Tied.{Tied}
 use Rattle.history_theorems.specs.Standing.{Standing, traceIn}
 use Rattle.history_theorems.specs.Approvals.{Approval, IsEntry}
-use Rattle.history_theorems.specs.Fields.{processingFor, field60, yuan, uploadItems, endItems}
+use Rattle.history_theorems.specs.Fields.{field60, yuan, uploadItems, endItems}
 use Rattle.history_theorems.specs.Uploads.{Progress, unsent, silent, ended, Place, none, at, nextItem, leaves, changeAt, Upload, withItem, whenSent, isItem, changed, falls-silent, isAnswered, whenSilent, whenHeard, whenQuiet, whenGiven, SendsNext, EachFew}
 use Rattle.history_theorems.proofs.Stands.{Stands}
 use Rattle.history_theorems.proofs.Said.{givenIn}

@@ -43,13 +43,13 @@ use Rattle.rules.proofs.InOrder.{Fit}
 use Rattle.outgoing.proofs.Leaving.{request-held, request-listed}
 use Rattle.call_start.proofs.Refusals.{unbroken}
 use Rattle.call_start.proofs.Held.{found-for, entry-in-form, may-send}
-use Rattle.history.specs.Words.{messageIn}
+use Rattle.history.specs.Words.{messageIn, typeFor}
 use Rattle.history.specs.History.{Account}
 use Rattle.history.proofs.Said.{handedOut, sent-reads}
 use Rattle.history.proofs.Tied.{Tied}
 use Rattle.history_theorems.specs.Standing.{traceIn, Standing}
 use Rattle.history_theorems.specs.Approvals.{Approval, AtPlace, IsEntry}
-use Rattle.history_theorems.specs.Fields.{copied, requestItems, keyedDate, keyedItems, originalItems, typeFor}
+use Rattle.history_theorems.specs.Fields.{copied, requestItems, keyedDate, keyedItems, originalItems}
 use Rattle.history_theorems.specs.Requests.{isNamed, SaysRequest}
 use Rattle.history_theorems.proofs.ByKind.{authorisation-keyed, processing-is, condition-is, void-is, type-is}
 use Rattle.history_theorems.proofs.Copies.{Copied, EachExact, copied-place}

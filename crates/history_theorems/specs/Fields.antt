@@ -13,24 +13,10 @@ use Rattle.message.specs.Message.{fieldOf}
 use Rattle.message.specs.declared.Message.{Message}
 use Rattle.state.specs.declared.Settings.{Settings}
 use Rattle.desk.specs.declared.Desk.{Desk}
-use Rattle.history.specs.Words.{kindIn}
+use Rattle.history.specs.Words.{kindIn, authorisedKinds, processingFor, conditionFor}
 use Rattle.history.specs.History.{Request, count, amount, approvedDebit, approvedCredit}
 use Rattle.history_theorems.specs.Standing.{traceIn}
 use Rattle.history_theorems.specs.Approvals.{Approval, authorisationIn}
-
--- types: 10 and 11 go as 0100; 20 to 23 as 0200; 25 as 0220
-unfoldable pub typeFor : ℕ → ℕ
-typeFor kind = cond (among kind (10 ∷ 11 ∷ [])) 0x0100 (cond (eqb kind 25) 0x0220 0x0200)
-
--- field 3: 030000 for 10; 000000 for 20 and 22; 200000 otherwise
-unfoldable pub processingFor : ℕ → List ℕ
-processingFor kind =
-    cond (eqb kind 10) (0 ∷ 3 ∷ 0 ∷ 0 ∷ 0 ∷ 0 ∷ [])
-      (cond (among kind (20 ∷ 22 ∷ [])) (0 ∷ 0 ∷ 0 ∷ 0 ∷ 0 ∷ 0 ∷ []) (2 ∷ 0 ∷ 0 ∷ 0 ∷ 0 ∷ 0 ∷ []))
-
--- field 25: 06 for 10, 11, 20, 21, else 00
-unfoldable pub conditionFor : ℕ → List ℕ
-conditionFor kind = cond (among kind (10 ∷ 11 ∷ 20 ∷ 21 ∷ [])) (0 ∷ 6 ∷ []) (0 ∷ 0 ∷ [])
 
 -- field 60 is kind (2), batch (6), management code (3)
 abbrev pub field60 : ℕ → ℕ → ℕ → List ℕ
@@ -69,7 +55,7 @@ keyedDate d = digits 61 (replicate 12 0 ++ digitsOf 2 (d .month) ++ digitsOf 2 (
 abbrev pub keyedItems : Desk → List Item
 keyedItems d =
     cond (eqb (d .kind) 25) (bytes 37 (d .reference) ∷ keyedDate d ∷ [])
-      (cond (among (d .kind) (11 ∷ 20 ∷ [])) (bytes 38 (d .authorisation) ∷ keyedDate d ∷ []) [])
+      (cond (among (d .kind) authorisedKinds) (bytes 38 (d .authorisation) ∷ keyedDate d ∷ []) [])
 
 -- kinds 21 and 23 add 37, 38 and 61 from the original: batch, trace and date
 abbrev pub originalItems : ℕ → Approval → List Item

@@ -16,21 +16,21 @@ use Rattle.state.specs.declared.Settings.{Settings}
 use Rattle.desk.specs.declared.Desk.{Desk}
 use Rattle.terminal.specs.Events.{starts}
 use Rattle.terminal.specs.Shapes.{SettingsShaped}
-use Rattle.history.specs.Words.{messageIn, kindIn, amountIn}
+use Rattle.history.specs.Words.{messageIn, kindIn, amountIn, listedKinds, debitKinds, creditKinds, voidKinds, voidedKind, datedKinds, authorisedKinds, typeFor}
 use Rattle.history.specs.History.{Given, sent, refused, batchOf}
 use Rattle.history.specs.Demand.{Invocation, runs, begun, InvocationsShaped, Each}
 use Rattle.history_theorems.specs.Standing.{Standing, traceIn, standing}
 use Rattle.history_theorems.specs.Approvals.{Approval, approvals, voidedBy, AtPlace}
 use Rattle.history_theorems.specs.Judged.{reversalPending, numberOf}
-use Rattle.history_theorems.specs.Fields.{typeFor, copied, requestItems, keyedItems, originalItems}
+use Rattle.history_theorems.specs.Fields.{copied, requestItems, keyedItems, originalItems}
 
--- 21 and 23 are voids
+-- a void of an approved request
 unfoldable pub isVoid : ℕ → Bool
-isVoid kind = among kind (21 ∷ 23 ∷ [])
+isVoid kind = among kind voidKinds
 
 -- a 23 is for an approved 22, a 21 for an approved 20, of the trace that the desk gives
 unfoldable pub isNamed : Desk → Approval → Bool
-isNamed d v = eqb (kindIn (v .request)) (cond (eqb (d .kind) 23) 22 20) && eqb (traceIn (v .request)) (d .original .0)
+isNamed d v = eqb (kindIn (v .request)) (voidedKind (d .kind)) && eqb (traceIn (v .request)) (d .original .0)
 
 -- the first that it names: whether there is one, whether a later approval voids it, and its amount
 abbrev pub isThere : Desk → List Approval → Bool
@@ -65,11 +65,11 @@ textInForm b = all (length b) (λ i. leb 0x20 (getD b i 0) && leb (getD b i 0) 0
 -- kind, card, date and text; desk data that a kind doesn't send are not judged
 unfoldable pub keyedInForm : Desk → Bool
 keyedInForm d =
-    among (d .kind) (10 ∷ 11 ∷ 20 ∷ 21 ∷ 22 ∷ 23 ∷ 25 ∷ [])
+    among (d .kind) listedKinds
     && (isVoid (d .kind) || cardInForm (d .card))
-    && (not (among (d .kind) (11 ∷ 20 ∷ 25 ∷ [])) || dateInForm d)
+    && (not (among (d .kind) datedKinds) || dateInForm d)
     && (not (eqb (d .kind) 25) || textInForm (d .reference))
-    && (not (among (d .kind) (11 ∷ 20 ∷ [])) || textInForm (d .authorisation))
+    && (not (among (d .kind) authorisedKinds) || textInForm (d .authorisation))
 
 -- the amount of the request: keyed, or at a void the original's
 unfoldable pub amountOf : Desk → List Approval → ℕ
@@ -88,7 +88,7 @@ startNumber x y vs d =
           (cond (leb (x .limit) (length vs) || leb 900000 (y .requests)) 18
             (cond (isVoid (d .kind) && not (isThere d vs)) 19
               (cond (isVoid (d .kind) && isVoided d vs) 20
-                (cond (passes d vs (20 ∷ 22 ∷ []) || passes d vs (21 ∷ 23 ∷ 25 ∷ [])) 21 0))))))
+                (cond (passes d vs debitKinds || passes d vs creditKinds) 21 0))))))
 
 -- the message: card and amount as the desk keyed them, or at a void those of the approval that it names
 pub record SaysRequest (x : Settings) (y : Standing) (vs : List Approval) (d : Desk) (b : List ℕ) : Type 0 where

@@ -1,4 +1,5 @@
 -- Document 01, "State and journal": the state, and how a call changes it.
+use mathlib.Core.List.{List}
 use mathlib.Core.Bool.{Bool, true, false}
 use Prim.Native.Nat.{ℕ, _+_, _≤_}
 use Rattle.numbers.specs.Limits.{mostRequests, mostEntries}
@@ -13,6 +14,10 @@ use Rattle.state.specs.declared.Awaited.{Awaited}
 use Rattle.state.specs.declared.Phase.{Phase}
 use Rattle.state.specs.declared.Phase.the-variants.{Resting, Waiting, Pending, Settling, Uploading}
 use Rattle.state.specs.declared.State.{State}
+
+-- sendings L, default 3; largest refund, default 100,000 fen
+abbrev pub usual : ℕ → List ℕ → List ℕ → Settings
+usual limit terminal merchant = record { limit = limit; sendings = 3; refund = 100000; terminal = terminal; merchant = merchant }
 
 -- the six counts: sent, approved, declined, reversed, given up, unanswered
 abbrev countsOf : ℕ → ℕ → ℕ → ℕ → ℕ → ℕ → Counts

@@ -4,7 +4,7 @@ use numbers::Trace;
 ghost use mathlib.Core.Path.{_≡_};
 ghost use Prim.Native.Nat.{_+_, _≤_};
 ghost use Rattle.numbers.specs.Limits.{mostRequests};
-ghost use Rattle.state.specs.State.{noCounts, CountsSmall, plus, fresh, inPhase, withCounts, withEntries, withNext, inBatch, signed, took, closed, isResting, isWaiting, isPending, isClosing, isUploading};
+ghost use Rattle.state.specs.State.{usual, noCounts, CountsSmall, plus, fresh, inPhase, withCounts, withEntries, withNext, inBatch, signed, took, closed, isResting, isWaiting, isPending, isClosing, isUploading};
 
 // A card number keyed at the desk: its digits as a number, and how many they are.
 pub struct Card {
@@ -107,6 +107,19 @@ impl Settings {
     pub const SENDINGS: u8 = 3;
 
     pub const REFUND: u64 = 100000;
+
+    // Settings with these two.
+    pub fn usual(limit: u32, terminal: [u8; 8], merchant: [u8; 15]) -> Self
+        ensures { λ r. ⌜ r ≡ usual limit terminal merchant ⌝ }
+    {
+        Settings {
+            limit: limit,
+            sendings: Settings::SENDINGS,
+            refund: Settings::REFUND,
+            terminal: terminal,
+            merchant: merchant,
+        }
+    }
 }
 
 impl Counts {

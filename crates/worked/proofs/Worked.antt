@@ -1,4 +1,5 @@
 -- The starred cases hold.
+use mathlib.Core.Path.{refl}
 use Rattle.worked.specs.Worked.{Worked}
 use Rattle.worked.proofs.Cases as calls
 use Rattle.worked.proofs.Sales as sales
@@ -6,6 +7,7 @@ use Rattle.worked.proofs.Sales as sales
 pub worked : Worked
 worked =
     record {
+      defaults = refl;
       sent-bytes = calls.sent-bytes;
       a = calls.sent-at 22 6;
       b = calls.sent-at 31 2;

@@ -18,13 +18,14 @@ use Rattle.state.specs.declared.Request.{Request}
 use Rattle.state.specs.declared.Outcome.the-variants.{Send, Refused}
 use Rattle.state.specs.declared.Phase.the-variants.{Resting, Pending}
 use Rattle.state.specs.declared.Reason.the-variants.{Silence}
+use Rattle.state.specs.State.{usual}
 use Rattle.state.specs.Calls.{Result}
 use Rattle.digits.specs.declared.Number.the-variants.{Is}
 use Rattle.reading.specs.Reading.{readMessage}
 use Rattle.parts.specs.Parts.{partOf}
 use Rattle.parts.specs.declared.Part.the-variants as part
 use Rattle.terminal.specs.Events.{run, no-answer, send-reversal, settles}
-use Rattle.worked.specs.Desk.{opened, keyed, sale, approval, toReversal, totals}
+use Rattle.worked.specs.Desk.{settings, opened, keyed, sale, approval, toReversal, totals}
 use Rattle.writing.specs.declared.Writing.the-variants.{Written}
 
 -- the fields from n on that a bitmap names, k of them looked at
@@ -106,6 +107,8 @@ abbrev pub hundred : Result
 hundred = sales 100 (opened 300)
 
 pub record Worked : Type 0 where
+  -- sendings L, default 3; largest refund, default 100,000 fen
+  pub defaults : usual 1 (replicate 8 0x31) (replicate 15 0x32) ≡ settings 1
   -- the sale that leaves
   pub sent-bytes : sent ≡ saleOnWire
   -- *a 12,000 fen, field 4
