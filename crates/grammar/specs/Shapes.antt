@@ -13,7 +13,7 @@ use Rattle.digits.specs.Lists.{sameBytes}
 use Rattle.words.specs.Words.{wordAt}
 use Rattle.word_values.specs.Values.{numberIn, numberUpTo, isText, isGood}
 use Rattle.grammar.specs.declared.Shape.{Shape}
-use Rattle.grammar.specs.declared.Shape.the-variants.{Number as Numeral, Card, CardOrNone, Text, TextOrNone, Date, Code, Bytes, Mac, Bad, Any, End}
+use Rattle.grammar.specs.declared.Shape.the-variants.{Number as Numeral, Card, CardOrNone, Text, TextOrNone, Date, Code, Bytes, Mac, Bad, Switch, Any, End}
 use Rattle.grammar.specs.declared.Fault.the-variants as fault
 use Rattle.grammar.specs.declared.Verdict.{Verdict}
 use Rattle.grammar.specs.declared.Verdict.the-variants.{Fine, Wrong}
@@ -47,6 +47,7 @@ fits Code w = eqb (length w) 2 && allPrintable w
 fits Bytes w = isBytes w
 fits Mac w = isGood w || sameBytes w (text "bad")
 fits Bad w = isEmpty w || sameBytes w (text "bad")
+fits Switch w = sameBytes w (text "on") || sameBytes w (text "off")
 fits Any w = true
 fits End w = isEmpty w
 
@@ -62,6 +63,7 @@ isEnd Code = false
 isEnd Bytes = false
 isEnd Mac = false
 isEnd Bad = false
+isEnd Switch = false
 isEnd Any = false
 isEnd End = true
 

@@ -6,7 +6,7 @@ use Rattle.texts.specs.Text.{text}
 use Rattle.words.specs.Words.{wordAt}
 use Rattle.words.specs.Rows.{row, rowNamed}
 use Rattle.grammar.specs.declared.Shape.{Shape}
-use Rattle.grammar.specs.declared.Shape.the-variants.{Number as Numeral, Card, CardOrNone, Text, TextOrNone, Date, Code, Bytes, Mac, Bad, Any, End}
+use Rattle.grammar.specs.declared.Shape.the-variants.{Number as Numeral, Card, CardOrNone, Text, TextOrNone, Date, Code, Bytes, Mac, Bad, Switch, Any, End}
 
 -- a row for each command, and what its words must be; the last row is for all other lines
 abbrev pub commands : List ℕ
@@ -25,6 +25,7 @@ commands =
     ++ text "reply code bad?\n"
     ++ text "reconcile digit\n"
     ++ text "date date\n"
+    ++ text "echo switch\n"
     ++ text "no-answer\n"
     ++ text "power\n"
     ++ text "send-reversal\n"
@@ -58,6 +59,7 @@ shapeNames =
     ++ text "bytes\n"
     ++ text "mac\n"
     ++ text "bad?\n"
+    ++ text "switch\n"
     ++ text "any\n"
 
 abbrev pub shapes : List Shape
@@ -79,12 +81,13 @@ shapes =
     ∷ Bytes
     ∷ Mac
     ∷ Bad
+    ∷ Switch
     ∷ Any
     ∷ End
     ∷ []
 
 unfoldable pub shapeNamed : List ℕ → Shape
-shapeNamed w = getD shapes (rowNamed 18 w shapeNames) End
+shapeNamed w = getD shapes (rowNamed 19 w shapeNames) End
 
 -- what word i of a line must be, where the line has row k
 unfoldable pub shapeAt : ℕ → ℕ → Shape

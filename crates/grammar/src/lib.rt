@@ -17,6 +17,7 @@ pub enum Shape {
     Bytes,
     Mac,
     Bad,
+    Switch,
     Any,
     End,
 }

@@ -77,6 +77,7 @@ fn fits(shape: Shape, w: &[u8]) -> bool
         Shape::Bytes => is_hexadecimal(w),
         Shape::Mac => word_values::is_good(w) | digits::same(w, b"bad"),
         Shape::Bad => (w.len() == 0) | digits::same(w, b"bad"),
+        Shape::Switch => digits::same(w, b"on") | digits::same(w, b"off"),
         Shape::Any => true,
         Shape::End => w.len() == 0,
     }
@@ -97,6 +98,7 @@ fn is_end(shape: Shape) -> bool
         Shape::Bytes => false,
         Shape::Mac => false,
         Shape::Bad => false,
+        Shape::Switch => false,
         Shape::Any => false,
         Shape::End => true,
     }

@@ -5,7 +5,7 @@ ghost use Rattle.words.specs.Rows.{rowNamed};
 ghost use Rattle.grammar.specs.Table.{commands, shapeNamed, shapeAt};
 
 // A row for each command, and what its words must be; the last row is for all other lines.
-const COMMANDS: [u8; 486] = *b"terminal word32 word8 amount text8 text15
+const COMMANDS: [u8; 498] = *b"terminal word32 word8 amount text8 text15
 signed-on word32
 sale amount card
 authorise amount card
@@ -19,6 +19,7 @@ answer bytes mac
 reply code bad?
 reconcile digit
 date date
+echo switch
 no-answer
 power
 send-reversal
@@ -34,7 +35,7 @@ unknown any any any any any any any any any
 ";
 
 // What words may be, by name; no word may stand where there is no name.
-const SHAPE_NAMES: [u8; 107] = *b"word32
+const SHAPE_NAMES: [u8; 114] = *b"word32
 word8
 digit
 amount
@@ -51,10 +52,11 @@ code
 bytes
 mac
 bad?
+switch
 any
 ";
 
-const SHAPES: [Shape; 19] = [
+const SHAPES: [Shape; 20] = [
     Shape::Number(4294967295),
     Shape::Number(255),
     Shape::Number(9),
@@ -72,16 +74,17 @@ const SHAPES: [Shape; 19] = [
     Shape::Bytes,
     Shape::Mac,
     Shape::Bad,
+    Shape::Switch,
     Shape::Any,
     Shape::End,
 ];
 
 // The number of the row of a line whose first word is w.
 pub fn row_of(w: &[u8]) -> usize
-    ensures { λ r. ⌜ r ≡ rowNamed 25 (now (w .entry)) commands ⌝ }
+    ensures { λ r. ⌜ r ≡ rowNamed 26 (now (w .entry)) commands ⌝ }
 {
     let table = COMMANDS;
-    words::row_named(25, w, &table)
+    words::row_named(26, w, &table)
 }
 
 // What word i of a line must be, the first being 0, where the line has row k.
@@ -97,8 +100,8 @@ fn shape_named(w: &[u8]) -> Shape
 {
     let names = SHAPE_NAMES;
     let shapes = SHAPES;
-    let k = words::row_named(18, w, &names);
-    if k < 19 {
+    let k = words::row_named(19, w, &names);
+    if k < 20 {
         return shapes[k];
     }
     Shape::End

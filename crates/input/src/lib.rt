@@ -3,6 +3,7 @@ ghost use mathlib.Core.Path.{_≡_};
 ghost use mathlib.Core.Bool.{true, false};
 ghost use lib.Dec.{ltb};
 ghost use lib.ListN.{length};
+ghost use Rattle.words.specs.Lines.{trimmed};
 ghost use Rattle.input.specs.Input.{inHand, wordsIn, Refills, Takes, NextLine};
 
 // Where the bytes of a chunk that are still to be taken begin and end.
@@ -99,11 +100,18 @@ pub fn is_too_long(at: Input, line: &[u8]) -> bool
 pub fn words_of(at: Input, line: &[u8]) -> &[u8]
     ensures { λ r. ⌜ now r ≡ wordsIn (inHand (at .whole) (at .len) (now (line .entry))) ⌝ }
 {
-    let words = words::trim(in_hand(at, line));
+    let words = trimmed(at, line);
     if words::is_skipped(words) {
         return &words[..0];
     }
     words
+}
+
+// The line in hand without the spaces before its first word and after its last, also where it is skipped.
+pub fn trimmed(at: Input, line: &[u8]) -> &[u8]
+    ensures { λ r. ⌜ now r ≡ trimmed (inHand (at .whole) (at .len) (now (line .entry))) ⌝ }
+{
+    words::trim(in_hand(at, line))
 }
 
 fn in_hand(at: Input, line: &[u8]) -> &[u8]

@@ -21,7 +21,7 @@ use Rattle.centre.specs.Centre.{reply, reconciliation}
 use Rattle.centre_types.specs.declared.Left.{Left}
 use Rattle.centre_types.specs.declared.Left.the-variants as left
 use Rattle.stage.specs.declared.Rehearsal.{Rehearsal}
-use Rattle.stage.specs.Stage.{begun, dated}
+use Rattle.stage.specs.Stage.{begun, dated, echoing}
 use Rattle.lines.specs.declared.asks.Asked.{Asked}
 use Rattle.lines.specs.declared.asks.Asked.the-variants as asked
 
@@ -54,6 +54,7 @@ askedBy (command.Call c) has-terminal l = callOr (errorAfter has-terminal 0) c
 askedBy (command.Reply a b good) has-terminal l = callOr (errorAfter has-terminal (replyError l)) (call.Answer good)
 askedBy (command.Reconcile digit) has-terminal l = callOr (errorAfter has-terminal (reconcileError l)) (call.Answer true)
 askedBy (command.Date d) has-terminal l = asked.Error 0
+askedBy (command.Echo on) has-terminal l = asked.Error 0
 askedBy (command.Show x) has-terminal l = asked.Error (errorAfter has-terminal 0)
 askedBy (command.Wrong f) has-terminal l = asked.Error 0
 
@@ -64,6 +65,7 @@ changedBy (command.Call c) x r = r
 changedBy (command.Reply a b good) x r = r
 changedBy (command.Reconcile digit) x r = r
 changedBy (command.Date d) x r = dated d r
+changedBy (command.Echo on) x r = echoing on r
 changedBy (command.Show y) x r = r
 changedBy (command.Wrong f) x r = r
 
@@ -88,5 +90,6 @@ answerBytes (command.Call c) w m date = bytesIn w
 answerBytes (command.Reply a b good) w m date = bytesOf (reply m date (a ∷ b ∷ []))
 answerBytes (command.Reconcile digit) w m date = bytesOf (reconciliation m digit)
 answerBytes (command.Date d) w m date = bytesIn w
+answerBytes (command.Echo on) w m date = bytesIn w
 answerBytes (command.Show x) w m date = bytesIn w
 answerBytes (command.Wrong f) w m date = bytesIn w

@@ -36,6 +36,7 @@ pub fn asked_by(command: Command, begun: bool, left: Left) -> Asked
             )
         }
         Command::Date(_) => Asked::Error(0),
+        Command::Echo(_) => Asked::Error(0),
         Command::Show(_) => Asked::Error(error_after(begun, 0)),
         Command::Wrong(_) => Asked::Error(0),
     }
@@ -48,6 +49,7 @@ pub fn changed(command: Command, settings: Settings, r: Rehearsal) -> Rehearsal
     match command {
         Command::Terminal => stage::begun(settings, r),
         Command::Date(d) => stage::dated(d, r),
+        Command::Echo(on) => stage::echoing(on, r),
         _ => r,
     }
 }

@@ -15,7 +15,7 @@ use Rattle.words.specs.Rows.{row}
 use Rattle.words.specs.Words.{wordAt}
 use Rattle.script.specs.Script.{parsed}
 use Rattle.script.specs.declared.Command.{Command}
-use Rattle.script.specs.declared.Command.the-variants.{Terminal, Call as Calls, Reply, Reconcile, Date, Show as Shows, Wrong}
+use Rattle.script.specs.declared.Command.the-variants.{Terminal, Call as Calls, Reply, Reconcile, Date, Echo, Show as Shows, Wrong}
 use Rattle.script.specs.declared.Line.{Line}
 use Rattle.screen.specs.Outcomes.{errorLine, outcomeLine}
 use Rattle.centre_types.specs.Types.{leftAs}
@@ -76,6 +76,8 @@ module _ (number : ℕ) (s : List ℕ) (r : Rehearsal) (lent : Lent) where
   asked-done (Reconcile digit) line false l = refl
   asked-done (Date d) line true l = refl
   asked-done (Date d) line false l = refl
+  asked-done (Echo on) line true l = refl
+  asked-done (Echo on) line false l = refl
   asked-done (Shows x) line true l = refl
   asked-done (Shows x) line false l = refl
   asked-done (Wrong f) line true l = refl

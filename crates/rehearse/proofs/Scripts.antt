@@ -1,7 +1,7 @@
 -- Laws of a script's lines, answered one after the other.
 use mathlib.Core.Path.{_≡_, refl, sym, ap, _∙_}
 use mathlib.Core.List.{List, [], _++_, append-assoc, append-nil}
-use mathlib.Core.Bool.{Bool, true, false, cond, true≢false}
+use mathlib.Core.Bool.{Bool, true, false, cond, not, _||_, true≢false}
 use Prim.Native.Nat.{ℕ, zero, suc, _+_, _-_, _%_, _^_, _≤_, _<_}
 use native.Mathlib.Omega.{arith}
 use borrow.Author.Tests.{eq-eqb, ne-eqb}
@@ -9,6 +9,8 @@ use lib.Dec.{ltb, eqb}
 use lib.ListN.{length}
 use Rattle.texts.specs.Text.{Text, text}
 use Rattle.texts.proofs.Texts.{start}
+use Rattle.words.specs.Lines.{trimmed}
+use Rattle.echo.specs.Echo.{echoLine}
 use Rattle.input.specs.declared.Input.{Input}
 use Rattle.input.specs.Input.{inHand, wordsIn, leftIn, firstLine, behindFeed, NextLine}
 use Rattle.input.proofs.Lines.{Cut, first-append, behind-first, next-cut, next-whole, next-all}
@@ -19,7 +21,18 @@ use Rattle.rehearse.specs.declared.Stopped.{Stopped}
 use Rattle.rehearse.specs.declared.commands.Acted.{Acted}
 use Rattle.rehearse.specs.Rehearsal.{Did, writes}
 use Rattle.rehearse.specs.Commands.{done}
-use Rattle.rehearse.specs.Scripts.{answered, Reached, reached, afterLine, afterLines, blank, Rehearses}
+use Rattle.rehearse.specs.Scripts.{echoed, answered, Reached, reached, afterLine, afterLines, blank, Rehearses}
+
+-- a line that is not echoed, and one that is
+module _ (s : List ℕ) (r : Rehearsal) where
+  pub echoed-none : (o : List ℕ) → (not (r .echo) || ltb 4096 (length s) || eqb (length (trimmed s)) 0) ≡ true → Text (echoed s r) 0 o
+  unfolding echoed
+  echoed-none o e = rw e (start o)
+
+  pub echoed-line : {n : ℕ} {o : List ℕ} → (not (r .echo) || ltb 4096 (length s) || eqb (length (trimmed s)) 0) ≡ false
+      → Text (echoLine (trimmed s)) n o → Text (echoed s r) n o
+  unfolding echoed
+  echoed-line e t = rw e t
 
 -- a line that is too long, one without words, and one with words
 module _ (number : ℕ) (s : List ℕ) (r : Rehearsal) (lent : Lent) where

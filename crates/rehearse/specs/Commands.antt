@@ -17,7 +17,7 @@ use Rattle.centre_types.specs.Types.{leftAs}
 use Rattle.centre_types.specs.declared.Left.{Left}
 use Rattle.centre.specs.Centre.{reply, reconciliation}
 use Rattle.stage.specs.declared.Rehearsal.{Rehearsal}
-use Rattle.stage.specs.Stage.{begun, dated}
+use Rattle.stage.specs.Stage.{begun, dated, echoing}
 use Rattle.lines.specs.Asks.{replyError, reconcileError, bytesOf, bytesIn}
 use Rattle.lines.specs.Shows.{last, messageIn, shown, faultText, errors}
 use Rattle.rehearse.specs.Rehearsal.{Done, writes, called}
@@ -29,6 +29,7 @@ commandError (command.Call c) l = 0
 commandError (command.Reply a b good) l = replyError l
 commandError (command.Reconcile digit) l = reconcileError l
 commandError (command.Date d) l = 0
+commandError (command.Echo on) l = 0
 commandError (command.Show x) l = 0
 commandError (command.Wrong f) l = 0
 
@@ -39,6 +40,7 @@ standsAlone (command.Call c) = false
 standsAlone (command.Reply a b good) = false
 standsAlone (command.Reconcile digit) = false
 standsAlone (command.Date d) = true
+standsAlone (command.Echo on) = true
 standsAlone (command.Show x) = false
 standsAlone (command.Wrong f) = true
 
@@ -55,6 +57,7 @@ commandDone (command.Reply a b good) line number s r lent =
 commandDone (command.Reconcile digit) line number s r lent =
     called (answers (bytesOf (reconciliation (messageIn (last r (lent .message))) digit)) true) r lent
 commandDone (command.Date d) line number s r lent = writes [] (dated d r) lent
+commandDone (command.Echo on) line number s r lent = writes [] (echoing on r) lent
 commandDone (command.Show x) line number s r lent = writes (shown x r lent) r lent
 commandDone (command.Wrong f) line number s r lent = writes (errorLine number (faultText f)) r lent
 

@@ -1,13 +1,15 @@
 -- What the lines of a script do to a rehearsal, one after the other.
 use mathlib.Core.Path.{_≡_}
 use mathlib.Core.List.{List, [], _++_}
-use mathlib.Core.Bool.{true, false, cond}
+use mathlib.Core.Bool.{true, false, cond, not, _||_}
 use Prim.Native.Nat.{ℕ, zero, suc, _+_, _*_, _%_, _^_}
 use lib.Dec.{ltb, eqb}
 use lib.ListN.{length, replicate}
 use Rattle.message.specs.Message.{largest}
 use Rattle.entry.specs.Entry.{entrySize}
 use Rattle.texts.specs.Text.{text}
+use Rattle.words.specs.Lines.{trimmed}
+use Rattle.echo.specs.Echo.{echoLine}
 use Rattle.input.specs.declared.Input.{Input}
 use Rattle.input.specs.Input.{wordsIn, leftIn, firstLine, behindFeed}
 use Rattle.screen.specs.Outcomes.{errorLine}
@@ -16,6 +18,11 @@ use Rattle.state.specs.Calls.{Lent, lend}
 use Rattle.rehearse.specs.declared.Stopped.{Stopped}
 use Rattle.rehearse.specs.Rehearsal.{Done, writes}
 use Rattle.rehearse.specs.Commands.{done}
+
+-- what is written before the answer of a line of bytes s, without the line end: the line, where echo was on when it was read; a blank line is not
+-- echoed, nor is one that is too long
+unfoldable pub echoed : List ℕ → Rehearsal → List ℕ
+echoed s r = cond (not (r .echo) || ltb 4096 (length s) || eqb (length (trimmed s)) 0) [] (echoLine (trimmed s))
 
 -- line number, of bytes s without the line end; one without words does nothing
 unfoldable pub answered : ℕ → List ℕ → Rehearsal → Lent → Done

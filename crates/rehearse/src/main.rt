@@ -11,8 +11,9 @@ ghost use mathlib.Core.Path.{_≡_};
 ghost use mathlib.Core.Bool.{false};
 ghost use Rattle.state.specs.Calls.{lend};
 ghost use Rattle.input.specs.Input.{inHand};
+ghost use Rattle.texts.specs.Text.{Text};
 ghost use Rattle.rehearse.specs.Rehearsal.{Did};
-ghost use Rattle.rehearse.specs.Scripts.{answered, Rehearses};
+ghost use Rattle.rehearse.specs.Scripts.{echoed, answered, Rehearses};
 
 // Room for 1,000 entries, so that a limit above 300 is judged by rule 2 up to there, and by rule 1 beyond.
 const JOURNAL: usize = 1000 * Terminal::ENTRY;
@@ -83,6 +84,7 @@ fn rehearse_lines(r: Rehearsal, input: Input, chunk: &mut [u8]) -> Stopped
     let mut turns = u64::MAX;
     while turns > 0 {
         at = input::next(at, chunk, &mut line);
+        write_echo(rehearsal, at, &line);
         let acted = answer(rehearsal, at, &line, &mut journal, &mut message, &mut text);
         let n = acted.written;
         io::write_all(STDOUT_FILENO, &text[..n]);
@@ -96,6 +98,24 @@ fn rehearse_lines(r: Rehearsal, input: Input, chunk: &mut [u8]) -> Stopped
         input: at,
         rehearsal: rehearsal,
     }
+}
+
+// Writes the echo of the line in hand, before its answer. There is room for the longest line, with `> ` and a line feed.
+fn write_echo(r: Rehearsal, at: Input, line: &[u8]) {
+    let mut text = [0u8; 4099];
+    let n = echoed(r, at, line, &mut text);
+    io::write_all(STDOUT_FILENO, &text[..n]);
+}
+
+// Echoes the line in hand where echo is on; what is to be written stands at the front of text.
+fn echoed(r: Rehearsal, at: Input, line: &[u8], text: &mut [u8]) -> usize
+    ensures { λ n. ⌜ Text (echoed (inHand (at .whole) (at .len) (now (line .entry))) r) n (now (text .exit)) ⌝ }
+{
+    let words = input::trimmed(at, line);
+    if !r.echo | input::is_too_long(at, line) | (words.len() == 0) {
+        return 0;
+    }
+    echo::add_echo(words, 0, text)
 }
 
 // Answers the line in hand; what is to be written stands at the front of text.

@@ -27,13 +27,14 @@ starting name.Answer s h = absurd (miss starts 7 tt h)
 starting name.Reply s h = absurd (miss starts 8 tt h)
 starting name.Reconcile s h = absurd (miss starts 9 tt h)
 starting name.Date s h = absurd (miss starts 10 tt h)
-starting (name.Call c) s h = absurd (miss starts 11 tt h)
-starting (name.Show x) s h = absurd (miss starts 12 tt h)
-starting name.Unknown s h = absurd (miss starts 13 tt h)
+starting name.Echo s h = absurd (miss starts 11 tt h)
+starting (name.Call c) s h = absurd (miss starts 12 tt h)
+starting (name.Show x) s h = absurd (miss starts 13 tt h)
+starting name.Unknown s h = absurd (miss starts 14 tt h)
 
 -- the names whose desk data are as `start` gives them
 abbrev others : List ℕ
-others = 0 ∷ 1 ∷ 6 ∷ 7 ∷ 8 ∷ 9 ∷ 10 ∷ 11 ∷ 12 ∷ 13 ∷ []
+others = 0 ∷ 1 ∷ 6 ∷ 7 ∷ 8 ∷ 9 ∷ 10 ∷ 11 ∷ 12 ∷ 13 ∷ 14 ∷ []
 
 pub given-as-start : (n : Name) (s : List ℕ) → OneOf others (tagOf name-type.the-type n) → given s ≡ deskOf n s
 given-as-start name.Terminal s h = refl
@@ -47,6 +48,7 @@ given-as-start name.Answer s h = refl
 given-as-start name.Reply s h = refl
 given-as-start name.Reconcile s h = refl
 given-as-start name.Date s h = refl
+given-as-start name.Echo s h = refl
 given-as-start (name.Call c) s h = refl
 given-as-start (name.Show x) s h = refl
 given-as-start name.Unknown s h = refl

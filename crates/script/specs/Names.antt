@@ -21,6 +21,7 @@ names =
     ∷ name.Reply
     ∷ name.Reconcile
     ∷ name.Date
+    ∷ name.Echo
     ∷ name.Call call.NoAnswer
     ∷ name.Call call.PowerReturned
     ∷ name.Call call.SendReversal

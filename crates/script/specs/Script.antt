@@ -6,6 +6,8 @@ use lib.ListN.{length, getD, replicate}
 use Rattle.digits.specs.declared.Number.{Number}
 use Rattle.digits.specs.declared.Number.the-variants.{Is, Not}
 use Rattle.digits.specs.Packed.{numeral}
+use Rattle.digits.specs.Lists.{sameBytes}
+use Rattle.texts.specs.Text.{text}
 use Rattle.state.specs.declared.Card.{Card}
 use Rattle.state.specs.declared.Settings.{Settings}
 use Rattle.desk.specs.declared.Desk.{Desk}
@@ -78,6 +80,7 @@ deskOf name.Answer s = given s
 deskOf name.Reply s = given s
 deskOf name.Reconcile s = given s
 deskOf name.Date s = given s
+deskOf name.Echo s = given s
 deskOf (name.Call c) s = given s
 deskOf (name.Show x) s = given s
 deskOf name.Unknown s = given s
@@ -102,6 +105,7 @@ commandOf name.Answer s = command.Call (call.Answer (isGood (wordAt 2 s)))
 commandOf name.Reply s = command.Reply (getD (wordAt 1 s) 0 0) (getD (wordAt 1 s) 1 0) (isEmpty (wordAt 2 s))
 commandOf name.Reconcile s = command.Reconcile (number8 (wordAt 1 s))
 commandOf name.Date s = command.Date (monthDay (wordAt 1 s))
+commandOf name.Echo s = command.Echo (sameBytes (wordAt 1 s) (text "on"))
 commandOf (name.Call c) s = command.Call c
 commandOf (name.Show x) s = command.Show x
 commandOf name.Unknown s = command.Wrong fault.Unknown
@@ -118,4 +122,4 @@ lineOf k s =
       settings = settingsIn s; desk = deskOf (getD names k name.Unknown) s }
 
 unfoldable pub parsed : List ℕ → Line
-parsed s = lineOf (rowNamed 25 (wordAt 0 s) commands) s
+parsed s = lineOf (rowNamed 26 (wordAt 0 s) commands) s

@@ -34,6 +34,7 @@ pub enum Name {
     Reply,
     Reconcile,
     Date,
+    Echo,
     Call(Call),
     Show(Show),
     Unknown,
@@ -46,6 +47,7 @@ pub enum Command {
     Reply { first: u8, second: u8, good: bool },
     Reconcile(u8),
     Date(u16),
+    Echo(bool),
     Show(Show),
     Wrong(Fault),
 }
@@ -93,6 +95,7 @@ fn command_of(name: Name, s: &[u8]) -> Command
         Name::Reply => replied(s),
         Name::Reconcile => Command::Reconcile(values::number8(words::word(s, 1))),
         Name::Date => Command::Date(values::month_day(words::word(s, 1))),
+        Name::Echo => Command::Echo(digits::same(words::word(s, 1), b"on")),
         Name::Call(c) => Command::Call(c),
         Name::Show(x) => Command::Show(x),
         Name::Unknown => Command::Wrong(Fault::Unknown),

@@ -6,7 +6,7 @@ ghost use mathlib.Core.Path.{_≡_};
 ghost use lib.ListN.{getD};
 ghost use Rattle.script.specs.Names.{names};
 
-const NAMES: [Name; 26] = [
+const NAMES: [Name; 27] = [
     Name::Terminal,
     Name::SignedOn,
     Name::Request(22),
@@ -21,6 +21,7 @@ const NAMES: [Name; 26] = [
     Name::Reply,
     Name::Reconcile,
     Name::Date,
+    Name::Echo,
     Name::Call(Call::NoAnswer),
     Name::Call(Call::PowerReturned),
     Name::Call(Call::SendReversal),
@@ -40,7 +41,7 @@ pub fn name_at(k: usize) -> Name
     ensures { λ r. ⌜ r ≡ getD names k Name.Unknown ⌝ }
 {
     let names = NAMES;
-    if k < 26 {
+    if k < 27 {
         return names[k];
     }
     Name::Unknown

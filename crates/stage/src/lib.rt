@@ -4,21 +4,22 @@ use state::Settings;
 use state::State;
 ghost use mathlib.Core.Path.{_≡_};
 ghost use mathlib.Core.Bool.{false};
-ghost use Rattle.stage.specs.Stage.{lengthAfter, afterCall, begun, dated};
+ghost use Rattle.stage.specs.Stage.{lengthAfter, afterCall, begun, dated, echoing};
 
-// Whether a rehearsal has a terminal, the terminal's state, the simulated centre's date MMDD, and the length of the last message
-// that left, which stands in the message buffer.
+// Whether a rehearsal has a terminal, the terminal's state, the simulated centre's date MMDD, the length of the last message
+// that left, which stands in the message buffer, and whether lines are echoed.
 pub struct Rehearsal {
     pub begun: bool,
     pub state: State,
     pub date: u16,
     pub length: usize,
+    pub echo: bool,
 }
 
 impl Rehearsal {
-    // Before the first line there is no terminal and no message, and the date is 0101.
+    // Before the first line there is no terminal, no message and no echo, and the date is 0101.
     pub fn new() -> Self
-        ensures { λ r. ⌜ (r .begun ≡ false) × (r .date ≡ 101) × (r .length ≡ 0) ⌝ }
+        ensures { λ r. ⌜ (r .begun ≡ false) × (r .date ≡ 101) × (r .length ≡ 0) × (r .echo ≡ false) ⌝ }
     {
         let settings = Settings {
             limit: 0,
@@ -32,6 +33,7 @@ impl Rehearsal {
             state: State::new(settings),
             date: 101,
             length: 0,
+            echo: false,
         }
     }
 }
@@ -45,6 +47,7 @@ pub fn begun(settings: Settings, r: Rehearsal) -> Rehearsal
         state: State::new(settings),
         date: r.date,
         length: 0,
+        echo: r.echo,
     }
 }
 
@@ -57,6 +60,20 @@ pub fn dated(date: u16, r: Rehearsal) -> Rehearsal
         state: state,
         date: date,
         length: r.length,
+        echo: r.echo,
+    }
+}
+
+pub fn echoing(on: bool, r: Rehearsal) -> Rehearsal
+    ensures { λ a. ⌜ a ≡ echoing on r ⌝ }
+{
+    let state = r.state;
+    Rehearsal {
+        begun: r.begun,
+        state: state,
+        date: r.date,
+        length: r.length,
+        echo: on,
     }
 }
 
@@ -69,6 +86,7 @@ pub fn after_call(outcome: Outcome, state: State, r: Rehearsal) -> Rehearsal
         state: state,
         date: r.date,
         length: length_after(outcome, r.length),
+        echo: r.echo,
     }
 }
 

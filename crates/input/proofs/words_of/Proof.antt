@@ -4,11 +4,8 @@ use borrow.Author.Needs.{needs}
 use Rattle.input.proofs.words_of.Statement.{statement}
 use Rattle.input.proofs.words_of.Tie as tie
 
-in-hand-requires : tie.Need-in-hand-requires
-in-hand-requires c κs = search needs
-
-trim-requires : tie.Need-trim-requires
-trim-requires c κs = search needs
+trimmed-requires : tie.Need-trimmed-requires
+trimmed-requires c κs = search needs
 
 is-skipped-requires : tie.Need-is-skipped-requires
 is-skipped-requires c κs = search needs
@@ -19,24 +16,21 @@ slice-aggregate-result c = search needs
 returns : tie.Need-returns
 unfolding wordsIn
 returns c =
-    let at-in-hand = c .before .before .before .before .in-hand in
-    let at-trim = c .before .before .before .trim in
+    let at-trimmed = c .before .before .before .trimmed in
     let at-is-skipped = c .before .before .is-skipped in
-    rw (← at-in-hand .ensures, ← at-trim .ensures, ← at-is-skipped .ensures, c .before .if1 .taken)
+    rw (← at-trimmed .ensures, ← at-is-skipped .ensures, c .before .if1 .taken)
 
 returns-2 : tie.Need-returns-2
 unfolding wordsIn
 returns-2 c =
-    let at-in-hand = c .before .before .before .in-hand in
-    let at-trim = c .before .before .trim in
-    rw (← at-in-hand .ensures, ← at-trim .ensures, ← c .before .is-skipped .ensures, c .if1 .left)
+    let at-trimmed = c .before .before .trimmed in
+    rw (← at-trimmed .ensures, ← c .before .is-skipped .ensures, c .if1 .left)
 
 pub words-of-spec : {M : Type 1} → statement M
 words-of-spec =
     tie.close
     (tie.spec
-    in-hand-requires
-    trim-requires
+    trimmed-requires
     is-skipped-requires
     slice-aggregate-result
     returns

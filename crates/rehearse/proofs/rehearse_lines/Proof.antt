@@ -37,6 +37,12 @@ slice-aggregate-next c = search needs
 next-requires : tie.Need-next-requires Inv-loop μ-loop
 next-requires c κs = tt
 
+slice-aggregate-write-echo : tie.Need-slice-aggregate-write-echo Inv-loop μ-loop
+slice-aggregate-write-echo c = search needs
+
+write-echo-requires : tie.Need-write-echo-requires Inv-loop μ-loop
+write-echo-requires c κs = tt
+
 slice-aggregate-answer : tie.Need-slice-aggregate-answer Inv-loop μ-loop
 slice-aggregate-answer c = search needs
 
@@ -62,18 +68,28 @@ write-all-requires : tie.Need-write-all-requires Inv-loop μ-loop
 write-all-requires c κs = tt
 
 sub-turns : tie.Need-sub-turns Inv-loop μ-loop
-sub-turns c = search needs
+sub-turns c =
+    let at-loop-test = c .before .before .before .before .before .before .before .before .before .before .before .before .before .before .before .before .before .before .before .before .loop-test .taken in
+    search needs
 
 loop-less : tie.Need-loop-less Inv-loop μ-loop
-loop-less c = search needs
+loop-less c =
+    let at-loop-test = c .before .before .before .before .before .before .before .before .before .before .before .before .before .before .before .before .before .before .before .before .loop-test .taken in
+    search needs
 
 loop-again : tie.Need-loop-again Inv-loop μ-loop
 loop-again c =
-    let at-loop-inv = c .before .before .before .before .before .before .before .before .before .before .before .before .before .before .before .before .before .before .before .loop .inv in
-    let at-next = c .before .before .before .before .before .before .before .before .before .before .before .before .before .before .before .next in
+    let at-loop-inv = c .before .before .before .before .before .before .before .before .before .before .before .before .before .before .before .before .before .before .before .before .before .loop .inv in
+    let at-next = c .before .before .before .before .before .before .before .before .before .before .before .before .before .before .before .before .before .next in
     let at-answer = c .before .before .before .before .before .before .before .answer in
-    let k : length (at-next .last .1 .1 .0) ≡ 4098 = search needs in (
-      goes-on (at-loop-inv .0) (at-next .ensures) k (at-answer .ensures) (c .if1 .left) (c .before .before .before .before .before .before .before .before .before .before .before .before .before .before .before .before .before .before .loop-test .taken),
+    let at-line = c .before .before .before .before .before .before .before .before .before .before .before .before .before .before .line2 .given in
+    let k : length (at-next .last .1 .1 .0) ≡ 4098 = search needs in
+    let at-chunk = c .before .before .before .before .before .before .before .before .before .before .before .before .before .before .before .before .chunk .given in
+    let at-journal = c .before .before .before .before .before .before .journal2 .given in
+    let at-message = c .before .before .before .before .before .message2 .given in
+    let at-text = c .before .before .before .before .text2 .given in
+    (
+      goes-on (at-loop-inv .0) (at-next .ensures) k (at-answer .ensures) (c .if1 .left) (c .before .before .before .before .before .before .before .before .before .before .before .before .before .before .before .before .before .before .before .before .loop-test .taken),
       λ h. c .if1 .left,
       k,
       search needs,
@@ -92,15 +108,16 @@ returns c =
 
 same-length-2 : tie.Need-same-length-2 Inv-loop μ-loop
 same-length-2 c =
-    let at-loop-inv-3 = c .before .before .before .before .before .before .before .before .before .before .before .before .before .before .before .before .before .before .before .loop .inv .3 in
-    let at-chunk-given = c .before .before .before .before .before .before .before .before .before .before .before .before .before .before .chunk .given in
+    let at-loop-inv-3 = c .before .before .before .before .before .before .before .before .before .before .before .before .before .before .before .before .before .before .before .before .before .loop .inv .3 in
+    let at-chunk-given = c .before .before .before .before .before .before .before .before .before .before .before .before .before .before .before .before .chunk .given in
     search needs
 
 returns-2 : tie.Need-returns-2 Inv-loop μ-loop
 returns-2 c =
-    let at-loop-inv = c .before .before .before .before .before .before .before .before .before .before .before .before .before .before .before .before .before .before .before .loop .inv in
-    let at-next = c .before .before .before .before .before .before .before .before .before .before .before .before .before .before .before .next in
+    let at-loop-inv = c .before .before .before .before .before .before .before .before .before .before .before .before .before .before .before .before .before .before .before .before .before .loop .inv in
+    let at-next = c .before .before .before .before .before .before .before .before .before .before .before .before .before .before .before .before .before .next in
     let at-answer = c .before .before .before .before .before .before .before .answer in
+    let at-line = c .before .before .before .before .before .before .before .before .before .before .before .before .before .before .line2 .given in
     let k : length (at-next .last .1 .1 .0) ≡ 4098 = search needs in
     ends (at-loop-inv .0) (at-next .ensures) k (at-answer .ensures) (c .if1 .taken)
 
@@ -115,6 +132,8 @@ rehearse-lines-spec =
     loop-holds
     slice-aggregate-next
     next-requires
+    slice-aggregate-write-echo
+    write-echo-requires
     slice-aggregate-answer
     slice-aggregate-answer-2
     slice-aggregate-answer-3

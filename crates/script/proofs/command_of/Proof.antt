@@ -50,14 +50,26 @@ word-requires-4 c κs = search needs
 month-day-requires : tie.Need-month-day-requires
 month-day-requires c κs = search needs
 
+enum-told-7 : tie.Need-enum-told-7
+enum-told-7 c = search needs
+
+word-requires-5 : tie.Need-word-requires-5
+word-requires-5 c κs = search needs
+
+slice-aggregate-same : tie.Need-slice-aggregate-same
+slice-aggregate-same c = search needs
+
+same-requires : tie.Need-same-requires
+same-requires c κs = search needs
+
 enum-known-name : tie.Need-enum-known-name
 enum-known-name c = search needs
 
 enum-known-name-2 : tie.Need-enum-known-name-2
 enum-known-name-2 c = search needs
 
-enum-told-7 : tie.Need-enum-told-7
-enum-told-7 c = search needs
+enum-told-8 : tie.Need-enum-told-8
+enum-told-8 c = search needs
 
 returns : tie.Need-returns
 returns c = search needs
@@ -86,18 +98,24 @@ returns-6 c =
     rw (at-enum-told6 .given .1, c .month-day .ensures .0, c .before .word4 .ensures)
 
 returns-7 : tie.Need-returns-7
-returns-7 c = rw (c .before .name .given .1)
+returns-7 c =
+    let at-enum-told7 = c .before .before .before .enum-told7 in
+    let at-word5 = c .before .before .word5 in
+    rw (at-enum-told7 .given .1, c .same .ensures, at-word5 .ensures)
 
 returns-8 : tie.Need-returns-8
-returns-8 c = rw (c .before .name2 .given .1)
+returns-8 c = rw (c .before .name .given .1)
 
 returns-9 : tie.Need-returns-9
-returns-9 c = rw (c .enum-told7 .given .1)
+returns-9 c = rw (c .before .name2 .given .1)
 
 returns-10 : tie.Need-returns-10
-returns-10 c =
+returns-10 c = rw (c .enum-told8 .given .1)
+
+returns-11 : tie.Need-returns-11
+returns-11 c =
     let at-args = c .before .before .args in
-    starting (at-args .name) (now (at-args .s)) (c .match .keys10)
+    starting (at-args .name) (now (at-args .s)) (c .match .keys11)
 
 pub command-of-spec : {M : Type 1} → statement M
 command-of-spec =
@@ -118,9 +136,13 @@ command-of-spec =
     enum-told-6
     word-requires-4
     month-day-requires
+    enum-told-7
+    word-requires-5
+    slice-aggregate-same
+    same-requires
     enum-known-name
     enum-known-name-2
-    enum-told-7
+    enum-told-8
     returns
     returns-2
     returns-3
@@ -130,4 +152,5 @@ command-of-spec =
     returns-7
     returns-8
     returns-9
-    returns-10)
+    returns-10
+    returns-11)

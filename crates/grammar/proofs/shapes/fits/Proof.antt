@@ -93,8 +93,23 @@ same-requires-2 c κs = search needs
 enum-told-8 : tie.Need-enum-told-8
 enum-told-8 c = search needs
 
+slice-aggregate-same-3 : tie.Need-slice-aggregate-same-3
+slice-aggregate-same-3 c = search needs
+
+same-requires-3 : tie.Need-same-requires-3
+same-requires-3 c κs = search needs
+
+slice-aggregate-same-4 : tie.Need-slice-aggregate-same-4
+slice-aggregate-same-4 c = search needs
+
+same-requires-4 : tie.Need-same-requires-4
+same-requires-4 c κs = search needs
+
 enum-told-9 : tie.Need-enum-told-9
 enum-told-9 c = search needs
+
+enum-told-10 : tie.Need-enum-told-10
+enum-told-10 c = search needs
 
 returns : tie.Need-returns
 returns c =
@@ -150,10 +165,16 @@ returns-10 c =
     rw (at-enum-told7 .given .1, c .same2 .ensures)
 
 returns-11 : tie.Need-returns-11
-returns-11 c = search needs
+returns-11 c =
+    let at-enum-told8 = c .before .before .before .before .enum-told8 in
+    let at-same3 = c .before .before .same3 in
+    rw (at-enum-told8 .given .1, at-same3 .ensures, c .same4 .ensures)
 
 returns-12 : tie.Need-returns-12
-returns-12 c = rw (c .enum-told9 .given .1)
+returns-12 c = search needs
+
+returns-13 : tie.Need-returns-13
+returns-13 c = rw (c .enum-told10 .given .1)
 
 pub fits-spec : {M : Type 1} → statement M
 fits-spec =
@@ -189,7 +210,12 @@ fits-spec =
     slice-aggregate-same-2
     same-requires-2
     enum-told-8
+    slice-aggregate-same-3
+    same-requires-3
+    slice-aggregate-same-4
+    same-requires-4
     enum-told-9
+    enum-told-10
     returns
     returns-2
     returns-3
@@ -201,4 +227,5 @@ fits-spec =
     returns-9
     returns-10
     returns-11
-    returns-12)
+    returns-12
+    returns-13)

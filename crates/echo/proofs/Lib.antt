@@ -1,0 +1,3 @@
+-- Laws of the echo of a line.
+pub mod Lines
+pub mod Theorems

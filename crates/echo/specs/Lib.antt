@@ -1,0 +1,2 @@
+pub mod Echo
+pub mod Theorems
