@@ -78,16 +78,27 @@ module _ {s o l l2 : List ℕ} {n from i at r : ℕ} (t : Shown s o n from i at 
   past-word h e a =
       let z : i + 1 - (i + 1) ≡ 0 = omega arith in
       record {
-        begins = omega arith; within = omega arith; done = t .done ++ (shownWord (wordFrom s from i) ++ space); adds = and-then (t .adds) a;
+        begins = omega arith;
+        within = omega arith;
+        done = t .done ++ (shownWord (wordFrom s from i) ++ space);
+        adds = and-then (t .adds) a;
         left =
-            rw (z, add-one, append-assoc (t .done) (shownWord (wordFrom s from i) ++ space) (shownFrom [] (drop (suc i) s)),
-              ← word-ends (wordFrom s from i) (drop (suc i) s) (getD s i 0) e, ← drop-cons s i 0 h) (t .left);
+            rw (
+              z,
+              add-one,
+              append-assoc (t .done) (shownWord (wordFrom s from i) ++ space) (shownFrom [] (drop (suc i) s)),
+              ← word-ends (wordFrom s from i) (drop (suc i) s) (getD s i 0) e,
+              ← drop-cons s i 0 h,
+            ) (t .left);
       }
 
   in-word : i < length s → eqb (getD s i 0) 0x20 ≡ false → Adds [] at l r l2 → Shown s o n from (i + 1) r l2
   in-word h e a =
       record {
-        begins = omega (arith, t .begins); within = omega arith; done = t .done; adds = simp append-nil at (and-then (t .adds) a);
+        begins = omega (arith, t .begins);
+        within = omega arith;
+        done = t .done;
+        adds = simp append-nil at (and-then (t .adds) a);
         left =
             rw (word-more s from i (t .begins) h, add-one, ← word-grows (wordFrom s from i) (drop (suc i) s) (getD s i 0) e, ← drop-cons s i 0 h) (t .left);
       }

@@ -33,7 +33,8 @@ module _ (l : List ℕ) (none : (a w b : List ℕ) → l ≡ a ++ (space ++ w ++
   plain-from p w (b ∷ s) e = go (eqb b 0x20) refl (plain-from (p ++ space ++ w) [] s) (plain-from p (w ++ (b ∷ [])) s)
     where
       go : (t : Bool) → eqb b 0x20 ≡ t → (l ≡ p ++ space ++ w ++ space ++ [] ++ (s ++ space) → shownFrom [] s ≡ s)
-          → (l ≡ p ++ space ++ (w ++ (b ∷ [])) ++ (s ++ space) → shownFrom (w ++ (b ∷ [])) s ≡ w ++ (b ∷ []) ++ s) → shownFrom w (b ∷ s) ≡ w ++ (b ∷ s)
+          → (l ≡ p ++ space ++ (w ++ (b ∷ [])) ++ (s ++ space) → shownFrom (w ++ (b ∷ [])) s ≡ w ++ (b ∷ []) ++ s)
+          → shownFrom w (b ∷ s) ≡ w ++ (b ∷ s)
       go true q next more =
           let z = eqb-true b 0x20 q in
           let h : l ≡ p ++ (space ++ w ++ space) ++ (s ++ space) = e ∙ rw z (simp append-assoc) in
@@ -81,7 +82,9 @@ said-digits false b ds e = absurd (true≢false (sym e))
 
 card-digits : (w : List ℕ) → isCardNumber w ≡ true → allDigits (digitsIn w) ≡ true
 unfolding isCardNumber numberIn numberOf
-card-digits w e = said-digits (leb 1 (length w) && leb (length w) 19) (leb (length (digitsIn w)) 19) (digitsIn w) (and-eq-true-iff (leb 13 (length w) && leb (length w) 19) (isNumber (numberIn 19 w)) .0 e .1)
+card-digits w e =
+    said-digits (leb 1 (length w) && leb (length w) 19) (leb (length (digitsIn w)) 19) (digitsIn w)
+    (and-eq-true-iff (leb 13 (length w) && leb (length w) 19) (isNumber (numberIn 19 w)) .0 e .1)
 
 -- a character that is a digit
 digit-character : (b : ℕ) → digitOf b ≤ 9 → digitOf b + 0x30 ≡ b
@@ -110,25 +113,34 @@ module _ (w : List ℕ) (e : isCardNumber w ≡ true) (i : ℕ) (l : i < length 
     where
       f : length (take 6 w) ≡ 6
       f = length-take-le 6 w (omega (arith, card-length w e .0))
+
       g : length (take 6 w ++ stars) ≡ length w - 4
       g = rw (length-append, f, length-replicate) (omega (arith, card-length w e .0))
+
       go : Dec (i < 6) → Dec (i + 4 < length w)
           → getD (take 6 w ++ stars ++ drop (length w - 4) w) i 0 ≡ cond (leb 6 i && ltb (i + 4) (length w)) 0x2A (half (pack (digitsIn w)) i + 0x30)
       go (yes a) b =
-          rw (List·getD-append (take 6 w ++ stars) (drop (length w - 4) w) 0 i (omega (arith, g, card-length w e .0)),
-            List·getD-append (take 6 w) stars 0 i (omega (arith, f)), getD-take 6 w i 0 a, lt-leb 6 i a) (sym packed-character)
+          rw (
+            List·getD-append (take 6 w ++ stars) (drop (length w - 4) w) 0 i (omega (arith, g, card-length w e .0)),
+            List·getD-append (take 6 w) stars 0 i (omega (arith, f)),
+            getD-take 6 w i 0 a,
+            lt-leb 6 i a,
+          ) (sym packed-character)
       go (no a) (yes b) =
           let k : length (take 6 w) + (i - 6) ≡ i = omega (arith, f, a) in
           let z : getD (take 6 w ++ stars) (length (take 6 w) + (i - 6)) 0 ≡ 0x2A =
-              getD-append-add (take 6 w) stars (i - 6) 0 ∙ getD-replicate (length w - 10) (i - 6) 0x2A 0 (omega (arith, a, b)) in
-          rw (le-leb 6 i (omega (arith, a)), lt-ltb (i + 4) (length w) b,
-            List·getD-append (take 6 w ++ stars) (drop (length w - 4) w) 0 i (omega (arith, g, b))) (rw k at z)
+          getD-append-add (take 6 w) stars (i - 6) 0 ∙ getD-replicate (length w - 10) (i - 6) 0x2A 0 (omega (arith, a, b)) in
+          rw (
+            le-leb 6 i (omega (arith, a)),
+            lt-ltb (i + 4) (length w) b,
+            List·getD-append (take 6 w ++ stars) (drop (length w - 4) w) 0 i (omega (arith, g, b)),
+          ) (rw k at z)
       go (no a) (no b) =
           let k : length (take 6 w ++ stars) + (i - (length w - 4)) ≡ i = omega (arith, g, b) in
           let m : length w - 4 + (i - (length w - 4)) ≡ i = omega (arith, b) in
           let z : getD (take 6 w ++ stars ++ drop (length w - 4) w) (length (take 6 w ++ stars) + (i - (length w - 4))) 0 ≡ getD w i 0 =
-              getD-append-add (take 6 w ++ stars) (drop (length w - 4) w) (i - (length w - 4)) 0
-              ∙ getD-drop (length w - 4) w (i - (length w - 4)) 0 ∙ rw m in
+          getD-append-add (take 6 w ++ stars) (drop (length w - 4) w) (i - (length w - 4)) 0
+          ∙ getD-drop (length w - 4) w (i - (length w - 4)) 0 ∙ rw m in
           rw (le-leb 6 i (omega (arith, a)), le-ltb (i + 4) (length w) (omega (arith, b))) (rw k at z ∙ sym packed-character)
 
 masked-length : (w : List ℕ) → isCardNumber w ≡ true → length (masked w) ≡ length w

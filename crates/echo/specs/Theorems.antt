@@ -13,8 +13,7 @@ use Rattle.echo.specs.Echo.{isCardNumber, masked, shownLine, echoLine}
 
 -- a line is echoed as it is where no card number stands between spaces in it, or at its front or its end
 abbrev pub PlainLineStays : Type 0
-PlainLineStays =
-    (s : List ℕ) → ((a w b : List ℕ) → space ++ s ++ space ≡ a ++ (space ++ w ++ space) ++ b → isCardNumber w ≡ false)
+PlainLineStays = (s : List ℕ) → ((a w b : List ℕ) → space ++ s ++ space ≡ a ++ (space ++ w ++ space) ++ b → isCardNumber w ≡ false)
     → echoLine s ≡ text "> " ++ s ++ feed
 
 -- the words on both sides of a space are shown each by itself
@@ -23,6 +22,5 @@ WordsApart = (a b : List ℕ) → shownLine (a ++ space ++ b) ≡ shownLine a ++
 
 -- a card number is masked as in a message or a journal, where its digits are packed
 abbrev pub MaskedAlike : Type 0
-MaskedAlike =
-    (w : List ℕ) → isCardNumber w ≡ true
+MaskedAlike = (w : List ℕ) → isCardNumber w ≡ true
     → masked w ≡ digitsText true (length w) (pack (tabulate (length w) (λ i. digitOf (getD w i 0))))

@@ -21,7 +21,7 @@ use Rattle.rehearse.specs.declared.Stopped.{Stopped}
 use Rattle.rehearse.specs.declared.commands.Acted.{Acted}
 use Rattle.rehearse.specs.Rehearsal.{Did, writes}
 use Rattle.rehearse.specs.Commands.{done}
-use Rattle.rehearse.specs.Scripts.{echoed, answered, Reached, reached, afterLine, afterLines, blank, Rehearses}
+use Rattle.rehearse.specs.Scripts.{echoed, answered, ScriptAt, scriptAt, afterLine, afterLines, blank, Rehearses}
 
 -- a line that is not echoed, and one that is
 module _ (s : List ℕ) (r : Rehearsal) where
@@ -63,7 +63,7 @@ answered-cut number {s} {t} r lent c = go (ltb 4096 (length t)) refl
     go true e = rw (c .0, e)
     go false e = rw (c .1 e)
 
-same : {s u : List ℕ} {n m : ℕ} {r q : Rehearsal} {a b : Lent} → s ≡ u → n ≡ m → r ≡ q → a ≡ b → reached s n r a ≡ reached u m q b
+same : {s u : List ℕ} {n m : ℕ} {r q : Rehearsal} {a b : Lent} → s ≡ u → n ≡ m → r ≡ q → a ≡ b → scriptAt s n r a ≡ scriptAt u m q b
 same e f g h = rw (e, f, g, h)
 
 -- a script has come this far, with turns left: whatever bytes come further
@@ -72,8 +72,8 @@ pub record Going (input : Input) (chunk₀ : List ℕ) (r₀ : Rehearsal) (turns
   pub lines : ℕ
   pub file-is : at .file ≡ input .file
   pub counted : turns + lines ≡ 18446744073709551615
-  pub stands : (x : List ℕ) → afterLines lines (reached (leftIn (input .left) chunk₀ ++ brought ++ x) (input .number) r₀ blank)
-      ≡ reached (leftIn (at .left) chunk ++ x) (at .number) r lent
+  pub stands : (x : List ℕ) → afterLines lines (scriptAt (leftIn (input .left) chunk₀ ++ brought ++ x) (input .number) r₀ blank)
+      ≡ scriptAt (leftIn (at .left) chunk ++ x) (at .number) r lent
 
 pub going : {turns : ℕ} (input : Input) (chunk : List ℕ) (r : Rehearsal) → turns ≡ 18446744073709551615 → Going input chunk r turns input chunk r blank
 unfolding afterLines
@@ -94,13 +94,13 @@ module _ {input at at2 : Input} {chunk₀ chunk line c l o : List ℕ} {r₀ r :
   did = rw (← n .number-is, ← answered-cut (at2 .number) r lent (next-cut n k)) d
 
   one-more : (x : List ℕ) → firstLine (came ++ x) ≡ firstLine came → behindFeed (came ++ x) ≡ behindFeed came ++ x
-      → afterLines (suc (g .lines)) (reached (script ++ x) (input .number) r₀ blank)
-      ≡ reached (leftIn (at2 .left) c ++ x) (at2 .number) (a .rehearsal) lent2
+      → afterLines (suc (g .lines)) (scriptAt (script ++ x) (input .number) r₀ blank)
+      ≡ scriptAt (leftIn (at2 .left) c ++ x) (at2 .number) (a .rehearsal) lent2
   unfolding afterLines
   one-more x f b =
       let i : leftIn (at .left) chunk ++ (n .takes .brought ++ x) ≡ came ++ x = simp append-assoc in
       let j : script ++ x ≡ leftIn (input .left) chunk₀ ++ g .brought ++ (n .takes .brought ++ x) = simp append-assoc in
-      let q : afterLines (g .lines) (reached (script ++ x) (input .number) r₀ blank) ≡ reached (came ++ x) (at .number) r lent
+      let q : afterLines (g .lines) (scriptAt (script ++ x) (input .number) r₀ blank) ≡ scriptAt (came ++ x) (at .number) r lent
       = rw (j, ← i) (g .stands (n .takes .brought ++ x)) in
       ap afterLine q
       ∙ same (rw (b, n .takes .left-is)) (sym (n .number-is)) (rw f (sym (did .rehearsal-is))) (rw f (sym (did .lent-is)))
@@ -143,7 +143,7 @@ turned {lent = lent} g z e =
     }
 
 -- a script whose lines are numbered from 1
-after-number : (n : ℕ) (q : Reached) → q .number ≡ 0 → n < 18446744073709551616 → afterLines n q .number ≡ n
+after-number : (n : ℕ) (q : ScriptAt) → q .number ≡ 0 → n < 18446744073709551616 → afterLines n q .number ≡ n
 unfolding afterLines
 after-number zero q e h = e
 after-number (suc n) q e h = rw (after-number n q e (omega arith)) (omega arith)
@@ -152,4 +152,4 @@ pub last-number : {r : Rehearsal} {input : Input} {chunk c : List ℕ} {s : Stop
     → s .input .ended ≡ false → s .input .number ≡ 18446744073709551615
 last-number t e f =
     let z = t .stops f in
-    sym (ap (λ (q : Reached). q .number) (t .stands)) ∙ after-number (t .lines) _ e (omega arith) ∙ z
+    sym (ap (λ (q : ScriptAt). q .number) (t .stands)) ∙ after-number (t .lines) _ e (omega arith) ∙ z

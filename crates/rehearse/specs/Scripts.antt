@@ -31,25 +31,25 @@ answered number s r lent =
     (cond (eqb (length (wordsIn s)) 0) (writes [] r lent) (done number (wordsIn s) r lent))
 
 -- where a script stands between two lines: the bytes to come, the number of the last line, the rehearsal and what is lent to it
-pub record Reached : Type 0 where
+pub record ScriptAt : Type 0 where
   pub bytes : List ℕ
   pub number : ℕ
   pub rehearsal : Rehearsal
   pub lent : Lent
 
-abbrev pub reached : List ℕ → ℕ → Rehearsal → Lent → Reached
-reached s number r lent = record { bytes = s; number = number; rehearsal = r; lent = lent }
+abbrev pub scriptAt : List ℕ → ℕ → Rehearsal → Lent → ScriptAt
+scriptAt s number r lent = record { bytes = s; number = number; rehearsal = r; lent = lent }
 
 -- the first line of the bytes to come is answered
-abbrev pub behind : List ℕ → ℕ → Done → Reached
-behind s number d = reached (behindFeed s) number (d .rehearsal) (d .lent)
+abbrev pub behind : List ℕ → ℕ → Done → ScriptAt
+behind s number d = scriptAt (behindFeed s) number (d .rehearsal) (d .lent)
 
-abbrev pub afterLine : Reached → Reached
+abbrev pub afterLine : ScriptAt → ScriptAt
 afterLine q =
     behind (q .bytes) ((q .number + 1) % 2 ^ 64)
     (answered ((q .number + 1) % 2 ^ 64) (firstLine (q .bytes)) (q .rehearsal) (q .lent))
 
-unfoldable pub afterLines : ℕ → Reached → Reached
+unfoldable pub afterLines : ℕ → ScriptAt → ScriptAt
 afterLines zero q = q
 afterLines (suc n) q = afterLine (afterLines n q)
 
@@ -64,7 +64,7 @@ pub record Rehearses (r : Rehearsal) (input : Input) (chunk : List ℕ) (s : Sto
   pub lines : ℕ
   pub lent : Lent
   pub file-is : s .input .file ≡ input .file
-  pub stands : afterLines lines (reached (leftIn (input .left) chunk ++ brought) (input .number) r blank)
-      ≡ reached (leftIn (s .input .left) changed) (s .input .number) (s .rehearsal) lent
+  pub stands : afterLines lines (scriptAt (leftIn (input .left) chunk ++ brought) (input .number) r blank)
+      ≡ scriptAt (leftIn (s .input .left) changed) (s .input .number) (s .rehearsal) lent
   pub all : s .input .ended ≡ true → leftIn (s .input .left) changed ≡ []
   pub stops : s .input .ended ≡ false → lines ≡ 18446744073709551615

@@ -25,7 +25,11 @@ same-length c = search needs
 
 returns : tie.Need-returns
 unfolding echoLine
-returns c = and-then (and-then (c .before .before .before .before .before .before .before .before .before .before .before .add .ensures) (c .before .before .before .before .before .before .before .add-words .ensures)) (c .before .before .add2 .ensures)
+returns c =
+    let at-add = c .before .before .before .before .before .before .before .before .before .before .before .add in
+    let at-add-words = c .before .before .before .before .before .before .before .add-words in
+    let at-add2 = c .before .before .add2 in
+    and-then (and-then (at-add .ensures) (at-add-words .ensures)) (at-add2 .ensures)
 
 pub add-echo-spec : {M : Type 1} → statement M
 add-echo-spec =

@@ -36,7 +36,11 @@ same-length c = search needs
 
 returns-2 : tie.Need-returns-2
 unfolding endedWord
-returns-2 c = rw (eq-eqb _ _ (c .before .before .before .before .before .before .before .before .before .before .if1 .left)) (and-then (c .before .before .before .before .before .before .before .add-word .ensures) (c .before .before .add .ensures))
+returns-2 c =
+    let at-if1 = c .before .before .before .before .before .before .before .before .before .before .if1 in
+    let at-add-word = c .before .before .before .before .before .before .before .add-word in
+    let at-add = c .before .before .add in
+    rw (eq-eqb _ _ (at-if1 .left)) (and-then (at-add-word .ensures) (at-add .ensures))
 
 pub add-ended-spec : {M : Type 1} → statement M
 add-ended-spec =

@@ -44,7 +44,11 @@ same-length : tie.Need-same-length
 same-length c = search needs
 
 returns : tie.Need-returns
-returns c = masked-adds _ (search needs) (search needs) (c .before .before .before .before .before .before .before .before .before .before .before .before .add .ensures) (c .before .before .before .before .before .before .before .add2 .ensures) (c .before .before .add3 .ensures)
+returns c =
+    let at-add = c .before .before .before .before .before .before .before .before .before .before .before .before .add in
+    let at-add2 = c .before .before .before .before .before .before .before .add2 in
+    let at-add3 = c .before .before .add3 in
+    masked-adds _ (search needs) (search needs) (at-add .ensures) (at-add2 .ensures) (at-add3 .ensures)
 
 pub add-masked-spec : {M : Type 1} → statement M
 add-masked-spec =

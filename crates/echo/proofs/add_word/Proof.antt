@@ -17,7 +17,10 @@ same-length c = search needs
 
 returns : tie.Need-returns
 unfolding shownWord
-returns c = rw (← c .before .before .before .before .before .is-card-number .ensures, c .before .before .before .before .if1 .taken) (c .before .before .add-masked .ensures)
+returns c =
+    let at-is-card-number = c .before .before .before .before .before .is-card-number in
+    let at-if1 = c .before .before .before .before .if1 in
+    rw (← at-is-card-number .ensures, at-if1 .taken) (c .before .before .add-masked .ensures)
 
 add-requires : tie.Need-add-requires
 add-requires c κs = search needs
@@ -27,7 +30,10 @@ same-length-2 c = search needs
 
 returns-2 : tie.Need-returns-2
 unfolding shownWord
-returns-2 c = rw (← c .before .before .before .before .before .is-card-number .ensures, c .before .before .before .before .if1 .left) (c .before .before .add .ensures)
+returns-2 c =
+    let at-is-card-number = c .before .before .before .before .before .is-card-number in
+    let at-if1 = c .before .before .before .before .if1 in
+    rw (← at-is-card-number .ensures, at-if1 .left) (c .before .before .add .ensures)
 
 pub add-word-spec : {M : Type 1} → statement M
 add-word-spec =

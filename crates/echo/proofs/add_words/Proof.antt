@@ -29,7 +29,10 @@ loop-less : tie.Need-loop-less Inv-loop μ-loop
 loop-less c = search needs
 
 loop-again : tie.Need-loop-again Inv-loop μ-loop
-loop-again c = (search needs, rw (c .start-after .ensures) (shown-more (c .before .before .before .before .before .before .loop .inv .1) (search needs) (c .before .before .before .add-ended .ensures)))
+loop-again c =
+    let at-loop-inv = c .before .before .before .before .before .before .loop .inv in
+    let at-add-ended = c .before .before .before .add-ended in
+    (search needs, rw (c .start-after .ensures) (shown-more (at-loop-inv .1) (search needs) (at-add-ended .ensures)))
 
 sub-add-word : tie.Need-sub-add-word Inv-loop μ-loop
 sub-add-word c = search needs

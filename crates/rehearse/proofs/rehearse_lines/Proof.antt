@@ -82,13 +82,7 @@ loop-again c =
     let at-loop-inv = c .before .before .before .before .before .before .before .before .before .before .before .before .before .before .before .before .before .before .before .before .before .loop .inv in
     let at-next = c .before .before .before .before .before .before .before .before .before .before .before .before .before .before .before .before .before .next in
     let at-answer = c .before .before .before .before .before .before .before .answer in
-    let at-line = c .before .before .before .before .before .before .before .before .before .before .before .before .before .before .line2 .given in
-    let k : length (at-next .last .1 .1 .0) ≡ 4098 = search needs in
-    let at-chunk = c .before .before .before .before .before .before .before .before .before .before .before .before .before .before .before .before .chunk .given in
-    let at-journal = c .before .before .before .before .before .before .journal2 .given in
-    let at-message = c .before .before .before .before .before .message2 .given in
-    let at-text = c .before .before .before .before .text2 .given in
-    (
+    let k : length (at-next .last .1 .1 .0) ≡ 4098 = search needs in (
       goes-on (at-loop-inv .0) (at-next .ensures) k (at-answer .ensures) (c .if1 .left) (c .before .before .before .before .before .before .before .before .before .before .before .before .before .before .before .before .before .before .before .before .loop-test .taken),
       λ h. c .if1 .left,
       k,
@@ -117,7 +111,6 @@ returns-2 c =
     let at-loop-inv = c .before .before .before .before .before .before .before .before .before .before .before .before .before .before .before .before .before .before .before .before .before .loop .inv in
     let at-next = c .before .before .before .before .before .before .before .before .before .before .before .before .before .before .before .before .before .next in
     let at-answer = c .before .before .before .before .before .before .before .answer in
-    let at-line = c .before .before .before .before .before .before .before .before .before .before .before .before .before .before .line2 .given in
     let k : length (at-next .last .1 .1 .0) ≡ 4098 = search needs in
     ends (at-loop-inv .0) (at-next .ensures) k (at-answer .ensures) (c .if1 .taken)
 
