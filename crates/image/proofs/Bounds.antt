@@ -1,0 +1,88 @@
+-- The state that the numbers of bytes say is within the sizes of its types.
+use mathlib.Core.Path.{_≡_, refl, _∙_}
+use mathlib.Core.List.{List}
+use Prim.Native.Nat.{ℕ, zero, suc, _+_, _^_, _≤_, _<_}
+use native.Mathlib.Decide.{decLt}
+use native.Mathlib.Omega.{arith}
+use lib.Dec.{leb}
+use lib.ListN.{getD, length-append}
+use lib.Seq.{getD-take, getD-drop}
+use borrow.Author.Tests.{leb-true}
+use Rattle.digits.proofs.Lists.{all-at, getD-past}
+use Rattle.state.specs.declared.Phase.the-variants.{Resting}
+use Rattle.image.specs.Layout.{widths, bytesOf}
+use Rattle.image.specs.Image.{rowsFrom, settingsOf, countsOf, requestOf, reversalOf, phasesOf, stateOf}
+use Rattle.image.specs.Sized.{SizedSettings, SizedCounts, SizedRequest, SizedReversal, SizedPhase, Sized}
+use Rattle.image.proofs.Laid.{length-bytesOf, append-bytes, bytesOf-bytes}
+
+pub rows-at : (at n : ℕ) (v : List ℕ) (i : ℕ) → i < n → getD (rowsFrom at n v) i 0 ≡ getD v (at + i) 0
+rows-at at n v i h = getD-take n _ i 0 h ∙ getD-drop at v i 0
+
+sized-settings : (v : List ℕ) → getD v 2 0 < 2 ^ 64 → SizedSettings (settingsOf v)
+sized-settings v h =
+    let first = bytesOf 8 (getD v 4 0) in
+    let second = bytesOf 7 (getD v 5 0) in
+    record {
+      limit = omega arith;
+      sendings = omega arith;
+      refund = h;
+      terminal = length-bytesOf 8 (getD v 3 0);
+      terminal-bytes = bytesOf-bytes 8 (getD v 3 0);
+      merchant = length-append first second ∙ rw (length-bytesOf 8 (getD v 4 0), length-bytesOf 7 (getD v 5 0));
+      merchant-bytes = append-bytes first second (bytesOf-bytes 8 (getD v 4 0)) (bytesOf-bytes 7 (getD v 5 0));
+    }
+
+sized-counts : (v : List ℕ) → SizedCounts (countsOf v)
+sized-counts v =
+    record {
+      sent = omega arith;
+      approved = omega arith;
+      declined = omega arith;
+      reversed = omega arith;
+      given-up = omega arith;
+      unanswered = omega arith;
+    }
+
+module _ (v : List ℕ) (amount : getD v 2 0 < 2 ^ 64) (card : getD v 3 0 < 2 ^ 64) where
+  sized-request : SizedRequest (requestOf v)
+  sized-request =
+      record { kind = omega arith; amount = amount; number = card; digits = omega arith; trace = omega arith; original = omega arith }
+
+  sized-reversal : SizedReversal (reversalOf v)
+  sized-reversal = record { request = sized-request; sendings = omega arith }
+
+  sized-phase : (p : ℕ) → SizedPhase (getD (phasesOf v) p Resting)
+  sized-phase zero = tt
+  sized-phase (suc zero) = sized-request
+  sized-phase (suc (suc zero)) = sized-reversal
+  sized-phase (suc (suc (suc zero))) = omega arith
+  sized-phase (suc (suc (suc (suc zero)))) = omega arith
+  sized-phase (suc (suc (suc (suc (suc zero))))) = omega arith
+  sized-phase (suc (suc (suc (suc (suc (suc zero)))))) = sized-reversal
+  sized-phase (suc (suc (suc (suc (suc (suc (suc zero))))))) = tt
+  sized-phase (suc (suc (suc (suc (suc (suc (suc (suc zero)))))))) = tt
+  sized-phase (suc (suc (suc (suc (suc (suc (suc (suc (suc p))))))))) = tt
+
+-- numbers that fit their rows say a state within its sizes
+pub sized-state : (v : List ℕ) → ((i : ℕ) → getD v i 0 < 256 ^ getD widths i 0) → Sized (stateOf v)
+unfolding widths stateOf
+sized-state v below =
+    record {
+      settings = sized-settings (rowsFrom 1 6 v) (rw (rows-at 1 6 v 2 (omega arith)) (below 3));
+      batch = omega arith;
+      next = omega arith;
+      entries = omega arith;
+      counts = sized-counts (rowsFrom 11 6 v);
+      phase =
+          sized-phase (rowsFrom 17 10 v) (rw (rows-at 17 10 v 2 (omega arith)) (below 19)) (rw (rows-at 17 10 v 3 (omega arith)) (below 20))
+          (getD (rowsFrom 17 10 v) 0 0);
+    }
+
+-- no row is wider than 64 bits
+pub width-small : (k : ℕ) → getD widths k 0 ≤ 8
+unfolding widths
+width-small k = go (decLt k 27)
+  where
+    go : Dec (k < 27) → getD widths k 0 ≤ 8
+    go (yes h) = leb-true _ _ (all-at (λ i. leb (getD widths i 0) 8) 27 refl k h)
+    go (no h) = rw (getD-past widths k (omega arith)) (omega arith)
