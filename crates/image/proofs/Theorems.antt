@@ -14,7 +14,7 @@ use Rattle.image.specs.Layout.{widths, numbersIn}
 use Rattle.image.specs.Image.{valuesOf, image, stateOf, accepted, refused, judged, readImage}
 use Rattle.image.specs.declared.Reading.{Reading}
 use Rattle.image.specs.Sized.{Bytes, Sized}
-use Rattle.image.specs.Theorems.{ImageLength, ImageReadsBack, ReadImagesBack, OthersRefused}
+use Rattle.image.specs.Theorems.{ImageLength, ImageReadsBack, ReadImagesBack, AcceptedNumbers, OthersRefused}
 use Rattle.image.proofs.Laid.{length-laid, numbers-laid, numbers-below}
 use Rattle.image.proofs.Values.{state-back, values-fit}
 use Rattle.image.proofs.Bounds.{sized-state}
@@ -63,6 +63,12 @@ read-images-back b s h q =
     let t = stateOf (numbersIn widths b) in
     let r = judged-back b t s (sameBytes b (image t)) refl q in
     (rw (r .0) at (sized-read b h), r .1)
+
+pub accepted-numbers : AcceptedNumbers
+unfolding image
+accepted-numbers b s h q =
+    let r = read-images-back b s h q in
+    rw (← r .1) (numbers-laid widths (valuesOf s) (values-fit s (r .0)))
 
 pub others-refused : OthersRefused
 unfolding readImage
