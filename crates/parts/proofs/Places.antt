@@ -6,7 +6,7 @@ use Prim.Native.Nat.{ℕ, suc, _+_, _-_, _≤_, _<_, min}
 use native.Mathlib.Decide.{decLt}
 use native.Mathlib.Numerals.{add-one}
 use native.Mathlib.Omega.{arith}
-use lib.Dec.{leb, eqb}
+use lib.Dec.{leb, ltb, eqb}
 use lib.ListN.{length, getD, take, drop, replicate, length-take, length-drop, length-append, List·getD-append}
 use lib.Seq.{drop-cons, drop-drop, getD-drop, getD-take, ext-getD, drop-length, take-all, length-take-le}
 use borrow.Author.Tests.{eq-eqb, ne-eqb, le-leb, lt-leb}
@@ -27,7 +27,8 @@ use Rattle.message.specs.declared.Message.{Message}
 use Rattle.message.specs.Located.{located}
 use Rattle.message.specs.declared.Located.the-variants.{Found, Missing}
 use Rattle.message.proofs.Standing.{heldAt, field-located, standing}
-use Rattle.parts.specs.Parts.{copies, numberIn}
+use Rattle.parts.specs.Parts.{copies, taken, numberIn}
+use Rattle.parts.specs.declared.Taken.the-variants.{TooLong, Count}
 use Rattle.parts.specs.Bounds.{Bounded}
 
 pub found-end : (n : ℕ) {row from x w k : ℕ} {f : Format} → located formats n 0 0 ≡ Found row from f
@@ -99,14 +100,25 @@ module _ {m : Message} {n count from end : ℕ} (b : Bounded m n count from end)
   unfolding copies
   copies-is k l e = rw (e, bytes-length l)
 
+  pub taken-is : (k : ℕ) → length (m .contents) ≡ rooms → names (m .bitmap) n ≡ true → taken m n k ≡ cond (ltb k (end - from)) TooLong (Count count)
+  unfolding taken
+  taken-is k l e = rw (e, bytes-length l, b .count-is)
+
+  -- the front of out is written
+  pub copied-front : (out : List ℕ) {e : List ℕ}
+      → e ≡ take (length (take (end - from) (drop from (m .contents)))) (take (end - from) (drop from (m .contents)))
+      ++ drop (length (take (end - from) (drop from (m .contents)))) out
+      → e ≡ fieldOf m n .bytes ++ drop (length (fieldOf m n .bytes)) out
+  copied-front out q =
+      let f = fieldOf m n .bytes in
+      q ∙ rw (b .bytes-are, take-all (length f) f (omega arith))
+
   -- all of out is written
   pub copied : (out : List ℕ) {e : List ℕ} → length (m .contents) ≡ rooms → length out ≡ end - from
       → e ≡ take (length (take (end - from) (drop from (m .contents)))) (take (end - from) (drop from (m .contents)))
       ++ drop (length (take (end - from) (drop from (m .contents)))) out
       → e ≡ fieldOf m n .bytes
-  copied out l w q =
-      q ∙ rw (b .bytes-are, bytes-length l, ← w)
-      (rw (take-all (length out) (fieldOf m n .bytes) (omega (arith, bytes-length l)), drop-length, append-nil))
+  copied out l w q = copied-front out q ∙ rw (bytes-length l, ← w, drop-length, append-nil)
 
   pub number-short : (i k : ℕ) → count < i + k → numberIn m n i k ≡ Not
   unfolding numberIn

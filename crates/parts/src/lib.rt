@@ -8,7 +8,7 @@ ghost use Prim.Native.Nat.{_<_};
 ghost use lib.ListN.{length};
 ghost use Rattle.message.specs.Message.{fieldOf};
 ghost use Rattle.parts.specs.Layout.{placeOf, withPart};
-ghost use Rattle.parts.specs.Parts.{matches, copies, numberIn, partOf};
+ghost use Rattle.parts.specs.Parts.{matches, copies, taken, withTaken, numberIn, partOf};
 ghost use Rattle.parts.specs.Bounds.{Bounded};
 
 // How many digits the fields made of several parts have.
@@ -39,6 +39,14 @@ pub struct Place {
     pub number: u8,
     pub from: usize,
     pub count: usize,
+}
+
+// How the taking of a field ends: the message does not name it, it has more bytes than there is room for, or it has so many digits or
+// bytes.
+pub enum Taken {
+    Absent,
+    TooLong,
+    Count(usize),
 }
 
 // A field's count of digits or bytes, and where its contents begin and end in the message.
@@ -99,6 +107,25 @@ pub fn field_into(m: Message, n: u8, out: &mut [u8]) -> bool
         }
     }
     false
+}
+
+// Puts the bytes of field n to the front of out, where there is room for them.
+pub fn take_field(m: Message, n: u8, out: &mut [u8]) -> Taken
+    ensures { λ r. ⌜ (r ≡ taken m n (length (now (out .entry)))) × (now (out .exit) ≡ withTaken (taken m n (length (now (out .entry)))) (fieldOf m n .bytes) (now (out .entry))) ⌝ }
+{
+    let bitmap = m.bitmap;
+    let contents = m.contents;
+    if field::named(&bitmap, n) {
+        let at = bounds_of(m, n);
+        let from = at.from;
+        let end = at.end;
+        if out.len() < end - from {
+            return Taken::TooLong;
+        }
+        bytes::copy(&contents[from..end], out);
+        return Taken::Count(at.count);
+    }
+    Taken::Absent
 }
 
 // The number that count digits of field n say, from one on.
