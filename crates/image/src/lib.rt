@@ -25,7 +25,7 @@ pub const SIZE: usize = 106;
 // The version of the format.
 const VERSION: u64 = 1;
 
-const ROWS: usize = 27;
+pub const ROWS: usize = 27;
 
 // The bytes of each number, in the image's order.
 const WIDTHS: [usize; ROWS] = [
@@ -162,7 +162,7 @@ fn numbers_in(b: &[u8]) -> [u64; ROWS]
 }
 
 // The numbers of a state: the version in the first row, and the others put after it.
-fn values_of(s: State) -> [u64; ROWS]
+pub fn values_of(s: State) -> [u64; ROWS]
     ensures { λ r. ⌜ r ≡ valuesOf s ⌝ }
 {
     let settings = s.settings;

@@ -1,0 +1,296 @@
+// The terminal for C: the functions of the static library, over the bytes of an image. include/whistlaurel.h says how they are used.
+use calls::Call;
+use desk::Desk;
+use numbers::Batch;
+use numbers::Trace;
+use parts::Taken;
+use reading::ReadOutcome;
+use state::Card;
+use state::Outcome;
+use state::Settings;
+use state::State;
+use terminal::Terminal;
+
+// What a function returns beside the numbers of document 01: a message leaves; a message does not hold the field.
+const SENDS: u8 = 255;
+
+const ABSENT: u8 = 254;
+
+// The bytes of an image.
+#[no_mangle]
+pub extern "C" fn whistlaurel_image_size() -> usize {
+    image::SIZE
+}
+
+// The bytes of a message buffer.
+#[no_mangle]
+pub extern "C" fn whistlaurel_message_size() -> usize {
+    Terminal::MESSAGE
+}
+
+// The bytes of a journal entry.
+#[no_mangle]
+pub extern "C" fn whistlaurel_entry_size() -> usize {
+    Terminal::ENTRY
+}
+
+// Puts the image of a fresh terminal.
+#[no_mangle]
+pub extern "C" fn whistlaurel_fresh(
+    image: &mut [u8],
+    limit: u32,
+    sendings: u8,
+    refund: u64,
+    terminal: &[u8; 8],
+    merchant: &[u8; 15],
+) -> u8 {
+    if image.len() != image::SIZE {
+        return 2;
+    }
+    let settings = Settings {
+        limit: limit,
+        sendings: sendings,
+        refund: refund,
+        terminal: *terminal,
+        merchant: *merchant,
+    };
+    put_image(State::new(settings), image);
+    0
+}
+
+// The outer program has signed on, and the centre has told the batch number.
+#[no_mangle]
+pub extern "C" fn whistlaurel_signed_on(
+    image: &mut [u8],
+    journal: &mut [u8],
+    message: &mut [u8],
+    length: &mut usize,
+    batch: u32,
+) -> u8 {
+    make(image, journal, message, length, Call::SignedOn(Batch(batch)), nothing_keyed(), b"")
+}
+
+// A card request leaves.
+#[no_mangle]
+pub extern "C" fn whistlaurel_start(
+    image: &mut [u8],
+    journal: &mut [u8],
+    message: &mut [u8],
+    length: &mut usize,
+    kind: u8,
+    amount: u64,
+    card_number: u64,
+    card_length: u8,
+    original: u32,
+    month: u8,
+    day: u8,
+    authorisation: &[u8; 6],
+    reference: &[u8; 12],
+) -> u8 {
+    let desk = Desk {
+        kind: kind,
+        amount: amount,
+        card: Card {
+            number: card_number,
+            length: card_length,
+        },
+        original: Trace(original),
+        month: month,
+        day: day,
+        authorisation: *authorisation,
+        reference: *reference,
+    };
+    make(image, journal, message, length, Call::Start, desk, b"")
+}
+
+// The centre's bytes, and the key pad's word on the MAC.
+#[no_mangle]
+pub extern "C" fn whistlaurel_answer(
+    image: &mut [u8],
+    journal: &mut [u8],
+    message: &mut [u8],
+    length: &mut usize,
+    bytes: &[u8],
+    good: bool,
+) -> u8 {
+    make(image, journal, message, length, Call::Answer(good), nothing_keyed(), bytes)
+}
+
+// The line has fallen silent.
+#[no_mangle]
+pub extern "C" fn whistlaurel_no_answer(
+    image: &mut [u8],
+    journal: &mut [u8],
+    message: &mut [u8],
+    length: &mut usize,
+) -> u8 {
+    make(image, journal, message, length, Call::NoAnswer, nothing_keyed(), b"")
+}
+
+// Power has returned.
+#[no_mangle]
+pub extern "C" fn whistlaurel_power_returned(
+    image: &mut [u8],
+    journal: &mut [u8],
+    message: &mut [u8],
+    length: &mut usize,
+) -> u8 {
+    make(image, journal, message, length, Call::PowerReturned, nothing_keyed(), b"")
+}
+
+// The pending reversal leaves.
+#[no_mangle]
+pub extern "C" fn whistlaurel_send_reversal(
+    image: &mut [u8],
+    journal: &mut [u8],
+    message: &mut [u8],
+    length: &mut usize,
+) -> u8 {
+    make(image, journal, message, length, Call::SendReversal, nothing_keyed(), b"")
+}
+
+// The batch's totals leave.
+#[no_mangle]
+pub extern "C" fn whistlaurel_settle(
+    image: &mut [u8],
+    journal: &mut [u8],
+    message: &mut [u8],
+    length: &mut usize,
+) -> u8 {
+    make(image, journal, message, length, Call::Settle, nothing_keyed(), b"")
+}
+
+// The next due entry leaves, or the upload's end.
+#[no_mangle]
+pub extern "C" fn whistlaurel_send_next_upload(
+    image: &mut [u8],
+    journal: &mut [u8],
+    message: &mut [u8],
+    length: &mut usize,
+) -> u8 {
+    make(image, journal, message, length, Call::SendNextUpload, nothing_keyed(), b"")
+}
+
+// The number in a row of an image.
+#[no_mangle]
+pub extern "C" fn whistlaurel_number(image: &[u8], row: usize, number: &mut u64) -> u8 {
+    if image::ROWS <= row {
+        return 2;
+    }
+    let held = image::read(image);
+    if !held.accepted {
+        return 2;
+    }
+    let values = image::values_of(held.state);
+    *number = values[row];
+    0
+}
+
+// The debit amount and count and the credit amount and count of the entries.
+#[no_mangle]
+pub extern "C" fn whistlaurel_totals(image: &[u8], journal: &[u8], totals: &mut [u64; 4]) -> u8 {
+    let held = image::read(image);
+    if !held.accepted {
+        return 2;
+    }
+    let state = held.state;
+    let t = journal::totals_of(journal, state.entries);
+    *totals = [t.debit, t.debits as u64, t.credit, t.credits as u64];
+    0
+}
+
+// Whether bytes are a message: 0, or the number by which they are refused.
+#[no_mangle]
+pub extern "C" fn whistlaurel_read(bytes: &[u8]) -> u8 {
+    let r = reading::read(bytes);
+    let outcome = r.outcome;
+    match outcome {
+        ReadOutcome::Read => 0,
+        ReadOutcome::Refused(e) => e,
+    }
+}
+
+// Puts the bytes of field n of a message to the front of out, and how many digits or bytes it has.
+#[no_mangle]
+pub extern "C" fn whistlaurel_field(bytes: &[u8], n: u8, out: &mut [u8], count: &mut usize) -> u8 {
+    let r = reading::read(bytes);
+    let outcome = r.outcome;
+    if let ReadOutcome::Refused(e) = outcome {
+        return e;
+    }
+    let taken = parts::take_field(r.message, n, out);
+    match taken {
+        Taken::Absent => ABSENT,
+        Taken::TooLong => 1,
+        Taken::Count(k) => {
+            *count = k;
+            0
+        }
+    }
+}
+
+// What the desk has keyed where a call takes nothing from it.
+fn nothing_keyed() -> Desk {
+    Desk {
+        kind: 0,
+        amount: 0,
+        card: Card {
+            number: 0,
+            length: 0,
+        },
+        original: Trace(0),
+        month: 0,
+        day: 0,
+        authorisation: [0u8; 6],
+        reference: [0u8; 12],
+    }
+}
+
+// Makes a call on the terminal of an image, and puts the image of the terminal after it.
+fn make(
+    image: &mut [u8],
+    journal: &mut [u8],
+    message: &mut [u8],
+    length: &mut usize,
+    call: Call,
+    desk: Desk,
+    bytes: &[u8],
+) -> u8 {
+    *length = 0;
+    let held = image::read(image);
+    if !held.accepted {
+        return 2;
+    }
+    let state = held.state;
+    let terminal = Terminal { state: state };
+    let step = dispatch::make(terminal, call, desk, bytes, journal, message);
+    let outcome = step.outcome;
+    let after = step.terminal;
+    put_image(after.state, image);
+    *length = length_of(outcome);
+    number_of(outcome)
+}
+
+// Puts the image of a state where there is room for it.
+fn put_image(s: State, image: &mut [u8]) {
+    let b = image::image_of(s);
+    if image.len() == image::SIZE {
+        bytes::copy(&b, image);
+    }
+}
+
+fn length_of(o: Outcome) -> usize {
+    match o {
+        Outcome::Send(n) => n,
+        Outcome::Quiet => 0,
+        Outcome::Refused(k) => 0,
+    }
+}
+
+fn number_of(o: Outcome) -> u8 {
+    match o {
+        Outcome::Send(n) => SENDS,
+        Outcome::Quiet => 0,
+        Outcome::Refused(k) => k,
+    }
+}
