@@ -1,12 +1,13 @@
 -- The phase and the reading that the code finds.
-use mathlib.Core.Path.{_≡_, refl, sym}
+use mathlib.Core.Path.{_≡_, refl, ap, sym, _∙_}
 use mathlib.Core.List.{List, [], _∷_}
-use mathlib.Core.Bool.{true, false}
+use mathlib.Core.Bool.{Bool, true, false, true≢false}
 use Prim.Native.Nat.{ℕ, zero, suc, _≤_, _<_}
 use native.Mathlib.Nat.{not-suc-le-zero, le-of-suc-le-suc}
 use native.Mathlib.Omega.{arith}
+use lib.Dec.{eqb}
 use lib.ListN.{length, getD, List·getD-eq-default}
-use borrow.Author.Tests.{ne-eqb}
+use borrow.Author.Tests.{ne-eqb, eqb-true, eqb-false}
 use Rattle.digits.specs.Lists.{sameBytes}
 use Rattle.state.specs.declared.Reversal.{Reversal}
 use Rattle.state.specs.declared.Awaited.the-variants as awaited
@@ -15,6 +16,7 @@ use Rattle.state.specs.declared.Phase.the-variants.{Resting, Waiting, Pending, 
 use Rattle.state.specs.declared.State.{State}
 use Rattle.image.specs.Layout.{widths, size, numbersIn}
 use Rattle.image.specs.Image.{bitsOf, reversalOf, phasesOf, phaseOf, image, stateOf, accepted, refused, judged, readImage}
+use Rattle.image.specs.declared.Reading.{Reading}
 use Rattle.image.proofs.Theorems.{image-length}
 
 -- what a list holds before its end does not depend on the default
@@ -47,6 +49,14 @@ phase-found v d er et ei h = rw (er, et, ei) (getD-any (phasesOf v) (getD v 0 0)
 pub read-length : (b : List ℕ) → (length b ≡ size → ⊥) → refused ≡ readImage b
 unfolding readImage judged sameBytes
 read-length b h = rw (image-length (stateOf (numbersIn widths b)), ne-eqb (length b) size h)
+
+-- accepted bytes have the length of an image
+pub accepted-length : (b : List ℕ) → readImage b .accepted ≡ true → length b ≡ size
+accepted-length b h = go (eqb (length b) size) refl
+  where
+    go : (x : Bool) → eqb (length b) size ≡ x → length b ≡ size
+    go true e = eqb-true (length b) size e
+    go false e = absurd (true≢false (sym h ∙ ap (λ (x : Reading). x .accepted) (sym (read-length b (eqb-false (length b) size e)))))
 
 -- the state that the numbers say, and whether the bytes are its image
 module _ (b : List ℕ) {v : List ℕ} {s : State} {again : List ℕ} (ev : v ≡ numbersIn widths b) (es : s ≡ stateOf v) (ea : again ≡ image s) where
