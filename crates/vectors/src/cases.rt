@@ -1,18 +1,16 @@
-// The bytes of a case: a head of 158, its journal and its answer. The head has the event at 0, a batch number, what the desk
-// keyed, the word on the MAC, how long the message buffer, the journal and the answer are, and the state.
+// The bytes of a case: a head, its journal and its answer. The head has the event at 0, a batch number, what the desk keyed, the
+// word on the MAC, how long the message buffer, the journal and the answer are, and the image of the state.
 use crate::integers::bytes_at;
 use crate::integers::from;
 use crate::integers::part;
 use crate::integers::u16_at;
 use crate::integers::u32_at;
 use crate::integers::u64_at;
-use crate::states::card_of;
-use crate::states::is_state;
-use crate::states::state_of;
 use calls::Call;
 use desk::Desk;
 use numbers::Batch;
 use numbers::Trace;
+use state::Card;
 use terminal::Step;
 use terminal::Terminal;
 
@@ -30,16 +28,16 @@ const ANSWER_LENGTH: usize = 52;
 
 const STATE: usize = 54;
 
-const HEAD: usize = 158;
+const HEAD: usize = STATE + image::SIZE;
 
 // How long the message buffer of a case is.
 pub fn message_length(s: &[u8]) -> usize {
     u16_at(s, MESSAGE_LENGTH) as usize
 }
 
-// The bytes of the state, of the journal and of the answer.
+// The image of the state, the bytes of the journal and of the answer.
 pub fn state_bytes(s: &[u8]) -> &[u8] {
-    part(s, STATE, 104)
+    part(s, STATE, image::SIZE)
 }
 
 pub fn journal_of(s: &[u8]) -> &[u8] {
@@ -56,12 +54,13 @@ pub fn is_whole(s: &[u8]) -> bool {
     let event = texts::byte_at(s, 0);
     let journal = u16_at(s, JOURNAL_LENGTH);
     let answer = u16_at(s, ANSWER_LENGTH);
+    let reading = image::read(state_bytes(s));
     (s.len() == HEAD + journal as usize + answer as usize)
         & (answer <= 512)
         & (1 <= event)
         & (event <= 8)
         & (texts::byte_at(s, MAC) <= 1)
-        & is_state(state_bytes(s))
+        & reading.accepted
 }
 
 // What the desk keyed, from its 42 bytes.
@@ -82,11 +81,19 @@ fn desk_of(s: &[u8]) -> Desk {
     }
 }
 
+// A card, from its nine bytes.
+fn card_of(s: &[u8]) -> Card {
+    Card {
+        number: u64_at(s, 0),
+        length: texts::byte_at(s, 8),
+    }
+}
+
 // The call of a case.
 pub fn call(s: &[u8], journal: &mut [u8], message: &mut [u8]) -> Step {
-    let terminal = Terminal {
-        state: state_of(state_bytes(s)),
-    };
+    let reading = image::read(state_bytes(s));
+    let state = reading.state;
+    let terminal = Terminal { state: state };
     let desk = desk_of(part(s, DESK, 42));
     dispatch::make(terminal, call_of(s), desk, answer_of(s), journal, message)
 }

@@ -1,7 +1,6 @@
 // Cases of the calls: reads a case in hexadecimal from each line of standard input, and writes what its call gives.
 mod cases;
 mod integers;
-mod states;
 
 use hexadecimal::Hex;
 use input::Input;
@@ -47,7 +46,7 @@ fn show(s: &[u8], blank: &[u8], journal: &mut [u8], message: &mut [u8]) {
     let step = cases::call(s, journal, message);
     let outcome = step.outcome;
     let terminal = step.terminal;
-    let state = states::bytes_of(terminal.state);
+    let state = image::image_of(terminal.state);
     say(s, outcome, &state, blank, journal, message);
 }
 
