@@ -20,7 +20,7 @@ use Rattle.checks.specs.Checks.{Rule, rule, firstBroken}
 use Rattle.state.specs.Calls.{Lent, withJournal, Result, judged, refused, quiet}
 use Rattle.rules.specs.Rules.{rules12}
 use Rattle.answer_match.specs.Match.{isAnswer}
-use Rattle.journal_effects.specs.JournalEffects.{Changed, changed, silentIn, answered}
+use Rattle.effect_definitions.specs.JournalEffects.{Changed, changed, silentIn, answered}
 
 abbrev pub quietly : Changed → Lent → Result
 quietly c lent = quiet (c .state) (withJournal (c .journal) lent)

@@ -33,7 +33,7 @@ use Rattle.outgoing.specs.Outgoing.{reversalFields, reversalMessage, lengthOf}
 use Rattle.outgoing.proofs.Leaving.{reversal-held, reversal-is, reversal-listed, written-is}
 use Rattle.journal.specs.Journal.{entriesOf}
 use Rattle.call_reversal.specs.SendReversal.{sendReversalRules, sendsReversal, sendFrom, sendReversal}
-use Rattle.state_effects.specs.StateEffects.{again}
+use Rattle.effect_definitions.specs.StateEffects.{again}
 
 module _ (s : State) (lent : Lent) (n : ℕ) (e : n ≡ firstBroken (idleRules s lent)) where
   pub turned-down : (r : Called) → (n ≡ 0 → ⊥) → r ≡ record { outcome = Refused n; state = s } → resultOf r lent ≡ sendReversal s lent

@@ -12,7 +12,7 @@ use Rattle.checks.specs.Checks.{Rule, rule, firstBroken}
 use Rattle.state.specs.Calls.{Lent, Result, judged, quiet, sends}
 use Rattle.rules.specs.Rules.{idleRules}
 use Rattle.outgoing.specs.Outgoing.{reversalMessage}
-use Rattle.state_effects.specs.StateEffects.{again}
+use Rattle.effect_definitions.specs.StateEffects.{again}
 
 abbrev pub sendReversalRules : State → Lent → List Rule
 sendReversalRules s lent = idleRules s lent ++ (rule 14 (not (isPending s)) ∷ [])

@@ -20,7 +20,7 @@ use Rattle.outgoing.specs.Outgoing.{lengthOf}
 use Rattle.outgoing.proofs.Leaving.{written-is}
 use Rattle.call_settle.specs.Settle.{settleRules, settleNow, settle}
 use Rattle.batch_messages.specs.BatchMessages.{settlementFields, settlementMessage}
-use Rattle.state_effects.specs.StateEffects.{settles}
+use Rattle.effect_definitions.specs.StateEffects.{settles}
 use Rattle.batch_messages.proofs.Held.{settlement-held, settlement-listed}
 use Rattle.outgoing.specs.Held.{SettingsHeld}
 use Rattle.call_settle.proofs.Refusals.{fits}

@@ -10,7 +10,7 @@ use Rattle.checks.specs.Checks.{Rule, rule, firstBroken}
 use Rattle.state.specs.Calls.{Lent, Result, judged, sends}
 use Rattle.rules.specs.Rules.{idleRules}
 use Rattle.batch_messages.specs.BatchMessages.{settlementMessage}
-use Rattle.state_effects.specs.StateEffects.{settles}
+use Rattle.effect_definitions.specs.StateEffects.{settles}
 
 abbrev pub settleRules : State → Lent → List Rule
 settleRules s lent = idleRules s lent ++ (rule 12 (isPending s) ∷ rule 13 (isUploading s) ∷ [])

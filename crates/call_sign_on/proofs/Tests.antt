@@ -13,7 +13,7 @@ use Rattle.checks.proofs.Choices.{first-stops, first-goes}
 use Rattle.state.proofs.Judged.{refuses, goes}
 use Rattle.rules.specs.Rules.{rules12}
 use Rattle.call_sign_on.specs.SignOn.{signedOnRules, signedOn}
-use Rattle.state_effects.specs.StateEffects.{adopts, on}
+use Rattle.effect_definitions.specs.StateEffects.{adopts, on}
 
 -- the rules after 1 and 2
 abbrev own : Batch → State → List Rule

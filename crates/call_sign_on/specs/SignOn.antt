@@ -8,7 +8,7 @@ use Rattle.state.specs.State.{isWaiting}
 use Rattle.checks.specs.Checks.{Rule, rule, firstBroken}
 use Rattle.state.specs.Calls.{Lent, Result, judged, quiet}
 use Rattle.rules.specs.Rules.{rules12}
-use Rattle.state_effects.specs.StateEffects.{adopts, on}
+use Rattle.effect_definitions.specs.StateEffects.{adopts, on}
 
 abbrev pub signedOnRules : Batch → State → Lent → List Rule
 signedOnRules batch s lent =

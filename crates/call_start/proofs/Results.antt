@@ -26,7 +26,7 @@ use Rattle.outgoing.proofs.Leaving.{request-held, request-is, request-listed, w
 use Rattle.desk.specs.declared.Desk.{Desk}
 use Rattle.call_start.specs.Start.{originalOf, entryOf, namedBy, startRules, start}
 use Rattle.desk.specs.DeskRules.{requestOf}
-use Rattle.state_effects.specs.StateEffects.{requested}
+use Rattle.effect_definitions.specs.StateEffects.{requested}
 use Rattle.call_start.specs.Sending.{MaySend, requestBytes, HasSent}
 use Rattle.call_start.proofs.Refusals.{unbroken}
 use Rattle.call_start.proofs.Held.{may-send}

@@ -13,7 +13,7 @@ use Rattle.state.specs.State.{CountsSmall}
 use Rattle.outgoing.specs.Held.{CardHeld, OriginalHeld}
 use Rattle.outgoing.specs.Outgoing.{requestMessage}
 use Rattle.outgoing.specs.declared.Original.{Original}
-use Rattle.state_effects.specs.StateEffects.{requested}
+use Rattle.effect_definitions.specs.StateEffects.{requested}
 
 -- the request's fields are held, the buffer has room, and one more may be counted
 pub record MaySend (s : State) (q : Request) (o : Original) (m : List ℕ) : Type 0 where

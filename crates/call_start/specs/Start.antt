@@ -19,7 +19,7 @@ use Rattle.outgoing.specs.Outgoing.{requestMessage}
 use Rattle.outgoing.specs.declared.Original.{Original}
 use Rattle.desk.specs.declared.Desk.{Desk}
 use Rattle.desk.specs.DeskRules.{requestOf, restRules, deskRules, journalRules}
-use Rattle.state_effects.specs.StateEffects.{requested}
+use Rattle.effect_definitions.specs.StateEffects.{requested}
 
 -- the entry that a void is for, by the trace that the desk gives; no other kind has one
 unfoldable pub originalOf : Desk → List Entry → Found

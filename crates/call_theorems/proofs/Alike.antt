@@ -20,8 +20,8 @@ use Rattle.state.specs.declared.State.{State}
 use Rattle.state.specs.Calls.{Lent}
 use Rattle.answer_match.specs.Match.{matchesSent, hasCode, approvalHolds, holdsNamed, isAnswer, goodMac, endsReversal, closesBatch}
 use Rattle.approval.specs.Approval.{fieldOr, approvedEntry}
-use Rattle.journal_effects.specs.JournalEffects.{onRequest, onItem, answered}
-use Rattle.state_effects.specs.StateEffects.{onReversal, onSettlement, onEnd}
+use Rattle.effect_definitions.specs.JournalEffects.{onRequest, onItem, answered}
+use Rattle.effect_definitions.specs.StateEffects.{onReversal, onSettlement, onEnd}
 use Rattle.call_answer.specs.Answer.{answersIn, answeredIn, answerIn, answer}
 use Rattle.call_theorems.specs.UnusedFields.{unused, AlikeButUnused, UnusedFieldsChangeNothing}
 

@@ -27,8 +27,8 @@ use Rattle.rules.specs.Rules.{originalUnvoided, requestKept}
 use Rattle.state_rules.specs.StateRules.{past}
 use Rattle.rules.proofs.InOrder.{InOrder, Fit}
 use Rattle.approval.specs.Approval.{approvedEntry}
-use Rattle.journal_effects.specs.JournalEffects.{originalVoided, approved}
-use Rattle.state_effects.specs.StateEffects.{oneMore}
+use Rattle.effect_definitions.specs.JournalEffects.{originalVoided, approved}
+use Rattle.effect_definitions.specs.StateEffects.{oneMore}
 use Rattle.call_theorems.proofs.Growing.{Plain, KeepsPlain, original-kept, IsNew, plain-last, sums-last}
 
 -- what a journal has left for an awaited request

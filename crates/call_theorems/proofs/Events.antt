@@ -39,8 +39,8 @@ use Rattle.answer_match.specs.Match.{isAnswer, matchesSent, holdsNamed, indicat
 use Rattle.approval.specs.Approval.{approvedEntry}
 use Rattle.approval.proofs.Approval.{shaped, in-form}
 use Rattle.call_answer.specs.Answer.{noAnswerRules, noAnswer, withoutPower, powerReturned, answersIn, answeredIn, answerRules, answerIn, readIn, answer}
-use Rattle.journal_effects.specs.JournalEffects.{Changed, changed, approved, silent, silentIn, onRequest, answered}
-use Rattle.state_effects.specs.StateEffects.{pendingOrUnanswered, failed, onReversal, onSettlement, onEnd}
+use Rattle.effect_definitions.specs.JournalEffects.{Changed, changed, approved, silent, silentIn, onRequest, answered}
+use Rattle.effect_definitions.specs.StateEffects.{pendingOrUnanswered, failed, onReversal, onSettlement, onEnd}
 use Rattle.call_theorems.proofs.Refusing.{Fits, judged-fits}
 use Rattle.call_theorems.proofs.Phases.{pending-or-unanswered-fit, declined-fit, failed-fit, reversed-fit, settling-fit, uploading-fit, ending-fit, closed-fit, off-fit}
 use Rattle.call_theorems.proofs.Items.{silent-item, answered-item}

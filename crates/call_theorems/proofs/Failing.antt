@@ -14,9 +14,9 @@ use Rattle.state.specs.Calls.{Lent, quiet}
 use Rattle.state.proofs.Judged.{goes}
 use Rattle.rules.specs.Rules.{rules12}
 use Rattle.call_reversal.specs.SendReversal.{sendsReversal, sendFrom, sendReversalRules, sendReversal}
-use Rattle.state_effects.specs.StateEffects.{again, failed}
+use Rattle.effect_definitions.specs.StateEffects.{again, failed}
 use Rattle.call_answer.specs.Answer.{quietly, noAnswerRules, noAnswer}
-use Rattle.journal_effects.specs.JournalEffects.{silent, silentIn}
+use Rattle.effect_definitions.specs.JournalEffects.{silent, silentIn}
 use Rattle.call_theorems.specs.Ready.{Ready, StaysReady}
 use Rattle.terminal.specs.Events.{no-answer, send-reversal}
 use Rattle.call_theorems.proofs.Keeping.{keeping}

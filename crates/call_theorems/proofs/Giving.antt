@@ -11,7 +11,7 @@ use Rattle.state.specs.declared.Phase.the-variants.{Resting, Pending}
 use Rattle.state.specs.Calls.{Result}
 use Rattle.outgoing.specs.Outgoing.{reversalMessage}
 use Rattle.call_reversal.specs.SendReversal.{sendReversal}
-use Rattle.state_effects.specs.StateEffects.{again}
+use Rattle.effect_definitions.specs.StateEffects.{again}
 use Rattle.call_theorems.specs.Ready.{Ready}
 use Rattle.call_theorems.proofs.Back.{ready-fits}
 use Rattle.call_theorems.specs.Facts.{silenced, failures, sentTimes, GivenUp}

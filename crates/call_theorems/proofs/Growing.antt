@@ -25,7 +25,7 @@ use Rattle.journal.proofs.Sums.{voided-totals, totals-changed, totals-last, wit
 use Rattle.journal.proofs.Traces.{voided-trace, absent-changed, distinct-changed, distinct-last}
 use Rattle.state.specs.declared.Request.{Request}
 use Rattle.state_rules.specs.StateRules.{past, pastOn}
-use Rattle.journal_effects.specs.JournalEffects.{voidedAt, originalVoided}
+use Rattle.effect_definitions.specs.JournalEffects.{voidedAt, originalVoided}
 
 -- what rule 2 says of entries outside the upload, resent at most l times
 pub record Plain (l : ℕ) (es : List Entry) : Type 0 where

@@ -24,7 +24,7 @@ use Rattle.state.specs.State.{inPhase}
 use Rattle.state.specs.Calls.{Lent, withJournal}
 use Rattle.rules.specs.Rules.{due}
 use Rattle.rules.proofs.InOrder.{InOrder, Fit}
-use Rattle.journal_effects.specs.JournalEffects.{silentMark, marked, onItem}
+use Rattle.effect_definitions.specs.JournalEffects.{silentMark, marked, onItem}
 use Rattle.answer_match.specs.Match.{approves}
 use Rattle.message.specs.declared.Message.{Message}
 

@@ -29,7 +29,7 @@ use Rattle.state.specs.Calls.{Lent}
 use Rattle.rules.specs.Rules.{inUpload, awaitedItem, phaseKept, due}
 use Rattle.state_rules.specs.StateRules.{requestInForm, reversalInForm, phaseInForm, waiting}
 use Rattle.rules.proofs.InOrder.{JournalHolds, Fit}
-use Rattle.state_effects.specs.StateEffects.{again, pendingOrUnanswered, failed}
+use Rattle.effect_definitions.specs.StateEffects.{again, pendingOrUnanswered, failed}
 use Rattle.numbers.proofs.Bounds.{within-yes}
 
 -- what a new phase and new counts must keep

@@ -17,7 +17,7 @@ use Rattle.journal.specs.declared.Found.the-variants.{At, Nowhere}
 use Rattle.journal.proofs.Entries.{length-entries-le, put-there, put-short, length-set-byte}
 use Rattle.journal.proofs.Searches.{first-at}
 use Rattle.state.specs.declared.Request.{Request}
-use Rattle.journal_effects.specs.JournalEffects.{voidedAt, originalVoided, resent}
+use Rattle.effect_definitions.specs.JournalEffects.{voidedAt, originalVoided, resent}
 use Rattle.call_theorems.specs.JournalRest.{upTo, after}
 
 -- an entry written after the last

@@ -19,7 +19,7 @@ use Rattle.checks.proofs.Choices.{passed}
 use Rattle.rules.proofs.InOrder.{Fit}
 use Rattle.call_settle.specs.Settle.{settleRules, settle}
 use Rattle.batch_messages.specs.BatchMessages.{settlementMessage}
-use Rattle.state_effects.specs.StateEffects.{settles}
+use Rattle.effect_definitions.specs.StateEffects.{settles}
 use Rattle.numbers.proofs.Bounds.{within-yes}
 use Rattle.call_theorems.proofs.Refusing.{Fits, judged-fits, sent-fits}
 use Rattle.call_theorems.proofs.Phases.{moved, next-fit}

@@ -17,7 +17,7 @@ use Rattle.checks.proofs.Choices.{passed}
 use Rattle.rules.proofs.InOrder.{Fit}
 use Rattle.outgoing.specs.Outgoing.{reversalMessage}
 use Rattle.call_sign_on.specs.SignOn.{signedOnRules, signedOn}
-use Rattle.state_effects.specs.StateEffects.{adopts, on, again}
+use Rattle.effect_definitions.specs.StateEffects.{adopts, on, again}
 use Rattle.call_reversal.specs.SendReversal.{sendFrom, sendReversalRules, sendReversal}
 use Rattle.call_theorems.proofs.Refusing.{Fits, judged-fits, sent-fits}
 use Rattle.call_theorems.proofs.Phases.{signed-fit, again-fit}

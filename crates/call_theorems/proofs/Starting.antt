@@ -37,7 +37,7 @@ use Rattle.outgoing.specs.Outgoing.{requestMessage}
 use Rattle.call_start.proofs.Held.{found-for, entry-in-form}
 use Rattle.call_start.specs.Start.{originalOf, entryOf, namedBy, startRules, start}
 use Rattle.desk.specs.DeskRules.{deskInForm, requestOf}
-use Rattle.state_effects.specs.StateEffects.{requested}
+use Rattle.effect_definitions.specs.StateEffects.{requested}
 use Rattle.desk.specs.declared.Desk.{Desk}
 use Rattle.call_theorems.proofs.Refusing.{Fits, judged-fits, sent-fits}
 

@@ -27,8 +27,8 @@ use Rattle.state.specs.Calls.{Lent, lend, Result, refused, judged}
 use Rattle.rules.specs.Rules.{tooShort, due}
 use Rattle.answer_match.specs.Match.{approves, goodMac, endsReversal, closesBatch}
 use Rattle.approval.specs.Approval.{approvedEntry}
-use Rattle.state_effects.specs.StateEffects.{pendingOrUnanswered, failed, onReversal, onSettlement, onEnd}
-use Rattle.journal_effects.specs.JournalEffects.{changed, silent, silentIn, approved, onRequest, answered}
+use Rattle.effect_definitions.specs.StateEffects.{pendingOrUnanswered, failed, onReversal, onSettlement, onEnd}
+use Rattle.effect_definitions.specs.JournalEffects.{changed, silent, silentIn, approved, onRequest, answered}
 use Rattle.call_sign_on.specs.SignOn.{signedOn}
 use Rattle.call_start.specs.Start.{start}
 use Rattle.call_answer.specs.Answer.{noAnswer, withoutPower, powerReturned, answeredIn, readIn, answer}

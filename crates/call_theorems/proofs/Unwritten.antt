@@ -10,7 +10,7 @@ use Rattle.state.specs.declared.Request.{Request}
 use Rattle.state.specs.declared.Reversal.{Reversal}
 use Rattle.state.specs.declared.State.{State}
 use Rattle.answer_match.specs.Match.{approves, endsReversal, closesBatch}
-use Rattle.state_effects.specs.StateEffects.{pendingOrUnanswered, failed, onReversal, onSettlement, onEnd}
+use Rattle.effect_definitions.specs.StateEffects.{pendingOrUnanswered, failed, onReversal, onSettlement, onEnd}
 
 pub record Few (s t : State) : Type 0 where
   pub few : t .entries ≤ s .entries

@@ -33,8 +33,8 @@ use Rattle.rules.specs.Rules.{due}
 use Rattle.rules.proofs.InOrder.{InOrder, Fit}
 use Rattle.call_upload.specs.SendNextUpload.{sendsNext, uploadFrom, sendNextUploadRules, sendNextUpload}
 use Rattle.batch_messages.specs.BatchMessages.{itemMessage, endMessage}
-use Rattle.journal_effects.specs.JournalEffects.{resent}
-use Rattle.state_effects.specs.StateEffects.{ending}
+use Rattle.effect_definitions.specs.JournalEffects.{resent}
+use Rattle.effect_definitions.specs.StateEffects.{ending}
 use Rattle.numbers.proofs.Bounds.{within-yes}
 use Rattle.call_theorems.proofs.Refusing.{Fits, judged-fits, sent-fits}
 use Rattle.call_theorems.proofs.Phases.{moved, next-fit}

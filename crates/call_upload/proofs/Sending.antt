@@ -40,8 +40,8 @@ use Rattle.outgoing.specs.Outgoing.{lengthOf}
 use Rattle.outgoing.proofs.Leaving.{written-is}
 use Rattle.call_upload.specs.SendNextUpload.{sendNextUploadRules, sendsItem, sendsEnd, sendsNext, uploadFrom, sendNextUpload}
 use Rattle.batch_messages.specs.BatchMessages.{itemFields, itemMessage, endFields, endMessage}
-use Rattle.journal_effects.specs.JournalEffects.{resent}
-use Rattle.state_effects.specs.StateEffects.{ending}
+use Rattle.effect_definitions.specs.JournalEffects.{resent}
+use Rattle.effect_definitions.specs.StateEffects.{ending}
 use Rattle.batch_messages.proofs.Held.{EntryHeld, item-held, end-held, upload-listed}
 use Rattle.outgoing.specs.Held.{SettingsHeld}
 

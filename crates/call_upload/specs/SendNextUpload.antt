@@ -17,8 +17,8 @@ use Rattle.checks.specs.Checks.{Rule, rule, firstBroken}
 use Rattle.state.specs.Calls.{Lent, withJournal, Result, judged, quiet, sends}
 use Rattle.rules.specs.Rules.{idleRules, due}
 use Rattle.batch_messages.specs.BatchMessages.{itemMessage, endMessage}
-use Rattle.state_effects.specs.StateEffects.{ending}
-use Rattle.journal_effects.specs.JournalEffects.{resent}
+use Rattle.effect_definitions.specs.StateEffects.{ending}
+use Rattle.effect_definitions.specs.JournalEffects.{resent}
 
 abbrev pub sendNextUploadRules : State → Lent → List Rule
 sendNextUploadRules s lent = idleRules s lent ++ (rule 14 (not (isUploading s)) ∷ [])

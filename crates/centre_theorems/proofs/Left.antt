@@ -42,7 +42,7 @@ use Rattle.call_sign_on.specs.SignOn.{signedOnRules, signedOn}
 use Rattle.call_start.specs.Start.{originalOf, entryOf, namedBy, startRules, start}
 use Rattle.desk.specs.DeskRules.{requestOf}
 use Rattle.call_reversal.specs.SendReversal.{sendFrom, sendReversalRules, sendReversal}
-use Rattle.state_effects.specs.StateEffects.{again}
+use Rattle.effect_definitions.specs.StateEffects.{again}
 use Rattle.call_settle.specs.Settle.{settleRules, settle}
 use Rattle.batch_messages.specs.BatchMessages.{settlementFields, settlementMessage, itemFields, itemMessage, endFields, endMessage}
 use Rattle.call_upload.specs.SendNextUpload.{sendsNext, uploadFrom, sendNextUploadRules, sendNextUpload}

@@ -22,10 +22,10 @@ use Rattle.rules.proofs.InOrder.{Fit}
 use Rattle.answer_match.specs.Match as terminal
 use Rattle.answer_match.specs.Match.{isAnswer, matchesSent, holdsNamed, indicatorSent, approves, approvalHolds, goodMac, endsReversal}
 use Rattle.approval.specs.Approval.{approvedEntry}
-use Rattle.journal_effects.specs.JournalEffects as effects
+use Rattle.effect_definitions.specs.JournalEffects as effects
 use Rattle.call_answer.specs.Answer.{traceSent}
-use Rattle.journal_effects.specs.JournalEffects.{changed, onRequest, onItem, answered}
-use Rattle.state_effects.specs.StateEffects.{pendingOrUnanswered, failed, onReversal, onSettlement, onEnd}
+use Rattle.effect_definitions.specs.JournalEffects.{changed, onRequest, onItem, answered}
+use Rattle.effect_definitions.specs.StateEffects.{pendingOrUnanswered, failed, onReversal, onSettlement, onEnd}
 use Rattle.history.specs.Words.{messageIn, amountIn, isMatching, closesBatch}
 use Rattle.history.specs.History as history
 use Rattle.history.specs.History.{declined, reversed, deciding, out, ended, Request, Account, becomes, approvedFor, byFate, whenHeard, decided, afterAnswer}

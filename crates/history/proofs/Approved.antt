@@ -38,7 +38,7 @@ use Rattle.state_rules.proofs.Holds.{request-holds}
 use Rattle.answer_match.specs.Match.{approves, approvalHolds}
 use Rattle.approval.specs.Approval.{approvedEntry}
 use Rattle.approval.proofs.Approval.{shaped, in-form}
-use Rattle.journal_effects.specs.JournalEffects.{voidedAt, originalVoided, approved}
+use Rattle.effect_definitions.specs.JournalEffects.{voidedAt, originalVoided, approved}
 use Rattle.history.specs.Words.{messageIn}
 
 -- the journal in which an original is voided: as long, and of the same totals

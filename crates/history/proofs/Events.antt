@@ -20,10 +20,10 @@ use Rattle.checks.proofs.Choices.{passed}
 use Rattle.rules.specs.Rules.{rules12}
 use Rattle.rules.proofs.InOrder.{Fit, fit}
 use Rattle.call_sign_on.specs.SignOn.{signedOnRules, signedOn}
-use Rattle.state_effects.specs.StateEffects.{adopts}
+use Rattle.effect_definitions.specs.StateEffects.{adopts}
 use Rattle.answer_match.specs.Match.{isAnswer}
 use Rattle.call_answer.specs.Answer.{quietly, noAnswerRules, noAnswer, withoutPower, powerReturned, answersIn, answeredIn, answerRules, answerIn, readIn, answer}
-use Rattle.journal_effects.specs.JournalEffects.{silentIn}
+use Rattle.effect_definitions.specs.JournalEffects.{silentIn}
 use Rattle.terminal.specs.Events.{Event, signed-on, starts, answers, no-answer, power-returned, send-reversal, settles, send-next-upload, call}
 use Rattle.terminal.specs.Shapes.{EventShaped}
 use Rattle.history.specs.Words.{messageIn}

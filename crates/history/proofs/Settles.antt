@@ -32,9 +32,9 @@ use Rattle.rules.specs.Rules.{due}
 use Rattle.rules.proofs.InOrder.{Fit}
 use Rattle.call_settle.specs.Settle.{settleRules, settle}
 use Rattle.batch_messages.specs.BatchMessages.{settlementMessage, itemMessage, endMessage}
-use Rattle.state_effects.specs.StateEffects as effects
+use Rattle.effect_definitions.specs.StateEffects as effects
 use Rattle.call_upload.specs.SendNextUpload.{sendsNext, uploadFrom, sendNextUploadRules, sendNextUpload}
-use Rattle.journal_effects.specs.JournalEffects.{resent}
+use Rattle.effect_definitions.specs.JournalEffects.{resent}
 use Rattle.terminal.specs.Events.{settles, send-next-upload}
 use Rattle.history.specs.Words.{messageIn}
 use Rattle.history.specs.History.{sent, Request, Account, whenGiven}

@@ -18,8 +18,8 @@ use Rattle.state.specs.declared.Phase.the-variants.{Resting, Waiting, Pending}
 use Rattle.state.specs.declared.State.{State}
 use Rattle.state.specs.declared.Count.the-variants.{GivenUp, Unanswered}
 use Rattle.state.specs.State.{inPhase, counted}
-use Rattle.journal_effects.specs.JournalEffects.{Changed, marked, silentMark, silent}
-use Rattle.state_effects.specs.StateEffects.{pendingOrUnanswered, failed}
+use Rattle.effect_definitions.specs.JournalEffects.{Changed, marked, silentMark, silent}
+use Rattle.effect_definitions.specs.StateEffects.{pendingOrUnanswered, failed}
 use Rattle.history.specs.Words.{kindIn}
 use Rattle.history.specs.History as history
 use Rattle.history.specs.History.{Ending, approved, given-up, unanswered, Fate, deciding, pending, out, ended, Request, Account, becomes, endedAs, isWaiting, byFate, whenSilent}

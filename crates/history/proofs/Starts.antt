@@ -26,7 +26,7 @@ use Rattle.outgoing.specs.Held.{CardHeld}
 use Rattle.outgoing.specs.Outgoing.{requestMessage, reversalMessage}
 use Rattle.call_start.specs.Start.{originalOf, entryOf, namedBy, startRules, start}
 use Rattle.desk.specs.DeskRules.{requestOf}
-use Rattle.state_effects.specs.StateEffects.{requested, again}
+use Rattle.effect_definitions.specs.StateEffects.{requested, again}
 use Rattle.desk.specs.declared.Desk.{Desk}
 use Rattle.call_start.proofs.Refusals.{unbroken}
 use Rattle.call_start.proofs.Held.{may-send}

@@ -39,8 +39,8 @@ use Rattle.state_rules.proofs.Holds.{request-holds}
 use Rattle.answer_match.specs.Match as match
 use Rattle.answer_match.specs.Match.{isAnswer, matchesSent, indicatorSent, holdsNamed, approves, goodMac, approvalHolds, endsReversal}
 use Rattle.approval.specs.Approval.{approvedEntry}
-use Rattle.state_effects.specs.StateEffects.{pendingOrUnanswered, failed, onReversal, onSettlement, onEnd}
-use Rattle.journal_effects.specs.JournalEffects.{Changed, changed, marked, silent, silentIn, voidedAt, originalVoided, approved, onRequest, onItem, answered, resent}
+use Rattle.effect_definitions.specs.StateEffects.{pendingOrUnanswered, failed, onReversal, onSettlement, onEnd}
+use Rattle.effect_definitions.specs.JournalEffects.{Changed, changed, marked, silent, silentIn, voidedAt, originalVoided, approved, onRequest, onItem, answered, resent}
 use Rattle.call_sign_on.specs.SignOn.{signedOn}
 use Rattle.call_start.specs.Start.{start}
 use Rattle.call_answer.specs.Answer.{traceSent, quietly, noAnswer, withoutPower, powerReturned, answersIn, answeredIn, answerRules, readIn, answer}

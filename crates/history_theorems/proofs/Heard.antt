@@ -27,8 +27,8 @@ use Rattle.state.specs.State.{inPhase, counted, closed}
 use Rattle.answer_match.specs.Match as match
 use Rattle.answer_match.specs.Match.{isAnswer, indicatorSent, holdsNamed, approves, goodMac, endsReversal}
 use Rattle.approval.specs.Approval.{approvedEntry}
-use Rattle.state_effects.specs.StateEffects.{pendingOrUnanswered, failed, onReversal, onSettlement, onEnd}
-use Rattle.journal_effects.specs.JournalEffects.{Changed, changed, silent, silentIn, approved, onRequest, answered}
+use Rattle.effect_definitions.specs.StateEffects.{pendingOrUnanswered, failed, onReversal, onSettlement, onEnd}
+use Rattle.effect_definitions.specs.JournalEffects.{Changed, changed, silent, silentIn, approved, onRequest, answered}
 use Rattle.call_answer.specs.Answer.{traceSent}
 use Rattle.history.specs.Words.{messageIn, isRequest, isSettlement, isMatching, holdsItsFields, closesBatch}
 use Rattle.history.proofs.Said.{Says}

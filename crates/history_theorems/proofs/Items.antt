@@ -40,7 +40,7 @@ use Rattle.batch_messages.specs.BatchMessages.{itemFields, itemMessage, endFiel
 use Rattle.batch_messages.proofs.Held.{EntryHeld, item-held, end-held, upload-listed}
 use Rattle.outgoing.specs.Held.{SettingsHeld}
 use Rattle.outgoing_theorems.specs.Theorems.{Reads}
-use Rattle.journal_effects.specs.JournalEffects.{silentIn, resent}
+use Rattle.effect_definitions.specs.JournalEffects.{silentIn, resent}
 use Rattle.call_sign_on.specs.SignOn.{signedOn}
 use Rattle.call_start.specs.Start.{start}
 use Rattle.call_answer.specs.Answer.{quietly, noAnswerRules, noAnswer, withoutPower, powerReturned, answersIn, answeredIn, answerRules, readIn, answer}

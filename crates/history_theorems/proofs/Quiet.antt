@@ -23,11 +23,11 @@ use Rattle.state.specs.State as state
 use Rattle.state.specs.State.{inPhase, waits, pends}
 use Rattle.state.specs.Calls.{Lent, judged, refused, quiet}
 use Rattle.checks.specs.Checks.{firstBroken}
-use Rattle.state_effects.specs.StateEffects as effects
-use Rattle.state_effects.specs.StateEffects.{on}
+use Rattle.effect_definitions.specs.StateEffects as effects
+use Rattle.effect_definitions.specs.StateEffects.{on}
 use Rattle.call_sign_on.specs.SignOn.{signedOnRules, signedOn}
 use Rattle.call_answer.specs.Answer.{traceSent, quietly, noAnswerRules, noAnswer, withoutPower, powerReturned, answerIn, readIn, answer}
-use Rattle.journal_effects.specs.JournalEffects.{silentIn, answered}
+use Rattle.effect_definitions.specs.JournalEffects.{silentIn, answered}
 use Rattle.answer_match.specs.Match.{isAnswer}
 use Rattle.terminal.specs.Events.{Event, signed-on, answers, no-answer, power-returned}
 use Rattle.history.specs.Words.{messageIn, isMatching}

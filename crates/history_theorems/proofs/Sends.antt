@@ -48,8 +48,8 @@ use Rattle.outgoing.proofs.Leaving.{reversal-held, reversal-listed}
 use Rattle.outgoing_theorems.specs.Theorems.{Reads}
 use Rattle.batch_messages.specs.BatchMessages.{settlementFields, settlementMessage, itemMessage, endFields, endMessage}
 use Rattle.batch_messages.proofs.Held.{settlement-held, settlement-listed, end-held, upload-listed}
-use Rattle.state_effects.specs.StateEffects.{again}
-use Rattle.journal_effects.specs.JournalEffects.{resent}
+use Rattle.effect_definitions.specs.StateEffects.{again}
+use Rattle.effect_definitions.specs.JournalEffects.{resent}
 use Rattle.call_reversal.specs.SendReversal.{sendReversalRules, sendFrom, sendReversal}
 use Rattle.call_settle.specs.Settle.{settleRules, settleNow, settle}
 use Rattle.call_upload.specs.SendNextUpload.{sendNextUploadRules, sendsNext, uploadFrom, sendNextUpload}

@@ -42,7 +42,7 @@ use Rattle.outgoing.specs.Held.{CardHeld, OriginalHeld}
 use Rattle.outgoing.specs.Outgoing.{field61, originalFields, requestFields, requestMessage}
 use Rattle.outgoing.proofs.Leaving.{request-held, request-listed}
 use Rattle.outgoing.specs.declared.Original.{Original}
-use Rattle.state_effects.specs.StateEffects.{requested}
+use Rattle.effect_definitions.specs.StateEffects.{requested}
 use Rattle.desk.specs.declared.Desk.{Desk}
 use Rattle.desk.specs.DeskRules.{requestOf, restRules, deskRules, journalRules}
 use Rattle.call_start.specs.Start.{originalOf, entryOf, namedBy, startRules, start}

@@ -33,8 +33,8 @@ use Rattle.rules.proofs.InOrder.{Fit}
 use Rattle.answer_match.specs.Match as match
 use Rattle.answer_match.specs.Match.{isAnswer, matchesSent, indicatorSent, holdsNamed, approves, goodMac, approvalHolds, endsReversal}
 use Rattle.approval.specs.Approval.{approvedEntry}
-use Rattle.state_effects.specs.StateEffects.{pendingOrUnanswered, failed, onReversal, onSettlement, onEnd}
-use Rattle.journal_effects.specs.JournalEffects.{Changed, changed, marked, silentMark, silent, silentIn, voidedAt, originalVoided, approved, onRequest, onItem, answered}
+use Rattle.effect_definitions.specs.StateEffects.{pendingOrUnanswered, failed, onReversal, onSettlement, onEnd}
+use Rattle.effect_definitions.specs.JournalEffects.{Changed, changed, marked, silentMark, silent, silentIn, voidedAt, originalVoided, approved, onRequest, onItem, answered}
 use Rattle.call_answer.specs.Answer.{traceSent}
 use Rattle.history.specs.Words.{messageIn, isRequest, isEnd, closesBatch}
 use Rattle.history.proofs.Sent.{Typed, reversal-typed, settlement-typed, item-typed, end-typed}

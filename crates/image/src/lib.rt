@@ -1,5 +1,6 @@
 // The image of the state: its bytes, of one length, with the version of the format at the front. WIDTHS is the layout: a row for each
 // number of the state.
+use image_definitions::Reading;
 use numbers::Batch;
 use numbers::Trace;
 use state::Awaited;
@@ -16,8 +17,8 @@ ghost use Prim.Native.Nat.{_+_, _%_, _^_, _≤_};
 ghost use lib.ListN.{length, drop};
 ghost use lib.Seq.{paste};
 ghost use Rattle.field.specs.Bitmap.{wordOf};
-ghost use Rattle.image.specs.Layout.{widths, rows, size, bytesOf, numbersIn};
-ghost use Rattle.image.specs.Image.{reasonValue, requestValues, reversalValues, plainValues, awaitedValues, phaseValues, signedValue, memberValues, settingsValues, countsValues, valuesOf, image, merchantOf, settingsOf, countsOf, requestOf, reasonOf, reversalOf, phaseOf, stateOf, refused, readImage};
+ghost use Rattle.image_definitions.specs.Layout.{widths, rows, size, bytesOf, numbersIn};
+ghost use Rattle.image_definitions.specs.Image.{reasonValue, requestValues, reversalValues, plainValues, awaitedValues, phaseValues, signedValue, memberValues, settingsValues, countsValues, valuesOf, image, merchantOf, settingsOf, countsOf, requestOf, reasonOf, reversalOf, phaseOf, stateOf, refused, readImage};
 
 // The bytes of an image.
 pub const SIZE: usize = 106;
@@ -57,12 +58,6 @@ const WIDTHS: [usize; ROWS] = [
     1, // sendings of its reversal
     4, // trace of a settlement or an upload's end, place of an item
 ];
-
-// The state that bytes hold, where they are accepted; else a fresh one of zero settings.
-pub struct Reading {
-    pub accepted: bool,
-    pub state: State,
-}
 
 // The image of a state.
 pub fn image_of(s: State) -> [u8; SIZE]

@@ -8,7 +8,7 @@ use Rattle.state.specs.declared.Phase.{Phase}
 use Rattle.state.specs.declared.Phase.the-variants.{Resting, Waiting, Pending, Settling, Uploading}
 use Rattle.state.specs.declared.State.{State}
 use Rattle.state.specs.State.{waits}
-use Rattle.journal_effects.specs.JournalEffects.{Changed, changed, silent, silentIn}
+use Rattle.effect_definitions.specs.JournalEffects.{Changed, changed, silent, silentIn}
 
 -- silence where nothing is awaited changes nothing
 pub nothing-silent : (p : Phase) (s : State) (j : List ℕ) → waits p ≡ false → silentIn p s j ≡ changed s j

@@ -12,7 +12,7 @@ ghost use mathlib.Core.Path.{_≡_};
 ghost use Prim.Native.Nat.{_+_, _<_};
 ghost use Rattle.journal.specs.Journal.{entriesOf, entryAt};
 ghost use Rattle.state.specs.State.{CountsBounded};
-ghost use Rattle.journal_effects.specs.JournalEffects.{changed, silentMark, marked, silent, silentIn, voidedAt, originalVoided, approved, onRequest, onItem, answered, resent};
+ghost use Rattle.effect_definitions.specs.JournalEffects.{changed, silentMark, marked, silent, silentIn, voidedAt, originalVoided, approved, onRequest, onItem, answered, resent};
 
 // What silence leaves of what is awaited.
 pub fn silent(s: State, a: Awaited, journal: &mut [u8]) -> State

@@ -13,7 +13,7 @@ ghost use mathlib.Core.Path.{_≡_};
 ghost use Prim.Native.Nat.{_+_, _<_, _≤_};
 ghost use Rattle.numbers.specs.Limits.{mostEntries, mostSendings};
 ghost use Rattle.state.specs.State.{CountsSmall, CountsBounded, counted, inPhase};
-ghost use Rattle.state_effects.specs.StateEffects.{adopts, on, requested, pendingOrUnanswered, failed, oneMore, onReversal, onSettlement, onEnd, again, settles, ending};
+ghost use Rattle.effect_definitions.specs.StateEffects.{adopts, on, requested, pendingOrUnanswered, failed, oneMore, onReversal, onSettlement, onEnd, again, settles, ending};
 
 // Whether signing on adopts the batch number: no card request has left in this batch, and the terminal rests.
 pub fn adopts(s: State) -> bool

@@ -25,12 +25,12 @@ use Rattle.outgoing.specs.Outgoing.{requestMessage, reversalMessage}
 use Rattle.call_start.specs.Start.{originalOf, start}
 use Rattle.desk.specs.DeskRules.{deskInForm}
 use Rattle.call_sign_on.specs.SignOn.{signedOn}
-use Rattle.state_effects.specs.StateEffects.{adopts, pendingOrUnanswered, failed, onReversal, onSettlement, onEnd}
+use Rattle.effect_definitions.specs.StateEffects.{adopts, pendingOrUnanswered, failed, onReversal, onSettlement, onEnd}
 use Rattle.call_reversal.specs.SendReversal.{sendReversal}
 use Rattle.answer_match.specs.Match.{matchesSent, approvalHolds, isAnswer, goodMac, endsReversal, closesBatch}
 use Rattle.approval.specs.Approval.{fieldOr, zeroFilled, approvedEntry}
 use Rattle.call_answer.specs.Answer.{noAnswer, answer}
-use Rattle.journal_effects.specs.JournalEffects.{silentMark, silent, originalVoided, approved, onRequest, onItem, answered, resent}
+use Rattle.effect_definitions.specs.JournalEffects.{silentMark, silent, originalVoided, approved, onRequest, onItem, answered, resent}
 use Rattle.call_settle.specs.Settle.{settle}
 use Rattle.batch_messages.specs.BatchMessages.{settlementMessage, itemMessage, endMessage}
 use Rattle.call_upload.specs.SendNextUpload.{sendNextUpload}

@@ -36,11 +36,11 @@ use Rattle.state_rules.specs.StateRules.{settingsInForm, stateInForm, past, sum
 use Rattle.rules.proofs.InOrder.{Fit}
 use Rattle.outgoing.specs.Outgoing.{requestMessage}
 use Rattle.call_sign_on.specs.SignOn.{signedOn}
-use Rattle.state_effects.specs.StateEffects.{adopts, requested, oneMore}
+use Rattle.effect_definitions.specs.StateEffects.{adopts, requested, oneMore}
 use Rattle.approval.specs.Approval.{approvedEntry}
 use Rattle.approval.proofs.Approval.{shaped}
 use Rattle.call_answer.specs.Answer.{answer}
-use Rattle.journal_effects.specs.JournalEffects.{originalVoided, approved, onRequest, answered as answeredBy}
+use Rattle.effect_definitions.specs.JournalEffects.{originalVoided, approved, onRequest, answered as answeredBy}
 use Rattle.call_theorems.proofs.Back.{ready-fits, fit-ready}
 use Rattle.call_theorems.proofs.Refusing.{Fits}
 use Rattle.call_theorems.proofs.Signing.{signed-on-fits}

@@ -20,7 +20,7 @@ use Rattle.rules.proofs.InOrder.{Fit}
 use Rattle.outgoing.specs.Outgoing.{requestMessage}
 use Rattle.call_start.specs.Start.{start}
 use Rattle.desk.specs.DeskRules.{deskInForm}
-use Rattle.state_effects.specs.StateEffects.{requested}
+use Rattle.effect_definitions.specs.StateEffects.{requested}
 use Rattle.desk.specs.declared.Desk.{Desk}
 use Rattle.call_theorems.proofs.Back.{fit-ready}
 use Rattle.worked.specs.Desk.{settings}

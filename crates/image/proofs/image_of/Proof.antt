@@ -3,9 +3,9 @@ use mathlib.Core.Path.{refl}
 use Prim.Native.Nat.{_-_}
 use native.Mathlib.Omega.{arith}
 use borrow.Author.Needs.{needs}
-use Rattle.image.specs.Layout.{widths}
-use Rattle.image.specs.Image.{image}
-use Rattle.image.proofs.Laid.{WrittenTo, written-none, written-more, written-done, placed-within}
+use Rattle.image_definitions.specs.Layout.{widths}
+use Rattle.image_definitions.specs.Image.{image}
+use Rattle.image_definitions.proofs.Laid.{WrittenTo, written-none, written-more, written-done, placed-within}
 use Rattle.image.proofs.image_of.Statement.{statement}
 use Rattle.image.proofs.image_of.Tie as tie
 

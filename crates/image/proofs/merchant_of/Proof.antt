@@ -1,7 +1,7 @@
 -- `image::merchant_of` meets its contract: the two numbers are put one after the other.
 use native.Mathlib.Omega.{arith}
 use borrow.Author.Needs.{needs}
-use Rattle.image.proofs.Values.{merchant-room, merchant-put}
+use Rattle.image_definitions.proofs.Values.{merchant-room, merchant-put}
 use Rattle.image.proofs.merchant_of.Statement.{statement}
 use Rattle.image.proofs.merchant_of.Tie as tie
 

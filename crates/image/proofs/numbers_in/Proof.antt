@@ -3,9 +3,9 @@ use mathlib.Core.Path.{refl}
 use Prim.Native.Nat.{_-_}
 use native.Mathlib.Omega.{arith}
 use borrow.Author.Needs.{needs}
-use Rattle.image.specs.Layout.{widths}
-use Rattle.image.proofs.Laid.{ReadTo, read-none, read-more, read-done, placed-within}
-use Rattle.image.proofs.Bounds.{width-small}
+use Rattle.image_definitions.specs.Layout.{widths}
+use Rattle.image_definitions.proofs.Laid.{ReadTo, read-none, read-more, read-done, placed-within}
+use Rattle.image_definitions.proofs.Bounds.{width-small}
 use Rattle.image.proofs.numbers_in.Statement.{statement}
 use Rattle.image.proofs.numbers_in.Tie as tie
 

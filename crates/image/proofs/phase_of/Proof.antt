@@ -1,7 +1,7 @@
 -- `image::phase_of` meets its contract: the phases stand in the order of their numbers.
 use denote.Ref.{now}
 use borrow.Author.Needs.{needs}
-use Rattle.image.proofs.Found.{phase-past, phase-found}
+use Rattle.image_definitions.proofs.Found.{phase-past, phase-found}
 use Rattle.image.proofs.phase_of.Statement.{statement}
 use Rattle.image.proofs.phase_of.Tie as tie
 

@@ -1,7 +1,7 @@
 -- `image::put_number` meets its contract: what is stored so far is the end of the bytes.
 use lib.ListN.{length}
 use borrow.Author.Needs.{needs}
-use Rattle.image.proofs.Laid.{Spelled, spelled-none, spelled-more, spelled-done}
+use Rattle.image_definitions.proofs.Laid.{Spelled, spelled-none, spelled-more, spelled-done}
 use Rattle.image.proofs.put_number.Statement.{statement}
 use Rattle.image.proofs.put_number.Tie as tie
 

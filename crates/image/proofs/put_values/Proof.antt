@@ -7,7 +7,7 @@ use lib.ListN.{length}
 use lib.Seq.{paste, paste-zero, paste-suc}
 use denote.Ref.{now}
 use borrow.Author.Needs.{needs}
-use Rattle.image.specs.Layout.{rows}
+use Rattle.image_definitions.specs.Layout.{rows}
 use Rattle.image.proofs.put_values.Statement.{statement}
 use Rattle.image.proofs.put_values.Tie as tie
 

@@ -1,7 +1,7 @@
 -- `image::state_of` meets its contract.
 use lib.Dec.{lit<}
 use borrow.Author.Needs.{needs}
-use Rattle.image.specs.Image.{stateOf}
+use Rattle.image_definitions.specs.Image.{stateOf}
 use Rattle.image.proofs.state_of.Statement.{statement}
 use Rattle.image.proofs.state_of.Tie as tie
 

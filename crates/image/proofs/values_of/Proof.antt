@@ -1,6 +1,6 @@
 -- `image::values_of` meets its contract: the numbers are put group by group.
 use borrow.Author.Needs.{needs}
-use Rattle.image.proofs.Values.{values-put}
+use Rattle.image_definitions.proofs.Values.{values-put}
 use Rattle.image.proofs.values_of.Statement.{statement}
 use Rattle.image.proofs.values_of.Tie as tie
 

@@ -1,6 +1,6 @@
 -- `journal_effects::answered` meets its contract.
 use borrow.Author.Needs.{needs}
-use Rattle.journal_effects.specs.JournalEffects.{answered}
+use Rattle.effect_definitions.specs.JournalEffects.{answered}
 use Rattle.journal_effects.proofs.answered.Statement.{statement}
 use Rattle.journal_effects.proofs.answered.Tie as tie
 

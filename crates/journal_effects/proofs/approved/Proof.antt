@@ -1,6 +1,6 @@
 -- `journal_effects::approved` meets its contract.
 use borrow.Author.Needs.{needs}
-use Rattle.journal_effects.specs.JournalEffects.{approved}
+use Rattle.effect_definitions.specs.JournalEffects.{approved}
 use Rattle.journal_effects.proofs.approved.Statement.{statement}
 use Rattle.journal_effects.proofs.approved.Tie as tie
 

@@ -1,6 +1,6 @@
 -- `journal_effects::on_item` meets its contract.
 use borrow.Author.Needs.{needs}
-use Rattle.journal_effects.specs.JournalEffects.{onItem}
+use Rattle.effect_definitions.specs.JournalEffects.{onItem}
 use Rattle.journal_effects.proofs.on_item.Statement.{statement}
 use Rattle.journal_effects.proofs.on_item.Tie as tie
 

@@ -1,6 +1,6 @@
 -- `journal_effects::on_request` meets its contract.
 use borrow.Author.Needs.{needs}
-use Rattle.journal_effects.specs.JournalEffects.{onRequest}
+use Rattle.effect_definitions.specs.JournalEffects.{onRequest}
 use Rattle.journal_effects.proofs.on_request.Statement.{statement}
 use Rattle.journal_effects.proofs.on_request.Tie as tie
 

@@ -1,7 +1,7 @@
 -- `journal_effects::resend` meets its contract.
 use borrow.Author.Needs.{needs}
 use borrow.Author.Tests.{eq-eqb, ne-eqb}
-use Rattle.journal_effects.specs.JournalEffects.{resent}
+use Rattle.effect_definitions.specs.JournalEffects.{resent}
 use Rattle.journal_effects.proofs.resend.Statement.{statement}
 use Rattle.journal_effects.proofs.resend.Tie as tie
 

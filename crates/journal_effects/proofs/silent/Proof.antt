@@ -1,6 +1,6 @@
 -- `journal_effects::silent` meets its contract.
 use borrow.Author.Needs.{needs}
-use Rattle.journal_effects.specs.JournalEffects.{silent}
+use Rattle.effect_definitions.specs.JournalEffects.{silent}
 use Rattle.journal_effects.proofs.silent.Statement.{statement}
 use Rattle.journal_effects.proofs.silent.Tie as tie
 

@@ -1,6 +1,6 @@
 -- `journal_effects::silent_mark` meets its contract.
 use borrow.Author.Tests.{eq-eqb, ne-eqb, le-leb, lt-leb}
-use Rattle.journal_effects.specs.JournalEffects.{silentMark}
+use Rattle.effect_definitions.specs.JournalEffects.{silentMark}
 use Rattle.journal_effects.proofs.silent_mark.Statement.{statement}
 use Rattle.journal_effects.proofs.silent_mark.Tie as tie
 

@@ -1,6 +1,6 @@
 -- `journal_effects::void_original` meets its contract.
 use borrow.Author.Needs.{needs}
-use Rattle.journal_effects.specs.JournalEffects.{originalVoided}
+use Rattle.effect_definitions.specs.JournalEffects.{originalVoided}
 use Rattle.journal_effects.proofs.void_original.Statement.{statement}
 use Rattle.journal_effects.proofs.void_original.Tie as tie
 

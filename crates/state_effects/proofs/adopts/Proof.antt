@@ -1,6 +1,6 @@
 -- `state_effects::adopts` meets its contract.
 use borrow.Author.Needs.{needs}
-use Rattle.state_effects.specs.StateEffects.{adopts}
+use Rattle.effect_definitions.specs.StateEffects.{adopts}
 use Rattle.state_effects.proofs.adopts.Statement.{statement}
 use Rattle.state_effects.proofs.adopts.Tie as tie
 

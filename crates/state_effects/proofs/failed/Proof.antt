@@ -1,7 +1,7 @@
 -- `state_effects::failed` meets its contract.
 use borrow.Author.Needs.{needs}
 use borrow.Author.Tests.{le-leb, lt-leb}
-use Rattle.state_effects.specs.StateEffects.{failed}
+use Rattle.effect_definitions.specs.StateEffects.{failed}
 use Rattle.state_effects.proofs.failed.Statement.{statement}
 use Rattle.state_effects.proofs.failed.Tie as tie
 

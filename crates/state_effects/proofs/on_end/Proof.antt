@@ -1,6 +1,6 @@
 -- `state_effects::on_end` meets its contract.
 use borrow.Author.Needs.{needs}
-use Rattle.state_effects.specs.StateEffects.{onEnd}
+use Rattle.effect_definitions.specs.StateEffects.{onEnd}
 use Rattle.state_effects.proofs.on_end.Statement.{statement}
 use Rattle.state_effects.proofs.on_end.Tie as tie
 

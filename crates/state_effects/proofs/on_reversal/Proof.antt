@@ -1,6 +1,6 @@
 -- `state_effects::on_reversal` meets its contract.
 use borrow.Author.Needs.{needs}
-use Rattle.state_effects.specs.StateEffects.{onReversal}
+use Rattle.effect_definitions.specs.StateEffects.{onReversal}
 use Rattle.state_effects.proofs.on_reversal.Statement.{statement}
 use Rattle.state_effects.proofs.on_reversal.Tie as tie
 

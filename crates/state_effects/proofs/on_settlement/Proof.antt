@@ -1,6 +1,6 @@
 -- `state_effects::on_settlement` meets its contract.
 use borrow.Author.Needs.{needs}
-use Rattle.state_effects.specs.StateEffects.{onSettlement}
+use Rattle.effect_definitions.specs.StateEffects.{onSettlement}
 use Rattle.state_effects.proofs.on_settlement.Statement.{statement}
 use Rattle.state_effects.proofs.on_settlement.Tie as tie
 

@@ -1,6 +1,6 @@
 -- `state_effects::pending_or_unanswered` meets its contract.
 use borrow.Author.Needs.{needs}
-use Rattle.state_effects.specs.StateEffects.{pendingOrUnanswered}
+use Rattle.effect_definitions.specs.StateEffects.{pendingOrUnanswered}
 use Rattle.state_effects.proofs.pending_or_unanswered.Statement.{statement}
 use Rattle.state_effects.proofs.pending_or_unanswered.Tie as tie
 

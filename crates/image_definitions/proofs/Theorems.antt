@@ -10,14 +10,14 @@ use borrow.Author.Tests.{eqb-true}
 use Rattle.digits.specs.Lists.{sameBytes}
 use Rattle.digits.proofs.Lists.{all-at, same-bytes}
 use Rattle.state.specs.declared.State.{State}
-use Rattle.image.specs.Layout.{widths, numbersIn}
-use Rattle.image.specs.Image.{valuesOf, image, stateOf, accepted, refused, judged, readImage}
-use Rattle.image.specs.declared.Reading.{Reading}
-use Rattle.image.specs.Sized.{Bytes, Sized}
-use Rattle.image.specs.Theorems.{ImageLength, ImageReadsBack, ReadImagesBack, AcceptedNumbers, OthersRefused}
-use Rattle.image.proofs.Laid.{length-laid, numbers-laid, numbers-below}
-use Rattle.image.proofs.Values.{state-back, values-fit}
-use Rattle.image.proofs.Bounds.{sized-state}
+use Rattle.image_definitions.specs.Layout.{widths, numbersIn}
+use Rattle.image_definitions.specs.Image.{valuesOf, image, stateOf, accepted, refused, judged, readImage}
+use Rattle.image_definitions.specs.declared.Reading.{Reading}
+use Rattle.image_definitions.specs.Sized.{Bytes, Sized}
+use Rattle.image_definitions.specs.Theorems.{ImageLength, ImageReadsBack, ReadImagesBack, AcceptedNumbers, OthersRefused}
+use Rattle.image_definitions.proofs.Laid.{length-laid, numbers-laid, numbers-below}
+use Rattle.image_definitions.proofs.Values.{state-back, values-fit}
+use Rattle.image_definitions.proofs.Bounds.{sized-state}
 
 pub image-length : ImageLength
 unfolding image widths

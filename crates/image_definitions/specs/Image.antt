@@ -18,8 +18,8 @@ use Rattle.state.specs.declared.Phase.the-variants.{Resting, Waiting, Pending, 
 use Rattle.state.specs.declared.Settings.{Settings}
 use Rattle.state.specs.declared.Counts.{Counts}
 use Rattle.state.specs.declared.State.{State}
-use Rattle.image.specs.Layout.{widths, bytesOf, laidIn, numbersIn}
-use Rattle.image.specs.declared.Reading.{Reading}
+use Rattle.image_definitions.specs.Layout.{widths, bytesOf, laidIn, numbersIn}
+use Rattle.image_definitions.specs.declared.Reading.{Reading}
 
 -- the version of the format
 abbrev pub version : ℕ

@@ -20,10 +20,10 @@ use Rattle.state.specs.declared.Phase.the-variants.{Resting, Waiting, Pending, 
 use Rattle.state.specs.declared.Settings.{Settings}
 use Rattle.state.specs.declared.Counts.{Counts}
 use Rattle.state.specs.declared.State.{State}
-use Rattle.image.specs.Layout.{widths, rows, bytesOf}
-use Rattle.image.specs.Image.{version, reasonValue, requestValues, reversalValues, plainValues, phaseValues, signedValue, memberValues, settingsValues, countsValues, valuesOf, merchantOf, rowsFrom, settingsOf, countsOf, requestOf, reasonOf, reversalOf, phaseOf, stateOf}
-use Rattle.image.specs.Sized.{Bytes, SizedSettings, SizedCounts, SizedRequest, SizedReversal, SizedPhase, Sized}
-use Rattle.image.proofs.Laid.{Fits, fits-append, length-bytesOf, bytes-word, word-below, drop-bytes}
+use Rattle.image_definitions.specs.Layout.{widths, rows, bytesOf}
+use Rattle.image_definitions.specs.Image.{version, reasonValue, requestValues, reversalValues, plainValues, phaseValues, signedValue, memberValues, settingsValues, countsValues, valuesOf, merchantOf, rowsFrom, settingsOf, countsOf, requestOf, reasonOf, reversalOf, phaseOf, stateOf}
+use Rattle.image_definitions.specs.Sized.{Bytes, SizedSettings, SizedCounts, SizedRequest, SizedReversal, SizedPhase, Sized}
+use Rattle.image_definitions.proofs.Laid.{Fits, fits-append, length-bytesOf, bytes-word, word-below, drop-bytes}
 
 -- all the bytes of a list, as a number and again as bytes
 all-bytes : (n : ℕ) (b : List ℕ) → Bytes b → length b ≡ n → bytesOf n (wordOf n b) ≡ b

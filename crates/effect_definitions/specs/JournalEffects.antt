@@ -21,7 +21,7 @@ use Rattle.state.specs.declared.Reason.the-variants.{Silence, BadMac}
 use Rattle.state.specs.declared.Request.{Request}
 use Rattle.state.specs.declared.State.{State}
 use Rattle.state.specs.declared.Awaited.the-variants as awaited
-use Rattle.state_effects.specs.StateEffects.{pendingOrUnanswered, failed, oneMore, onReversal, onSettlement, onEnd}
+use Rattle.effect_definitions.specs.StateEffects.{pendingOrUnanswered, failed, oneMore, onReversal, onSettlement, onEnd}
 
 -- state and journal after a change
 pub record Changed : Type 0 where

@@ -10,10 +10,10 @@ use lib.Seq.{getD-take, getD-drop}
 use borrow.Author.Tests.{leb-true}
 use Rattle.digits.proofs.Lists.{all-at, getD-past}
 use Rattle.state.specs.declared.Phase.the-variants.{Resting}
-use Rattle.image.specs.Layout.{widths, bytesOf}
-use Rattle.image.specs.Image.{rowsFrom, settingsOf, countsOf, requestOf, reversalOf, phasesOf, stateOf}
-use Rattle.image.specs.Sized.{SizedSettings, SizedCounts, SizedRequest, SizedReversal, SizedPhase, Sized}
-use Rattle.image.proofs.Laid.{length-bytesOf, append-bytes, bytesOf-bytes}
+use Rattle.image_definitions.specs.Layout.{widths, bytesOf}
+use Rattle.image_definitions.specs.Image.{rowsFrom, settingsOf, countsOf, requestOf, reversalOf, phasesOf, stateOf}
+use Rattle.image_definitions.specs.Sized.{SizedSettings, SizedCounts, SizedRequest, SizedReversal, SizedPhase, Sized}
+use Rattle.image_definitions.proofs.Laid.{length-bytesOf, append-bytes, bytesOf-bytes}
 
 pub rows-at : (at n : ℕ) (v : List ℕ) (i : ℕ) → i < n → getD (rowsFrom at n v) i 0 ≡ getD v (at + i) 0
 rows-at at n v i h = getD-take n _ i 0 h ∙ getD-drop at v i 0

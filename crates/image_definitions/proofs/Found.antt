@@ -14,10 +14,10 @@ use Rattle.state.specs.declared.Awaited.the-variants as awaited
 use Rattle.state.specs.declared.Phase.{Phase}
 use Rattle.state.specs.declared.Phase.the-variants.{Resting, Waiting, Pending, Settling, Uploading}
 use Rattle.state.specs.declared.State.{State}
-use Rattle.image.specs.Layout.{widths, size, numbersIn}
-use Rattle.image.specs.Image.{bitsOf, reversalOf, phasesOf, phaseOf, image, stateOf, accepted, refused, judged, readImage}
-use Rattle.image.specs.declared.Reading.{Reading}
-use Rattle.image.proofs.Theorems.{image-length}
+use Rattle.image_definitions.specs.Layout.{widths, size, numbersIn}
+use Rattle.image_definitions.specs.Image.{bitsOf, reversalOf, phasesOf, phaseOf, image, stateOf, accepted, refused, judged, readImage}
+use Rattle.image_definitions.specs.declared.Reading.{Reading}
+use Rattle.image_definitions.proofs.Theorems.{image-length}
 
 -- what a list holds before its end does not depend on the default
 getD-any : {A : Type 0} (l : List A) (i : ℕ) (d e : A) → i < length l → getD l i d ≡ getD l i e

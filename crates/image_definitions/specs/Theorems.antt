@@ -4,9 +4,9 @@ use mathlib.Core.List.{List}
 use Prim.Native.Nat.{ℕ}
 use lib.ListN.{length}
 use Rattle.state.specs.declared.State.{State}
-use Rattle.image.specs.Layout.{widths, size, numbersIn}
-use Rattle.image.specs.Image.{valuesOf, image, readImage, accepted, refused}
-use Rattle.image.specs.Sized.{Bytes, Sized}
+use Rattle.image_definitions.specs.Layout.{widths, size, numbersIn}
+use Rattle.image_definitions.specs.Image.{valuesOf, image, readImage, accepted, refused}
+use Rattle.image_definitions.specs.Sized.{Bytes, Sized}
 
 -- every image has one length
 abbrev pub ImageLength : Type 0

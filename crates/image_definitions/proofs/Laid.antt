@@ -10,8 +10,8 @@ use lib.Seq.{getD-at, getD-drop, getD-set-same, drop-at, drop-cons, drop-drop, d
 use borrow.Rule.Slice.PartMut.{putMid, same-len-mid}
 use Rattle.field.specs.Bitmap.{wordOf}
 use Rattle.parts.specs.Layout.{sum}
-use Rattle.image.specs.Layout.{bytesOf, laidIn, numbersIn}
-use Rattle.image.specs.Sized.{Bytes}
+use Rattle.image_definitions.specs.Layout.{bytesOf, laidIn, numbersIn}
+use Rattle.image_definitions.specs.Sized.{Bytes}
 
 pub length-bytesOf : (n x : ℕ) → length (bytesOf n x) ≡ n
 unfolding bytesOf

@@ -1,0 +1,2 @@
+-- Laws of what a call changes.
+pub mod Theorems

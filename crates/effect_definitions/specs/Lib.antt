@@ -1,0 +1,3 @@
+pub mod StateEffects
+pub mod JournalEffects
+pub mod Theorems
