@@ -24,7 +24,7 @@ use Rattle.state_rules.proofs.Holds.{room-for-one}
 use Rattle.rules.specs.Rules.{rules12}
 use Rattle.rules.proofs.InOrder.{fit}
 use Rattle.answer_match.specs.Match.{isAnswer}
-use Rattle.call_answer.specs.Answer.{quietly, noAnswer, powerReturned, traceSent, batchSent, answeredIn, answerIn, answer}
+use Rattle.call_definitions.specs.Answer.{quietly, noAnswer, powerReturned, traceSent, batchSent, answeredIn, answerIn, answer}
 use Rattle.effect_definitions.specs.JournalEffects.{Changed, changed, silent, silentIn, answered}
 use Rattle.journal_effects.proofs.Silence.{awaited-silent}
 use Rattle.call_answer.specs.Bounds.{Gives}

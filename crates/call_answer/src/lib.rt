@@ -12,7 +12,7 @@ ghost use mathlib.Core.Path.{_≡_};
 ghost use Rattle.journal.specs.Journal.{entriesOf};
 ghost use Rattle.state.specs.Calls.{lend, resultOf};
 ghost use Rattle.state.specs.State.{CountsBounded};
-ghost use Rattle.call_answer.specs.Answer.{noAnswer, powerReturned, traceSent, answerIn, answer};
+ghost use Rattle.call_definitions.specs.Answer.{noAnswer, powerReturned, traceSent, answerIn, answer};
 ghost use Rattle.call_answer.specs.Bounds.{Gives, readingNumber};
 
 // The line has fallen silent.

@@ -32,7 +32,7 @@ use Rattle.outgoing.specs.Held.{CardHeld}
 use Rattle.outgoing.specs.Outgoing.{reversalFields, reversalMessage, lengthOf}
 use Rattle.outgoing.proofs.Leaving.{reversal-held, reversal-is, reversal-listed, written-is}
 use Rattle.journal.specs.Journal.{entriesOf}
-use Rattle.call_reversal.specs.SendReversal.{sendReversalRules, sendsReversal, sendFrom, sendReversal}
+use Rattle.call_definitions.specs.SendReversal.{sendReversalRules, sendsReversal, sendFrom, sendReversal}
 use Rattle.effect_definitions.specs.StateEffects.{again}
 
 module _ (s : State) (lent : Lent) (n : ℕ) (e : n ≡ firstBroken (idleRules s lent)) where

@@ -10,7 +10,7 @@ ghost use lib.ListN.{length};
 ghost use Rattle.message.specs.Message.{largest};
 ghost use Rattle.state.specs.Calls.{lend, resultOf};
 ghost use Rattle.outgoing.specs.Held.{CardHeld};
-ghost use Rattle.call_reversal.specs.SendReversal.{sendsReversal, sendReversal};
+ghost use Rattle.call_definitions.specs.SendReversal.{sendsReversal, sendReversal};
 
 // Sends the pending reversal.
 pub fn send_reversal(s: State, journal: &mut [u8], message: &mut [u8]) -> Called

@@ -11,7 +11,7 @@ use Rattle.checks.proofs.Choices.{first-none, first-stops, first-goes}
 use Rattle.rules.specs.Rules.{idleRules}
 use Rattle.rules.proofs.InOrder.{Fit}
 use Rattle.rules.proofs.Idle.{idle-fit}
-use Rattle.call_settle.specs.Settle.{settleRules}
+use Rattle.call_definitions.specs.Settle.{settleRules}
 
 -- the rules after 1, 2, 10 and 11
 abbrev own : State → List Rule

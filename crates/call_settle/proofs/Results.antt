@@ -18,7 +18,7 @@ use Rattle.compose.specs.Compose.{withAll}
 use Rattle.compose.proofs.Composed.{all-composed}
 use Rattle.outgoing.specs.Outgoing.{lengthOf}
 use Rattle.outgoing.proofs.Leaving.{written-is}
-use Rattle.call_settle.specs.Settle.{settleRules, settleNow, settle}
+use Rattle.call_definitions.specs.Settle.{settleRules, settleNow, settle}
 use Rattle.batch_messages.specs.BatchMessages.{settlementFields, settlementMessage}
 use Rattle.effect_definitions.specs.StateEffects.{settles}
 use Rattle.batch_messages.proofs.Held.{settlement-held, settlement-listed}

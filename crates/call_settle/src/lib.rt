@@ -4,7 +4,7 @@ use state::State;
 ghost use mathlib.Core.Path.{_≡_};
 ghost use Rattle.checks.specs.Checks.{firstBroken};
 ghost use Rattle.state.specs.Calls.{lend, resultOf};
-ghost use Rattle.call_settle.specs.Settle.{settleRules, settle};
+ghost use Rattle.call_definitions.specs.Settle.{settleRules, settle};
 
 // Sends the batch's totals.
 pub fn settle(s: State, journal: &mut [u8], message: &mut [u8]) -> Called

@@ -12,7 +12,7 @@ use Rattle.state.specs.Calls.{Lent, refused, quiet}
 use Rattle.checks.proofs.Choices.{first-stops, first-goes}
 use Rattle.state.proofs.Judged.{refuses, goes}
 use Rattle.rules.specs.Rules.{rules12}
-use Rattle.call_sign_on.specs.SignOn.{signedOnRules, signedOn}
+use Rattle.call_definitions.specs.SignOn.{signedOnRules, signedOn}
 use Rattle.effect_definitions.specs.StateEffects.{adopts, on}
 
 -- the rules after 1 and 2

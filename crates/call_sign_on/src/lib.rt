@@ -5,7 +5,7 @@ use state::State;
 ghost use mathlib.Core.Path.{_≡_};
 ghost use Rattle.checks.specs.Checks.{firstBroken};
 ghost use Rattle.state.specs.Calls.{lend, resultOf};
-ghost use Rattle.call_sign_on.specs.SignOn.{signedOnRules, signedOn};
+ghost use Rattle.call_definitions.specs.SignOn.{signedOnRules, signedOn};
 
 // The outer program has signed on, and the centre has told the batch number.
 pub fn signed_on(s: State, batch: Batch, journal: &mut [u8], message: &mut [u8]) -> Called

@@ -24,7 +24,7 @@ use Rattle.state_rules.specs.StateRules.{isCard}
 use Rattle.state_rules.proofs.Holds.{card-holds, room-for-one}
 use Rattle.outgoing.specs.Held.{OriginalHeld}
 use Rattle.desk.specs.declared.Desk.{Desk}
-use Rattle.call_start.specs.Start.{originalOf, entryOf, namedBy}
+use Rattle.call_definitions.specs.Start.{originalOf, entryOf, namedBy}
 use Rattle.desk.specs.DeskRules.{deskInForm, requestOf}
 use Rattle.approval.specs.Cards.{cardOf}
 use Rattle.call_start.specs.Sending.{MaySend}

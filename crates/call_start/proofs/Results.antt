@@ -24,7 +24,7 @@ use Rattle.outgoing.specs.Outgoing.{requestFields, requestMessage, lengthOf}
 use Rattle.outgoing.specs.declared.Original.{Original}
 use Rattle.outgoing.proofs.Leaving.{request-held, request-is, request-listed, written-is}
 use Rattle.desk.specs.declared.Desk.{Desk}
-use Rattle.call_start.specs.Start.{originalOf, entryOf, namedBy, startRules, start}
+use Rattle.call_definitions.specs.Start.{originalOf, entryOf, namedBy, startRules, start}
 use Rattle.desk.specs.DeskRules.{requestOf}
 use Rattle.effect_definitions.specs.StateEffects.{requested}
 use Rattle.call_start.specs.Sending.{MaySend, requestBytes, HasSent}

@@ -12,7 +12,7 @@ ghost use mathlib.Core.Path.{_≡_};
 ghost use Rattle.journal.specs.Journal.{entriesOf};
 ghost use Rattle.checks.specs.Checks.{firstBroken};
 ghost use Rattle.state.specs.Calls.{lend, resultOf};
-ghost use Rattle.call_start.specs.Start.{originalOf, entryOf, namedBy, startRules, start};
+ghost use Rattle.call_definitions.specs.Start.{originalOf, entryOf, namedBy, startRules, start};
 ghost use Rattle.call_start.specs.Sending.{MaySend, HasSent};
 
 // Sends the desk's request.

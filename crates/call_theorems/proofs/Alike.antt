@@ -22,7 +22,7 @@ use Rattle.answer_match.specs.Match.{matchesSent, hasCode, approvalHolds, holds
 use Rattle.approval.specs.Approval.{fieldOr, approvedEntry}
 use Rattle.effect_definitions.specs.JournalEffects.{onRequest, onItem, answered}
 use Rattle.effect_definitions.specs.StateEffects.{onReversal, onSettlement, onEnd}
-use Rattle.call_answer.specs.Answer.{answersIn, answeredIn, answerIn, answer}
+use Rattle.call_definitions.specs.Answer.{answersIn, answeredIn, answerIn, answer}
 use Rattle.call_theorems.specs.UnusedFields.{unused, AlikeButUnused, UnusedFieldsChangeNothing}
 
 module _ (a b : Message) (h : AlikeButUnused a b) where

@@ -25,17 +25,17 @@ use Rattle.rules.specs.Rules.{tooShort, keepsRule2, rules12, due}
 use Rattle.rules.proofs.InOrder.{Fit}
 use Rattle.state_rules.proofs.Holds.{reversal-holds}
 use Rattle.outgoing.specs.Outgoing.{requestMessage, reversalMessage}
-use Rattle.call_sign_on.specs.SignOn.{signedOnRules, signedOn}
+use Rattle.call_definitions.specs.SignOn.{signedOnRules, signedOn}
 use Rattle.effect_definitions.specs.StateEffects.{adopts, on, again}
-use Rattle.call_start.specs.Start.{originalOf, entryOf, namedBy, startRules, start}
+use Rattle.call_definitions.specs.Start.{originalOf, entryOf, namedBy, startRules, start}
 use Rattle.desk.specs.DeskRules.{requestOf}
 use Rattle.desk.specs.declared.Desk.{Desk}
-use Rattle.call_reversal.specs.SendReversal.{sendFrom, sendReversalRules, sendReversal}
-use Rattle.call_settle.specs.Settle.{settleRules, settle}
+use Rattle.call_definitions.specs.SendReversal.{sendFrom, sendReversalRules, sendReversal}
+use Rattle.call_definitions.specs.Settle.{settleRules, settle}
 use Rattle.batch_messages.specs.BatchMessages.{settlementMessage, itemMessage, endMessage}
-use Rattle.call_upload.specs.SendNextUpload.{sendsNext, uploadFrom, sendNextUploadRules, sendNextUpload}
+use Rattle.call_definitions.specs.SendNextUpload.{sendsNext, uploadFrom, sendNextUploadRules, sendNextUpload}
 use Rattle.answer_match.specs.Match.{isAnswer}
-use Rattle.call_answer.specs.Answer.{quietly, noAnswerRules, noAnswer, withoutPower, powerReturned, answeredIn, answerRules, readIn, answer}
+use Rattle.call_definitions.specs.Answer.{quietly, noAnswerRules, noAnswer, withoutPower, powerReturned, answeredIn, answerRules, readIn, answer}
 use Rattle.effect_definitions.specs.JournalEffects.{silentIn}
 use Rattle.call_theorems.proofs.Back.{ready-fits}
 use Rattle.terminal.specs.Events.{Event, signed-on, starts, answers, no-answer, power-returned, send-reversal, settles, send-next-upload, call}

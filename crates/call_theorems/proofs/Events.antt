@@ -38,7 +38,7 @@ use Rattle.state_rules.proofs.Holds.{request-holds}
 use Rattle.answer_match.specs.Match.{isAnswer, matchesSent, holdsNamed, indicatorSent, approves, approvalHolds, goodMac, endsReversal, closesBatch}
 use Rattle.approval.specs.Approval.{approvedEntry}
 use Rattle.approval.proofs.Approval.{shaped, in-form}
-use Rattle.call_answer.specs.Answer.{noAnswerRules, noAnswer, withoutPower, powerReturned, answersIn, answeredIn, answerRules, answerIn, readIn, answer}
+use Rattle.call_definitions.specs.Answer.{noAnswerRules, noAnswer, withoutPower, powerReturned, answersIn, answeredIn, answerRules, answerIn, readIn, answer}
 use Rattle.effect_definitions.specs.JournalEffects.{Changed, changed, approved, silent, silentIn, onRequest, answered}
 use Rattle.effect_definitions.specs.StateEffects.{pendingOrUnanswered, failed, onReversal, onSettlement, onEnd}
 use Rattle.call_theorems.proofs.Refusing.{Fits, judged-fits}

@@ -13,9 +13,9 @@ use Rattle.checks.specs.Checks.{firstBroken}
 use Rattle.state.specs.Calls.{Lent, quiet}
 use Rattle.state.proofs.Judged.{goes}
 use Rattle.rules.specs.Rules.{rules12}
-use Rattle.call_reversal.specs.SendReversal.{sendsReversal, sendFrom, sendReversalRules, sendReversal}
+use Rattle.call_definitions.specs.SendReversal.{sendsReversal, sendFrom, sendReversalRules, sendReversal}
 use Rattle.effect_definitions.specs.StateEffects.{again, failed}
-use Rattle.call_answer.specs.Answer.{quietly, noAnswerRules, noAnswer}
+use Rattle.call_definitions.specs.Answer.{quietly, noAnswerRules, noAnswer}
 use Rattle.effect_definitions.specs.JournalEffects.{silent, silentIn}
 use Rattle.call_theorems.specs.Ready.{Ready, StaysReady}
 use Rattle.terminal.specs.Events.{no-answer, send-reversal}

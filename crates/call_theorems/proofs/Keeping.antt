@@ -1,12 +1,12 @@
 -- Each call keeps rules 1 and 2.
 use Rattle.state.specs.declared.State.{State}
 use Rattle.state.specs.Calls.{Lent, Result}
-use Rattle.call_sign_on.specs.SignOn.{signedOn}
-use Rattle.call_start.specs.Start.{start}
-use Rattle.call_reversal.specs.SendReversal.{sendReversal}
-use Rattle.call_settle.specs.Settle.{settle}
-use Rattle.call_upload.specs.SendNextUpload.{sendNextUpload}
-use Rattle.call_answer.specs.Answer.{answer, noAnswer, powerReturned}
+use Rattle.call_definitions.specs.SignOn.{signedOn}
+use Rattle.call_definitions.specs.Start.{start}
+use Rattle.call_definitions.specs.SendReversal.{sendReversal}
+use Rattle.call_definitions.specs.Settle.{settle}
+use Rattle.call_definitions.specs.SendNextUpload.{sendNextUpload}
+use Rattle.call_definitions.specs.Answer.{answer, noAnswer, powerReturned}
 use Rattle.terminal.specs.Events.{Event, signed-on, starts, answers, no-answer, power-returned, send-reversal, settles, send-next-upload}
 use Rattle.call_theorems.specs.Ready.{Ready, StaysReady, Keeping}
 use Rattle.rules.proofs.InOrder.{Fit}

@@ -46,7 +46,7 @@ use Rattle.outgoing.specs.declared.Original.{Original}
 use Rattle.outgoing.proofs.Leaving.{request-held, reversal-held, request-listed, reversal-listed, written-is}
 use Rattle.outgoing_theorems.proofs.Theorems.{sent-reads-back}
 use Rattle.call_start.proofs.Held.{entry-in-form}
-use Rattle.call_start.specs.Start.{originalOf, entryOf, namedBy, startRules}
+use Rattle.call_definitions.specs.Start.{originalOf, entryOf, namedBy, startRules}
 use Rattle.desk.specs.DeskRules.{deskInForm, requestOf}
 use Rattle.desk.specs.declared.Desk.{Desk}
 use Rattle.batch_messages.specs.BatchMessages.{settlementFields, settlementMessage, itemFields, itemMessage, endFields, endMessage}

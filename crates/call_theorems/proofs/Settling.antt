@@ -17,7 +17,7 @@ use Rattle.state.specs.Calls.{Lent}
 use Rattle.checks.specs.Checks.{firstBroken}
 use Rattle.checks.proofs.Choices.{passed}
 use Rattle.rules.proofs.InOrder.{Fit}
-use Rattle.call_settle.specs.Settle.{settleRules, settle}
+use Rattle.call_definitions.specs.Settle.{settleRules, settle}
 use Rattle.batch_messages.specs.BatchMessages.{settlementMessage}
 use Rattle.effect_definitions.specs.StateEffects.{settles}
 use Rattle.numbers.proofs.Bounds.{within-yes}

@@ -16,9 +16,9 @@ use Rattle.checks.specs.Checks.{firstBroken}
 use Rattle.checks.proofs.Choices.{passed}
 use Rattle.rules.proofs.InOrder.{Fit}
 use Rattle.outgoing.specs.Outgoing.{reversalMessage}
-use Rattle.call_sign_on.specs.SignOn.{signedOnRules, signedOn}
+use Rattle.call_definitions.specs.SignOn.{signedOnRules, signedOn}
 use Rattle.effect_definitions.specs.StateEffects.{adopts, on, again}
-use Rattle.call_reversal.specs.SendReversal.{sendFrom, sendReversalRules, sendReversal}
+use Rattle.call_definitions.specs.SendReversal.{sendFrom, sendReversalRules, sendReversal}
 use Rattle.call_theorems.proofs.Refusing.{Fits, judged-fits, sent-fits}
 use Rattle.call_theorems.proofs.Phases.{signed-fit, again-fit}
 

@@ -29,12 +29,12 @@ use Rattle.answer_match.specs.Match.{approves, goodMac, endsReversal, closesBat
 use Rattle.approval.specs.Approval.{approvedEntry}
 use Rattle.effect_definitions.specs.StateEffects.{pendingOrUnanswered, failed, onReversal, onSettlement, onEnd}
 use Rattle.effect_definitions.specs.JournalEffects.{changed, silent, silentIn, approved, onRequest, answered}
-use Rattle.call_sign_on.specs.SignOn.{signedOn}
-use Rattle.call_start.specs.Start.{start}
-use Rattle.call_answer.specs.Answer.{noAnswer, withoutPower, powerReturned, answeredIn, readIn, answer}
-use Rattle.call_reversal.specs.SendReversal.{sendFrom, sendReversal}
-use Rattle.call_settle.specs.Settle.{settle}
-use Rattle.call_upload.specs.SendNextUpload.{sendsNext, uploadFrom, sendNextUpload}
+use Rattle.call_definitions.specs.SignOn.{signedOn}
+use Rattle.call_definitions.specs.Start.{start}
+use Rattle.call_definitions.specs.Answer.{noAnswer, withoutPower, powerReturned, answeredIn, readIn, answer}
+use Rattle.call_definitions.specs.SendReversal.{sendFrom, sendReversal}
+use Rattle.call_definitions.specs.Settle.{settle}
+use Rattle.call_definitions.specs.SendNextUpload.{sendsNext, uploadFrom, sendNextUpload}
 use Rattle.terminal.specs.Events.{signed-on, starts, answers, no-answer, power-returned, send-reversal, settles, send-next-upload}
 use Rattle.call_theorems.specs.Facts.{SettingsStay, SameButMessage, MessageByLength}
 

@@ -31,7 +31,7 @@ use Rattle.state.specs.Calls.{Lent, withJournal}
 use Rattle.checks.specs.Checks.{firstBroken}
 use Rattle.rules.specs.Rules.{due}
 use Rattle.rules.proofs.InOrder.{InOrder, Fit}
-use Rattle.call_upload.specs.SendNextUpload.{sendsNext, uploadFrom, sendNextUploadRules, sendNextUpload}
+use Rattle.call_definitions.specs.SendNextUpload.{sendsNext, uploadFrom, sendNextUploadRules, sendNextUpload}
 use Rattle.batch_messages.specs.BatchMessages.{itemMessage, endMessage}
 use Rattle.effect_definitions.specs.JournalEffects.{resent}
 use Rattle.effect_definitions.specs.StateEffects.{ending}

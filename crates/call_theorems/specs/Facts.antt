@@ -12,8 +12,8 @@ use Rattle.state.specs.declared.Outcome.the-variants.{Send, Quiet, Refused}
 use Rattle.state.specs.declared.Phase.the-variants.{Resting, Pending}
 use Rattle.state.specs.Calls.{Lent, lend, Result, refused}
 use Rattle.call_theorems.specs.Ready.{Ready}
-use Rattle.call_reversal.specs.SendReversal.{sendReversal}
-use Rattle.call_answer.specs.Answer.{noAnswer}
+use Rattle.call_definitions.specs.SendReversal.{sendReversal}
+use Rattle.call_definitions.specs.Answer.{noAnswer}
 use Rattle.terminal.specs.Events.{Event, call}
 use Rattle.terminal.specs.Shapes.{SettingsShaped, EventShaped}
 

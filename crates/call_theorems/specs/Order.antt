@@ -10,13 +10,13 @@ use Rattle.entry.specs.declared.Entry.{Entry}
 use Rattle.state.specs.declared.State.{State}
 use Rattle.state.specs.Calls.{Lent}
 use Rattle.rules.specs.Rules.{rules12}
-use Rattle.call_sign_on.specs.SignOn.{signedOnRules}
-use Rattle.call_start.specs.Start.{startRules}
+use Rattle.call_definitions.specs.SignOn.{signedOnRules}
+use Rattle.call_definitions.specs.Start.{startRules}
 use Rattle.desk.specs.declared.Desk.{Desk}
-use Rattle.call_answer.specs.Answer.{answerRules, noAnswerRules}
-use Rattle.call_reversal.specs.SendReversal.{sendReversalRules}
-use Rattle.call_settle.specs.Settle.{settleRules}
-use Rattle.call_upload.specs.SendNextUpload.{sendNextUploadRules}
+use Rattle.call_definitions.specs.Answer.{answerRules, noAnswerRules}
+use Rattle.call_definitions.specs.SendReversal.{sendReversalRules}
+use Rattle.call_definitions.specs.Settle.{settleRules}
+use Rattle.call_definitions.specs.SendNextUpload.{sendNextUploadRules}
 
 pub record ListsInOrder : Type 0 where
   pub signed-on : (batch : Batch) (s : State) (lent : Lent) → inCheckOrder (signedOnRules batch s lent) ≡ true

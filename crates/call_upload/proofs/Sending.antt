@@ -38,7 +38,7 @@ use Rattle.compose.specs.Compose.{allHeld, withAll}
 use Rattle.compose.proofs.Composed.{all-composed}
 use Rattle.outgoing.specs.Outgoing.{lengthOf}
 use Rattle.outgoing.proofs.Leaving.{written-is}
-use Rattle.call_upload.specs.SendNextUpload.{sendNextUploadRules, sendsItem, sendsEnd, sendsNext, uploadFrom, sendNextUpload}
+use Rattle.call_definitions.specs.SendNextUpload.{sendNextUploadRules, sendsItem, sendsEnd, sendsNext, uploadFrom, sendNextUpload}
 use Rattle.batch_messages.specs.BatchMessages.{itemFields, itemMessage, endFields, endMessage}
 use Rattle.effect_definitions.specs.JournalEffects.{resent}
 use Rattle.effect_definitions.specs.StateEffects.{ending}

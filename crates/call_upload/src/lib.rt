@@ -16,7 +16,7 @@ ghost use Rattle.checks.specs.Checks.{firstBroken};
 ghost use Rattle.state.specs.Calls.{lend, resultOf};
 ghost use Rattle.rules.specs.Rules.{idleRules, due};
 ghost use Rattle.compose.specs.Compose.{allHeld};
-ghost use Rattle.call_upload.specs.SendNextUpload.{sendsItem, sendsEnd, sendsNext, sendNextUpload};
+ghost use Rattle.call_definitions.specs.SendNextUpload.{sendsItem, sendsEnd, sendsNext, sendNextUpload};
 ghost use Rattle.batch_messages.specs.BatchMessages.{itemFields, endFields};
 
 // Sends the next due entry, or the upload's end.

@@ -38,16 +38,16 @@ use Rattle.compose.proofs.Bitmaps.{names-has}
 use Rattle.rules.specs.Rules.{rules12, due}
 use Rattle.outgoing.specs.declared.Original.{Original}
 use Rattle.outgoing.specs.Outgoing.{requestFields, reversalFields, requestMessage, reversalMessage}
-use Rattle.call_sign_on.specs.SignOn.{signedOnRules, signedOn}
-use Rattle.call_start.specs.Start.{originalOf, entryOf, namedBy, startRules, start}
+use Rattle.call_definitions.specs.SignOn.{signedOnRules, signedOn}
+use Rattle.call_definitions.specs.Start.{originalOf, entryOf, namedBy, startRules, start}
 use Rattle.desk.specs.DeskRules.{requestOf}
-use Rattle.call_reversal.specs.SendReversal.{sendFrom, sendReversalRules, sendReversal}
+use Rattle.call_definitions.specs.SendReversal.{sendFrom, sendReversalRules, sendReversal}
 use Rattle.effect_definitions.specs.StateEffects.{again}
-use Rattle.call_settle.specs.Settle.{settleRules, settle}
+use Rattle.call_definitions.specs.Settle.{settleRules, settle}
 use Rattle.batch_messages.specs.BatchMessages.{settlementFields, settlementMessage, itemFields, itemMessage, endFields, endMessage}
-use Rattle.call_upload.specs.SendNextUpload.{sendsNext, uploadFrom, sendNextUploadRules, sendNextUpload}
+use Rattle.call_definitions.specs.SendNextUpload.{sendsNext, uploadFrom, sendNextUploadRules, sendNextUpload}
 use Rattle.answer_match.specs.Match.{isAnswer}
-use Rattle.call_answer.specs.Answer.{noAnswerRules, noAnswer, powerReturned, answerRules, readIn, answer}
+use Rattle.call_definitions.specs.Answer.{noAnswerRules, noAnswer, powerReturned, answerRules, readIn, answer}
 use Rattle.terminal.specs.Events.{Event, signed-on, starts, answers, no-answer, power-returned, send-reversal, settles, send-next-upload, call}
 use Rattle.centre_types.specs.Types.{leftAs}
 use Rattle.centre_types.specs.declared.Left.{Left}

@@ -10,9 +10,13 @@ use Rattle.kinds.specs.Kinds.{isNeverReversed}
 use Rattle.state.specs.State.{isWaiting}
 use Rattle.state.specs.declared.State.{State}
 use Rattle.state.specs.declared.Awaited.the-variants as awaited
-use Rattle.effect_definitions.specs.StateEffects.{pendingOrUnanswered, failed}
+use Rattle.effect_definitions.specs.StateEffects.{adopts, pendingOrUnanswered, failed}
 use Rattle.effect_definitions.specs.JournalEffects.{silent, onRequest, resent}
-use Rattle.effect_definitions.specs.Theorems.{RequestsCounted, SendingsCounted, PendingBelowL, FreeAtL, SettlementTakesTrace, SilenceEndsWait, PendingStays, BadMacWritesNothing, ResendsCounted}
+use Rattle.effect_definitions.specs.Theorems.{KeptOnceUsed, RequestsCounted, SendingsCounted, PendingBelowL, FreeAtL, SettlementTakesTrace, SilenceEndsWait, PendingStays, BadMacWritesNothing, ResendsCounted}
+
+pub kept-once-used : KeptOnceUsed
+unfolding adopts
+kept-once-used s h = rw (ne-eqb (s .counts .sent) 0 (λ q. omega (arith, q)))
 
 pub requests-counted : RequestsCounted
 requests-counted s q = omega arith

@@ -16,8 +16,12 @@ use Rattle.state.specs.declared.Phase.the-variants.{Resting, Waiting, Pending}
 use Rattle.state.specs.declared.Request.{Request}
 use Rattle.state.specs.declared.Reversal.{Reversal}
 use Rattle.state.specs.declared.State.{State}
-use Rattle.effect_definitions.specs.StateEffects.{requested, failed, again, settles}
+use Rattle.effect_definitions.specs.StateEffects.{adopts, requested, failed, again, settles}
 use Rattle.effect_definitions.specs.JournalEffects.{silentIn, onRequest, resent}
+
+-- a batch number is not adopted once a card request has left in the batch
+abbrev pub KeptOnceUsed : Type 0
+KeptOnceUsed = (s : State) → 0 < s .counts .sent → adopts s ≡ false
 
 -- a request that leaves is counted once
 abbrev pub RequestsCounted : Type 0

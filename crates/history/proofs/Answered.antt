@@ -23,7 +23,7 @@ use Rattle.answer_match.specs.Match as terminal
 use Rattle.answer_match.specs.Match.{isAnswer, matchesSent, holdsNamed, indicatorSent, approves, approvalHolds, goodMac, endsReversal}
 use Rattle.approval.specs.Approval.{approvedEntry}
 use Rattle.effect_definitions.specs.JournalEffects as effects
-use Rattle.call_answer.specs.Answer.{traceSent}
+use Rattle.call_definitions.specs.Answer.{traceSent}
 use Rattle.effect_definitions.specs.JournalEffects.{changed, onRequest, onItem, answered}
 use Rattle.effect_definitions.specs.StateEffects.{pendingOrUnanswered, failed, onReversal, onSettlement, onEnd}
 use Rattle.history.specs.Words.{messageIn, amountIn, isMatching, closesBatch}

@@ -19,10 +19,10 @@ use Rattle.state.specs.Calls.{Lent, refused}
 use Rattle.checks.proofs.Choices.{passed}
 use Rattle.rules.specs.Rules.{rules12}
 use Rattle.rules.proofs.InOrder.{Fit, fit}
-use Rattle.call_sign_on.specs.SignOn.{signedOnRules, signedOn}
+use Rattle.call_definitions.specs.SignOn.{signedOnRules, signedOn}
 use Rattle.effect_definitions.specs.StateEffects.{adopts}
 use Rattle.answer_match.specs.Match.{isAnswer}
-use Rattle.call_answer.specs.Answer.{quietly, noAnswerRules, noAnswer, withoutPower, powerReturned, answersIn, answeredIn, answerRules, answerIn, readIn, answer}
+use Rattle.call_definitions.specs.Answer.{quietly, noAnswerRules, noAnswer, withoutPower, powerReturned, answersIn, answeredIn, answerRules, answerIn, readIn, answer}
 use Rattle.effect_definitions.specs.JournalEffects.{silentIn}
 use Rattle.terminal.specs.Events.{Event, signed-on, starts, answers, no-answer, power-returned, send-reversal, settles, send-next-upload, call}
 use Rattle.terminal.specs.Shapes.{EventShaped}

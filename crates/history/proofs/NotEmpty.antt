@@ -43,12 +43,12 @@ use Rattle.state_rules.specs.StateRules.{settingsInForm}
 use Rattle.rules.proofs.InOrder.{Fit}
 use Rattle.state_rules.proofs.Holds.{settings-hold}
 use Rattle.answer_match.specs.Match.{isAnswer}
-use Rattle.call_sign_on.specs.SignOn.{signedOnRules, signedOn}
-use Rattle.call_start.specs.Start.{originalOf, entryOf, startRules, start}
-use Rattle.call_reversal.specs.SendReversal.{sendReversalRules, sendFrom, sendReversal}
-use Rattle.call_settle.specs.Settle.{settleRules, settle}
-use Rattle.call_upload.specs.SendNextUpload.{sendNextUploadRules, sendsNext, uploadFrom, sendNextUpload}
-use Rattle.call_answer.specs.Answer.{quietly, noAnswerRules, noAnswer, powerReturned, answeredIn, answerRules, answerIn, readIn, answer}
+use Rattle.call_definitions.specs.SignOn.{signedOnRules, signedOn}
+use Rattle.call_definitions.specs.Start.{originalOf, entryOf, startRules, start}
+use Rattle.call_definitions.specs.SendReversal.{sendReversalRules, sendFrom, sendReversal}
+use Rattle.call_definitions.specs.Settle.{settleRules, settle}
+use Rattle.call_definitions.specs.SendNextUpload.{sendNextUploadRules, sendsNext, uploadFrom, sendNextUpload}
+use Rattle.call_definitions.specs.Answer.{quietly, noAnswerRules, noAnswer, powerReturned, answeredIn, answerRules, answerIn, readIn, answer}
 use Rattle.call_theorems.specs.Ready.{Ready}
 use Rattle.call_theorems.proofs.Back.{ready-fits, fit-ready}
 use Rattle.call_theorems.proofs.Keeping.{keeping}

@@ -30,10 +30,10 @@ use Rattle.checks.specs.Checks.{firstBroken}
 use Rattle.checks.proofs.Choices.{passed}
 use Rattle.rules.specs.Rules.{due}
 use Rattle.rules.proofs.InOrder.{Fit}
-use Rattle.call_settle.specs.Settle.{settleRules, settle}
+use Rattle.call_definitions.specs.Settle.{settleRules, settle}
 use Rattle.batch_messages.specs.BatchMessages.{settlementMessage, itemMessage, endMessage}
 use Rattle.effect_definitions.specs.StateEffects as effects
-use Rattle.call_upload.specs.SendNextUpload.{sendsNext, uploadFrom, sendNextUploadRules, sendNextUpload}
+use Rattle.call_definitions.specs.SendNextUpload.{sendsNext, uploadFrom, sendNextUploadRules, sendNextUpload}
 use Rattle.effect_definitions.specs.JournalEffects.{resent}
 use Rattle.terminal.specs.Events.{settles, send-next-upload}
 use Rattle.history.specs.Words.{messageIn}

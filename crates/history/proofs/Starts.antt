@@ -24,13 +24,13 @@ use Rattle.rules.proofs.InOrder.{Fit, fit}
 use Rattle.state_rules.proofs.Holds.{request-holds, reversal-holds}
 use Rattle.outgoing.specs.Held.{CardHeld}
 use Rattle.outgoing.specs.Outgoing.{requestMessage, reversalMessage}
-use Rattle.call_start.specs.Start.{originalOf, entryOf, namedBy, startRules, start}
+use Rattle.call_definitions.specs.Start.{originalOf, entryOf, namedBy, startRules, start}
 use Rattle.desk.specs.DeskRules.{requestOf}
 use Rattle.effect_definitions.specs.StateEffects.{requested, again}
 use Rattle.desk.specs.declared.Desk.{Desk}
 use Rattle.call_start.proofs.Refusals.{unbroken}
 use Rattle.call_start.proofs.Held.{may-send}
-use Rattle.call_reversal.specs.SendReversal.{sendFrom, sendReversalRules, sendReversal}
+use Rattle.call_definitions.specs.SendReversal.{sendFrom, sendReversalRules, sendReversal}
 use Rattle.call_theorems.proofs.Starting.{start-fits}
 use Rattle.terminal.specs.Events.{Event, starts, send-reversal}
 use Rattle.history.specs.Words.{messageIn}

@@ -41,12 +41,12 @@ use Rattle.answer_match.specs.Match.{isAnswer, matchesSent, indicatorSent, hold
 use Rattle.approval.specs.Approval.{approvedEntry}
 use Rattle.effect_definitions.specs.StateEffects.{pendingOrUnanswered, failed, onReversal, onSettlement, onEnd}
 use Rattle.effect_definitions.specs.JournalEffects.{Changed, changed, marked, silent, silentIn, voidedAt, originalVoided, approved, onRequest, onItem, answered, resent}
-use Rattle.call_sign_on.specs.SignOn.{signedOn}
-use Rattle.call_start.specs.Start.{start}
-use Rattle.call_answer.specs.Answer.{traceSent, quietly, noAnswer, withoutPower, powerReturned, answersIn, answeredIn, answerRules, readIn, answer}
-use Rattle.call_reversal.specs.SendReversal.{sendFrom, sendReversal}
-use Rattle.call_settle.specs.Settle.{settle}
-use Rattle.call_upload.specs.SendNextUpload.{sendsNext, uploadFrom, sendNextUpload}
+use Rattle.call_definitions.specs.SignOn.{signedOn}
+use Rattle.call_definitions.specs.Start.{start}
+use Rattle.call_definitions.specs.Answer.{traceSent, quietly, noAnswer, withoutPower, powerReturned, answersIn, answeredIn, answerRules, readIn, answer}
+use Rattle.call_definitions.specs.SendReversal.{sendFrom, sendReversal}
+use Rattle.call_definitions.specs.Settle.{settle}
+use Rattle.call_definitions.specs.SendNextUpload.{sendsNext, uploadFrom, sendNextUpload}
 use Rattle.terminal.specs.Events.{Event, signed-on, starts, answers, no-answer, power-returned, send-reversal, settles, send-next-upload, call}
 use Rattle.history.specs.Words.{messageIn, isRequest, closesBatch}
 use Rattle.history.proofs.Sent.{Typed, reversal-typed, settlement-typed, item-typed, end-typed}

@@ -29,7 +29,7 @@ use Rattle.answer_match.specs.Match.{isAnswer, indicatorSent, holdsNamed, appro
 use Rattle.approval.specs.Approval.{approvedEntry}
 use Rattle.effect_definitions.specs.StateEffects.{pendingOrUnanswered, failed, onReversal, onSettlement, onEnd}
 use Rattle.effect_definitions.specs.JournalEffects.{Changed, changed, silent, silentIn, approved, onRequest, answered}
-use Rattle.call_answer.specs.Answer.{traceSent}
+use Rattle.call_definitions.specs.Answer.{traceSent}
 use Rattle.history.specs.Words.{messageIn, isRequest, isSettlement, isMatching, holdsItsFields, closesBatch}
 use Rattle.history.proofs.Said.{Says}
 use Rattle.history.proofs.Sent.{Typed, reversal-typed, settlement-typed, item-typed, end-typed}

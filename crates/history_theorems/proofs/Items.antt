@@ -41,12 +41,12 @@ use Rattle.batch_messages.proofs.Held.{EntryHeld, item-held, end-held, upload-l
 use Rattle.outgoing.specs.Held.{SettingsHeld}
 use Rattle.outgoing_theorems.specs.Theorems.{Reads}
 use Rattle.effect_definitions.specs.JournalEffects.{silentIn, resent}
-use Rattle.call_sign_on.specs.SignOn.{signedOn}
-use Rattle.call_start.specs.Start.{start}
-use Rattle.call_answer.specs.Answer.{quietly, noAnswerRules, noAnswer, withoutPower, powerReturned, answersIn, answeredIn, answerRules, readIn, answer}
-use Rattle.call_reversal.specs.SendReversal.{sendFrom, sendReversal}
-use Rattle.call_settle.specs.Settle.{settle}
-use Rattle.call_upload.specs.SendNextUpload.{sendsNext, sendNextUploadRules, uploadFrom, sendNextUpload}
+use Rattle.call_definitions.specs.SignOn.{signedOn}
+use Rattle.call_definitions.specs.Start.{start}
+use Rattle.call_definitions.specs.Answer.{quietly, noAnswerRules, noAnswer, withoutPower, powerReturned, answersIn, answeredIn, answerRules, readIn, answer}
+use Rattle.call_definitions.specs.SendReversal.{sendFrom, sendReversal}
+use Rattle.call_definitions.specs.Settle.{settle}
+use Rattle.call_definitions.specs.SendNextUpload.{sendsNext, sendNextUploadRules, uploadFrom, sendNextUpload}
 use Rattle.terminal.specs.Events.{Event, signed-on, starts, answers, no-answer, power-returned, send-reversal, settles, send-next-upload, call}
 use Rattle.history.specs.Words.{messageIn, kindIn, isRequest, isApproval, macGood, closesBatch, processingFor}
 use Rattle.history.specs.History as history

@@ -25,7 +25,7 @@ use Rattle.state.specs.declared.State.{State}
 use Rattle.state_rules.specs.StateRules.{isCard, exceeds, pastOn, past}
 use Rattle.desk.specs.declared.Desk.{Desk}
 use Rattle.desk.specs.DeskRules.{deskInForm, deskRules, journalRules}
-use Rattle.call_start.specs.Start.{originalOf, entryOf}
+use Rattle.call_definitions.specs.Start.{originalOf, entryOf}
 use Rattle.history_theorems.specs.Standing.{Standing}
 use Rattle.history_theorems.specs.Approvals.{Approval, voidedBy, IsEntry, AreEntries}
 use Rattle.history_theorems.specs.Requests.{isVoid, isNamed, isThere, isVoided, amountNamed, amounts, cardInForm, dateInForm, textInForm, keyedInForm, amountOf, passes, startNumber}

@@ -25,8 +25,8 @@ use Rattle.state.specs.Calls.{Lent, judged, refused, quiet}
 use Rattle.checks.specs.Checks.{firstBroken}
 use Rattle.effect_definitions.specs.StateEffects as effects
 use Rattle.effect_definitions.specs.StateEffects.{on}
-use Rattle.call_sign_on.specs.SignOn.{signedOnRules, signedOn}
-use Rattle.call_answer.specs.Answer.{traceSent, quietly, noAnswerRules, noAnswer, withoutPower, powerReturned, answerIn, readIn, answer}
+use Rattle.call_definitions.specs.SignOn.{signedOnRules, signedOn}
+use Rattle.call_definitions.specs.Answer.{traceSent, quietly, noAnswerRules, noAnswer, withoutPower, powerReturned, answerIn, readIn, answer}
 use Rattle.effect_definitions.specs.JournalEffects.{silentIn, answered}
 use Rattle.answer_match.specs.Match.{isAnswer}
 use Rattle.terminal.specs.Events.{Event, signed-on, answers, no-answer, power-returned}

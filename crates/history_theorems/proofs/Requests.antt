@@ -29,7 +29,7 @@ use Rattle.outgoing_theorems.specs.Theorems.{Reads}
 use Rattle.approval.specs.Cards.{cardOf}
 use Rattle.desk.specs.declared.Desk.{Desk}
 use Rattle.desk.specs.DeskRules.{deskInForm, requestOf, restRules}
-use Rattle.call_start.specs.Start.{namedBy, originalOf, entryOf, startRules}
+use Rattle.call_definitions.specs.Start.{namedBy, originalOf, entryOf, startRules}
 use Rattle.reading.specs.Reading.{readMessage}
 use Rattle.writing.specs.Writing.{messageBytes}
 use Rattle.journal.specs.Journal.{entriesOf, hasTrace, isOriginal, nowhere, taken}

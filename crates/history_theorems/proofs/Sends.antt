@@ -50,9 +50,9 @@ use Rattle.batch_messages.specs.BatchMessages.{settlementFields, settlementMess
 use Rattle.batch_messages.proofs.Held.{settlement-held, settlement-listed, end-held, upload-listed}
 use Rattle.effect_definitions.specs.StateEffects.{again}
 use Rattle.effect_definitions.specs.JournalEffects.{resent}
-use Rattle.call_reversal.specs.SendReversal.{sendReversalRules, sendFrom, sendReversal}
-use Rattle.call_settle.specs.Settle.{settleRules, settleNow, settle}
-use Rattle.call_upload.specs.SendNextUpload.{sendNextUploadRules, sendsNext, uploadFrom, sendNextUpload}
+use Rattle.call_definitions.specs.SendReversal.{sendReversalRules, sendFrom, sendReversal}
+use Rattle.call_definitions.specs.Settle.{settleRules, settleNow, settle}
+use Rattle.call_definitions.specs.SendNextUpload.{sendNextUploadRules, sendsNext, uploadFrom, sendNextUpload}
 use Rattle.terminal.specs.Events.{send-reversal, settles, send-next-upload}
 use Rattle.history.specs.Words.{messageIn, isRequest, isSettlement}
 use Rattle.history.specs.History.{Account}

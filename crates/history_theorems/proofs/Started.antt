@@ -15,7 +15,7 @@ use Rattle.checks.specs.Checks.{Rule, firstBroken}
 use Rattle.rules.proofs.InOrder.{Fit}
 use Rattle.desk.specs.declared.Desk.{Desk}
 use Rattle.desk.specs.DeskRules.{restRules}
-use Rattle.call_start.specs.Start.{start}
+use Rattle.call_definitions.specs.Start.{start}
 use Rattle.terminal.specs.Events.{Event, starts, call}
 use Rattle.terminal.specs.Shapes.{EventShaped}
 use Rattle.history.specs.History.{Account, refused}

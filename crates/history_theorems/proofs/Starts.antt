@@ -45,7 +45,7 @@ use Rattle.outgoing.specs.declared.Original.{Original}
 use Rattle.effect_definitions.specs.StateEffects.{requested}
 use Rattle.desk.specs.declared.Desk.{Desk}
 use Rattle.desk.specs.DeskRules.{requestOf, restRules, deskRules, journalRules}
-use Rattle.call_start.specs.Start.{originalOf, entryOf, namedBy, startRules, start}
+use Rattle.call_definitions.specs.Start.{originalOf, entryOf, namedBy, startRules, start}
 use Rattle.call_start.proofs.Refusals.{unbroken}
 use Rattle.call_start.proofs.Held.{may-send}
 use Rattle.terminal.specs.Events.{starts}

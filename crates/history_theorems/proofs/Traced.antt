@@ -26,9 +26,9 @@ use Rattle.rules.specs.Rules.{rules12, due}
 use Rattle.rules.proofs.InOrder.{Fit}
 use Rattle.desk.specs.declared.Desk.{Desk}
 use Rattle.desk.specs.DeskRules.{restRules}
-use Rattle.call_start.specs.Start.{start}
-use Rattle.call_settle.specs.Settle.{settleRules, settle}
-use Rattle.call_upload.specs.SendNextUpload.{sendNextUploadRules, sendsNext, uploadFrom, sendNextUpload}
+use Rattle.call_definitions.specs.Start.{start}
+use Rattle.call_definitions.specs.Settle.{settleRules, settle}
+use Rattle.call_definitions.specs.SendNextUpload.{sendNextUploadRules, sendsNext, uploadFrom, sendNextUpload}
 use Rattle.terminal.specs.Events.{Event, signed-on, starts, answers, no-answer, power-returned, send-reversal, settles, send-next-upload, call}
 use Rattle.terminal.specs.Shapes.{EventShaped}
 use Rattle.history.specs.Words.{messageIn, isReversal}

@@ -35,7 +35,7 @@ use Rattle.answer_match.specs.Match.{isAnswer, matchesSent, indicatorSent, hold
 use Rattle.approval.specs.Approval.{approvedEntry}
 use Rattle.effect_definitions.specs.StateEffects.{pendingOrUnanswered, failed, onReversal, onSettlement, onEnd}
 use Rattle.effect_definitions.specs.JournalEffects.{Changed, changed, marked, silentMark, silent, silentIn, voidedAt, originalVoided, approved, onRequest, onItem, answered}
-use Rattle.call_answer.specs.Answer.{traceSent}
+use Rattle.call_definitions.specs.Answer.{traceSent}
 use Rattle.history.specs.Words.{messageIn, isRequest, isEnd, closesBatch}
 use Rattle.history.proofs.Sent.{Typed, reversal-typed, settlement-typed, item-typed, end-typed}
 use Rattle.history.proofs.Matching.{approves-alike, mac-alike, settlement-closes, end-closes, other-closes}

@@ -5,13 +5,13 @@ use Prim.Native.Nat.{ℕ}
 use Rattle.numbers.specs.declared.Batch.{Batch}
 use Rattle.state.specs.declared.State.{State}
 use Rattle.state.specs.Calls.{Lent, Result}
-use Rattle.call_sign_on.specs.SignOn.{signedOn}
-use Rattle.call_start.specs.Start.{start}
+use Rattle.call_definitions.specs.SignOn.{signedOn}
+use Rattle.call_definitions.specs.Start.{start}
 use Rattle.desk.specs.declared.Desk.{Desk}
-use Rattle.call_reversal.specs.SendReversal.{sendReversal}
-use Rattle.call_settle.specs.Settle.{settle}
-use Rattle.call_upload.specs.SendNextUpload.{sendNextUpload}
-use Rattle.call_answer.specs.Answer.{answer, noAnswer, powerReturned}
+use Rattle.call_definitions.specs.SendReversal.{sendReversal}
+use Rattle.call_definitions.specs.Settle.{settle}
+use Rattle.call_definitions.specs.SendNextUpload.{sendNextUpload}
+use Rattle.call_definitions.specs.Answer.{answer, noAnswer, powerReturned}
 
 -- a call, with what is handed in besides state and buffers
 pub data Event : Type 0 where

@@ -22,18 +22,18 @@ use Rattle.state.specs.Calls.{judged}
 use Rattle.rules.specs.Rules.{tooShort, originalUnvoided, requestKept, journalKept, keepsRule2}
 use Rattle.state_rules.specs.StateRules.{settingsInForm, isCard, requestInForm, reversalInForm, stateInForm, past, sumsKept, balanced, stateKept}
 use Rattle.outgoing.specs.Outgoing.{requestMessage, reversalMessage}
-use Rattle.call_start.specs.Start.{originalOf, start}
+use Rattle.call_definitions.specs.Start.{originalOf, start}
 use Rattle.desk.specs.DeskRules.{deskInForm}
-use Rattle.call_sign_on.specs.SignOn.{signedOn}
+use Rattle.call_definitions.specs.SignOn.{signedOn}
 use Rattle.effect_definitions.specs.StateEffects.{adopts, pendingOrUnanswered, failed, onReversal, onSettlement, onEnd}
-use Rattle.call_reversal.specs.SendReversal.{sendReversal}
+use Rattle.call_definitions.specs.SendReversal.{sendReversal}
 use Rattle.answer_match.specs.Match.{matchesSent, approvalHolds, isAnswer, goodMac, endsReversal, closesBatch}
 use Rattle.approval.specs.Approval.{fieldOr, zeroFilled, approvedEntry}
-use Rattle.call_answer.specs.Answer.{noAnswer, answer}
+use Rattle.call_definitions.specs.Answer.{noAnswer, answer}
 use Rattle.effect_definitions.specs.JournalEffects.{silentMark, silent, originalVoided, approved, onRequest, onItem, answered, resent}
-use Rattle.call_settle.specs.Settle.{settle}
+use Rattle.call_definitions.specs.Settle.{settle}
 use Rattle.batch_messages.specs.BatchMessages.{settlementMessage, itemMessage, endMessage}
-use Rattle.call_upload.specs.SendNextUpload.{sendNextUpload}
+use Rattle.call_definitions.specs.SendNextUpload.{sendNextUpload}
 
 unfoldable pub machine : ℕ
 unfolding half unpack packedByte pack halfAllowed isPacked allDigits value numberOf formats indicators bit names listedAt listed

@@ -35,11 +35,11 @@ use Rattle.rules.specs.Rules.{tooShort, keepsRule2, journalKept}
 use Rattle.state_rules.specs.StateRules.{settingsInForm, stateInForm, past, sumsKept, balanced, stateKept}
 use Rattle.rules.proofs.InOrder.{Fit}
 use Rattle.outgoing.specs.Outgoing.{requestMessage}
-use Rattle.call_sign_on.specs.SignOn.{signedOn}
+use Rattle.call_definitions.specs.SignOn.{signedOn}
 use Rattle.effect_definitions.specs.StateEffects.{adopts, requested, oneMore}
 use Rattle.approval.specs.Approval.{approvedEntry}
 use Rattle.approval.proofs.Approval.{shaped}
-use Rattle.call_answer.specs.Answer.{answer}
+use Rattle.call_definitions.specs.Answer.{answer}
 use Rattle.effect_definitions.specs.JournalEffects.{originalVoided, approved, onRequest, answered as answeredBy}
 use Rattle.call_theorems.proofs.Back.{ready-fits, fit-ready}
 use Rattle.call_theorems.proofs.Refusing.{Fits}

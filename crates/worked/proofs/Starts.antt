@@ -18,7 +18,7 @@ use Rattle.state.specs.Calls.{Lent, judged, refused, sends}
 use Rattle.state_rules.specs.StateRules.{isCard, past}
 use Rattle.rules.proofs.InOrder.{Fit}
 use Rattle.outgoing.specs.Outgoing.{requestMessage}
-use Rattle.call_start.specs.Start.{start}
+use Rattle.call_definitions.specs.Start.{start}
 use Rattle.desk.specs.DeskRules.{deskInForm}
 use Rattle.effect_definitions.specs.StateEffects.{requested}
 use Rattle.desk.specs.declared.Desk.{Desk}

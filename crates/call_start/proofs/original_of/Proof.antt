@@ -1,6 +1,6 @@
 -- `call_start::original_of` meets its contract.
 use borrow.Author.Needs.{needs}
-use Rattle.call_start.specs.Start.{originalOf}
+use Rattle.call_definitions.specs.Start.{originalOf}
 use Rattle.call_start.proofs.original_of.Statement.{statement}
 use Rattle.call_start.proofs.original_of.Tie as tie
 

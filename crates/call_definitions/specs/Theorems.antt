@@ -1,0 +1,52 @@
+-- What is proved of single calls that pass the rules before: sentences of document 01, by what is left.
+use mathlib.Core.Path.{_≡_}
+use mathlib.Core.Bool.{Bool, true, false}
+use mathlib.Core.List.{List}
+use Prim.Native.Nat.{ℕ, _+_}
+use Rattle.numbers.specs.Numbers.{following}
+use Rattle.checks.specs.Checks.{firstBroken}
+use Rattle.kinds.specs.Kinds.{isNeverReversed}
+use Rattle.reading.specs.Reading.{readMessage}
+use Rattle.reading.specs.declared.ReadOutcome.the-variants.{Read}
+use Rattle.entry.specs.declared.Entry.{Entry}
+use Rattle.journal.specs.Journal.{entriesOf, taken}
+use Rattle.desk.specs.declared.Desk.{Desk}
+use Rattle.rules.specs.Rules.{rules12}
+use Rattle.state.specs.State.{isWaiting}
+use Rattle.state.specs.Calls.{Lent, refused}
+use Rattle.state.specs.declared.Awaited.the-variants as awaited
+use Rattle.state.specs.declared.Phase.the-variants.{Waiting, Pending}
+use Rattle.state.specs.declared.Reason.the-variants.{Silence}
+use Rattle.state.specs.declared.Request.{Request}
+use Rattle.state.specs.declared.Reversal.{Reversal}
+use Rattle.state.specs.declared.State.{State}
+use Rattle.call_definitions.specs.Answer.{answer, powerReturned}
+use Rattle.call_definitions.specs.SendReversal.{sendReversal, sendReversalRules}
+use Rattle.call_definitions.specs.Start.{start, startRules, entryOf, originalOf}
+
+-- an answer that reads, while nothing is awaited, is refused by 14
+abbrev pub LateAnswerRefused : Type 0
+LateAnswerRefused = (b : List ℕ) (good : Bool) (s : State) (lent : Lent) → firstBroken (rules12 s lent) ≡ 0
+    → readMessage b .outcome ≡ Read → isWaiting s ≡ false → answer b good s lent ≡ refused 14 s lent
+
+-- when power returns, the awaited request of a kind that is reversed has a pending reversal, not sent yet, by reason of silence
+abbrev pub PowerMakesReversal : Type 0
+PowerMakesReversal = (q : Request) (s : State) (lent : Lent) → firstBroken (rules12 s lent) ≡ 0
+    → s .phase ≡ Waiting (awaited.Request q) → isNeverReversed (q .kind) ≡ false
+    → powerReturned s lent .state .phase ≡ Pending (record { request = q; reason = Silence; sendings = 0 })
+
+-- the entries of the journal that is lent
+abbrev pub entriesIn : State → Lent → List Entry
+entriesIn s lent = entriesOf (s .entries) (lent .journal)
+
+-- a request that leaves uses up the trace that is taken
+abbrev pub StartTakesTrace : Type 0
+StartTakesTrace = (d : Desk) (s : State) (lent : Lent)
+    → firstBroken (startRules d s (entriesIn s lent) (entryOf (originalOf d (entriesIn s lent)) (entriesIn s lent)) lent) ≡ 0
+    → start d s lent .state .next .0 ≡ following (taken (entriesIn s lent) (s .next .0))
+
+-- the reversal that leaves is that of the pending request, sent once more
+abbrev pub ReversalOfRequest : Type 0
+ReversalOfRequest = (v : Reversal) (s : State) (lent : Lent) → firstBroken (sendReversalRules s lent) ≡ 0 → s .phase ≡ Pending v
+    → sendReversal s lent .state .phase
+      ≡ Waiting (awaited.Reversal (record { request = v .request; reason = v .reason; sendings = v .sendings + 1 }))
