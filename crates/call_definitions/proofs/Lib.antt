@@ -1,2 +1,4 @@
--- Laws of the calls.
+-- Laws of the calls, for other crates to cite.
 pub mod Theorems
+pub mod Refusals
+pub mod Held

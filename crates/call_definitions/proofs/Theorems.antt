@@ -9,7 +9,7 @@ use Rattle.state.specs.declared.State.{State}
 use Rattle.call_definitions.specs.Answer.{answer, powerReturned}
 use Rattle.call_definitions.specs.SendReversal.{sendReversal}
 use Rattle.call_definitions.specs.Start.{start}
-use Rattle.call_definitions.specs.Theorems.{LateAnswerRefused, PowerMakesReversal, StartTakesTrace, ReversalOfRequest}
+use Rattle.call_definitions.specs.Theorems.{LateAnswerRefused, PowerMakesReversal, PowerSignsOff, StartTakesTrace, ReversalOfRequest}
 
 pub late-answer-refused : LateAnswerRefused
 unfolding answer judged firstBroken
@@ -18,6 +18,10 @@ late-answer-refused b good s lent h r w = rw (h, r, w)
 pub power-makes-reversal : PowerMakesReversal
 unfolding powerReturned judged silent pendingOrUnanswered
 power-makes-reversal q s lent h p n = rw (h, p, n)
+
+pub power-signs-off : PowerSignsOff
+unfolding powerReturned judged
+power-signs-off d b s lent h = rw h
 
 -- a call that breaks no rule does what is said
 done : (n : ℕ) (s : State) (lent : Lent) (r : Result) → n ≡ 0 → judged n s lent r ≡ r

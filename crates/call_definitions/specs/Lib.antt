@@ -1,7 +1,10 @@
 pub mod SignOn
 pub mod Start
+pub mod Sending
 pub mod Answer
 pub mod SendReversal
 pub mod Settle
 pub mod SendNextUpload
+pub mod Events
+pub mod Shapes
 pub mod Theorems

@@ -11,6 +11,7 @@ use Rattle.reading.specs.declared.ReadOutcome.the-variants.{Read}
 use Rattle.entry.specs.declared.Entry.{Entry}
 use Rattle.journal.specs.Journal.{entriesOf, taken}
 use Rattle.desk.specs.declared.Desk.{Desk}
+use Rattle.calls.specs.declared.Call.the-variants.{PowerReturned}
 use Rattle.rules.specs.Rules.{rules12}
 use Rattle.state.specs.State.{isWaiting}
 use Rattle.state.specs.Calls.{Lent, refused}
@@ -21,6 +22,7 @@ use Rattle.state.specs.declared.Request.{Request}
 use Rattle.state.specs.declared.Reversal.{Reversal}
 use Rattle.state.specs.declared.State.{State}
 use Rattle.call_definitions.specs.Answer.{answer, powerReturned}
+use Rattle.call_definitions.specs.Events.{call, eventOf}
 use Rattle.call_definitions.specs.SendReversal.{sendReversal, sendReversalRules}
 use Rattle.call_definitions.specs.Start.{start, startRules, entryOf, originalOf}
 
@@ -34,6 +36,11 @@ abbrev pub PowerMakesReversal : Type 0
 PowerMakesReversal = (q : Request) (s : State) (lent : Lent) → firstBroken (rules12 s lent) ≡ 0
     → s .phase ≡ Waiting (awaited.Request q) → isNeverReversed (q .kind) ≡ false
     → powerReturned s lent .state .phase ≡ Pending (record { request = q; reason = Silence; sendings = 0 })
+
+-- the return of power signs off
+abbrev pub PowerSignsOff : Type 0
+PowerSignsOff = (d : Desk) (b : List ℕ) (s : State) (lent : Lent) → firstBroken (rules12 s lent) ≡ 0
+    → call (eventOf PowerReturned d b) s lent .state .«signed_on» ≡ false
 
 -- the entries of the journal that is lent
 abbrev pub entriesIn : State → Lent → List Entry

@@ -1,4 +1,2 @@
-pub mod Refusals
-pub mod Held
 pub mod Results
 pub mod Dates

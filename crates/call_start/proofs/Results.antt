@@ -27,9 +27,9 @@ use Rattle.desk.specs.declared.Desk.{Desk}
 use Rattle.call_definitions.specs.Start.{originalOf, entryOf, namedBy, startRules, start}
 use Rattle.desk.specs.DeskRules.{requestOf}
 use Rattle.effect_definitions.specs.StateEffects.{requested}
-use Rattle.call_start.specs.Sending.{MaySend, requestBytes, HasSent}
-use Rattle.call_start.proofs.Refusals.{unbroken}
-use Rattle.call_start.proofs.Held.{may-send}
+use Rattle.call_definitions.specs.Sending.{MaySend, requestBytes, HasSent}
+use Rattle.call_definitions.proofs.Refusals.{unbroken}
+use Rattle.call_definitions.proofs.Held.{may-send}
 
 -- what is written, where the request may send
 module _ (s : State) (q : Request) (o : Original) (m : List ℕ) (h : MaySend s q o m) where

@@ -13,7 +13,7 @@ ghost use Rattle.journal.specs.Journal.{entriesOf};
 ghost use Rattle.checks.specs.Checks.{firstBroken};
 ghost use Rattle.state.specs.Calls.{lend, resultOf};
 ghost use Rattle.call_definitions.specs.Start.{originalOf, entryOf, namedBy, startRules, start};
-ghost use Rattle.call_start.specs.Sending.{MaySend, HasSent};
+ghost use Rattle.call_definitions.specs.Sending.{MaySend, HasSent};
 
 // Sends the desk's request.
 pub fn start(s: State, d: Desk, journal: &mut [u8], message: &mut [u8]) -> Called

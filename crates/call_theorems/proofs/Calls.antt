@@ -38,8 +38,8 @@ use Rattle.answer_match.specs.Match.{isAnswer}
 use Rattle.call_definitions.specs.Answer.{quietly, noAnswerRules, noAnswer, withoutPower, powerReturned, answeredIn, answerRules, readIn, answer}
 use Rattle.effect_definitions.specs.JournalEffects.{silentIn}
 use Rattle.call_theorems.proofs.Back.{ready-fits}
-use Rattle.terminal.specs.Events.{Event, signed-on, starts, answers, no-answer, power-returned, send-reversal, settles, send-next-upload, call}
-use Rattle.terminal.specs.Shapes.{SettingsShaped, EventShaped}
+use Rattle.call_definitions.specs.Events.{Event, signed-on, starts, answers, no-answer, power-returned, send-reversal, settles, send-next-upload, call}
+use Rattle.call_definitions.specs.Shapes.{SettingsShaped, EventShaped}
 use Rattle.call_theorems.proofs.Told.{Told, told-refused, told-quiet, told-sent, told-judged}
 use Rattle.call_theorems.proofs.Leaving.{reversal-reads, card-held, started-reads, settlement-reads, item-reads, end-reads}
 

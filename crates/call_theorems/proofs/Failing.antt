@@ -18,7 +18,7 @@ use Rattle.effect_definitions.specs.StateEffects.{again, failed}
 use Rattle.call_definitions.specs.Answer.{quietly, noAnswerRules, noAnswer}
 use Rattle.effect_definitions.specs.JournalEffects.{silent, silentIn}
 use Rattle.call_theorems.specs.Ready.{Ready, StaysReady}
-use Rattle.terminal.specs.Events.{no-answer, send-reversal}
+use Rattle.call_definitions.specs.Events.{no-answer, send-reversal}
 use Rattle.call_theorems.proofs.Keeping.{keeping}
 use Rattle.call_theorems.specs.Facts.{silenced}
 

@@ -7,7 +7,7 @@ use Rattle.call_definitions.specs.SendReversal.{sendReversal}
 use Rattle.call_definitions.specs.Settle.{settle}
 use Rattle.call_definitions.specs.SendNextUpload.{sendNextUpload}
 use Rattle.call_definitions.specs.Answer.{answer, noAnswer, powerReturned}
-use Rattle.terminal.specs.Events.{Event, signed-on, starts, answers, no-answer, power-returned, send-reversal, settles, send-next-upload}
+use Rattle.call_definitions.specs.Events.{Event, signed-on, starts, answers, no-answer, power-returned, send-reversal, settles, send-next-upload}
 use Rattle.call_theorems.specs.Ready.{Ready, StaysReady, Keeping}
 use Rattle.rules.proofs.InOrder.{Fit}
 use Rattle.call_theorems.proofs.Back.{ready-fits, fit-ready}

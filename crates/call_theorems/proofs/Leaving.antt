@@ -45,13 +45,13 @@ use Rattle.outgoing.specs.Outgoing.{requestFields, reversalFields, requestMessa
 use Rattle.outgoing.specs.declared.Original.{Original}
 use Rattle.outgoing.proofs.Leaving.{request-held, reversal-held, request-listed, reversal-listed, written-is}
 use Rattle.outgoing_theorems.proofs.Theorems.{sent-reads-back}
-use Rattle.call_start.proofs.Held.{entry-in-form}
+use Rattle.call_definitions.proofs.Held.{entry-in-form}
 use Rattle.call_definitions.specs.Start.{originalOf, entryOf, namedBy, startRules}
 use Rattle.desk.specs.DeskRules.{deskInForm, requestOf}
 use Rattle.desk.specs.declared.Desk.{Desk}
 use Rattle.batch_messages.specs.BatchMessages.{settlementFields, settlementMessage, itemFields, itemMessage, endFields, endMessage}
 use Rattle.batch_messages.proofs.Held.{settlement-held, settlement-listed, EntryHeld, item-held, end-held, upload-listed}
-use Rattle.terminal.specs.Shapes.{SettingsShaped}
+use Rattle.call_definitions.specs.Shapes.{SettingsShaped}
 
 -- the bytes of a message of held fields read
 bytes-read : (i : ℕ) (xs : List Item) (m : List ℕ) → among i indicators ≡ true → allHeld xs ≡ true → largest ≤ length m

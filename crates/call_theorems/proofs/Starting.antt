@@ -34,7 +34,7 @@ use Rattle.state_rules.specs.StateRules.{isCard, requestInForm, past}
 use Rattle.rules.proofs.InOrder.{Fit}
 use Rattle.state_rules.proofs.Holds.{RequestHolds, card-holds, request-back}
 use Rattle.outgoing.specs.Outgoing.{requestMessage}
-use Rattle.call_start.proofs.Held.{found-for, entry-in-form}
+use Rattle.call_definitions.proofs.Held.{found-for, entry-in-form}
 use Rattle.call_definitions.specs.Start.{originalOf, entryOf, namedBy, startRules, start}
 use Rattle.desk.specs.DeskRules.{deskInForm, requestOf}
 use Rattle.effect_definitions.specs.StateEffects.{requested}

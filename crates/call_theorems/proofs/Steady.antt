@@ -35,7 +35,7 @@ use Rattle.call_definitions.specs.Answer.{noAnswer, withoutPower, powerReturned
 use Rattle.call_definitions.specs.SendReversal.{sendFrom, sendReversal}
 use Rattle.call_definitions.specs.Settle.{settle}
 use Rattle.call_definitions.specs.SendNextUpload.{sendsNext, uploadFrom, sendNextUpload}
-use Rattle.terminal.specs.Events.{signed-on, starts, answers, no-answer, power-returned, send-reversal, settles, send-next-upload}
+use Rattle.call_definitions.specs.Events.{signed-on, starts, answers, no-answer, power-returned, send-reversal, settles, send-next-upload}
 use Rattle.call_theorems.specs.Facts.{SettingsStay, SameButMessage, MessageByLength}
 
 -- the settings

@@ -43,7 +43,7 @@ use Rattle.call_definitions.specs.Answer.{noAnswer, withoutPower, powerReturned
 use Rattle.call_definitions.specs.SendReversal.{sendFrom, sendReversal}
 use Rattle.call_definitions.specs.Settle.{settle}
 use Rattle.call_definitions.specs.SendNextUpload.{sendsNext, uploadFrom, sendNextUpload}
-use Rattle.terminal.specs.Events.{Event, call, signed-on, starts, answers, no-answer, power-returned, send-reversal, settles, send-next-upload}
+use Rattle.call_definitions.specs.Events.{Event, call, signed-on, starts, answers, no-answer, power-returned, send-reversal, settles, send-next-upload}
 use Rattle.call_theorems.specs.JournalRest.{after, larger, UnusedNotChanged, approvesAwaited, approvesIn, isApproval, EntriesByApproval}
 use Rattle.call_theorems.proofs.Items.{item-next}
 use Rattle.call_theorems.proofs.Rest.{put-after, later-after, set-after, voided-after, voided-length}

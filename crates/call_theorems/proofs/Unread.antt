@@ -40,7 +40,7 @@ use Rattle.call_definitions.specs.Answer.{quietly, noAnswer, withoutPower, powe
 use Rattle.call_definitions.specs.SendReversal.{sendFrom, sendReversal}
 use Rattle.call_definitions.specs.Settle.{settle}
 use Rattle.call_definitions.specs.SendNextUpload.{sendsNext, uploadFrom, sendNextUpload}
-use Rattle.terminal.specs.Events.{Event, call, signed-on, starts, answers, no-answer, power-returned, send-reversal, settles, send-next-upload}
+use Rattle.call_definitions.specs.Events.{Event, call, signed-on, starts, answers, no-answer, power-returned, send-reversal, settles, send-next-upload}
 use Rattle.call_theorems.specs.JournalRest.{upTo, SameButRest, UnusedNotRead}
 use Rattle.call_theorems.proofs.Approving.{left}
 use Rattle.call_theorems.proofs.Rest.{fewer-agree, set-agree, resent-agree, voided-agree, voided-length, put-agree}

@@ -14,8 +14,8 @@ use Rattle.state.specs.Calls.{Lent, lend, Result, refused}
 use Rattle.call_theorems.specs.Ready.{Ready}
 use Rattle.call_definitions.specs.SendReversal.{sendReversal}
 use Rattle.call_definitions.specs.Answer.{noAnswer}
-use Rattle.terminal.specs.Events.{Event, call}
-use Rattle.terminal.specs.Shapes.{SettingsShaped, EventShaped}
+use Rattle.call_definitions.specs.Events.{Event, call}
+use Rattle.call_definitions.specs.Shapes.{SettingsShaped, EventShaped}
 
 -- a refused call changes nothing
 abbrev pub RefusedChangesNothing : Type 0

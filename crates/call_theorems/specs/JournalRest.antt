@@ -15,7 +15,7 @@ use Rattle.state.specs.declared.Phase.the-variants.{Resting, Waiting, Pending, 
 use Rattle.state.specs.declared.State.{State}
 use Rattle.state.specs.Calls.{Lent, lend, Result}
 use Rattle.answer_match.specs.Match.{approves, goodMac}
-use Rattle.terminal.specs.Events.{Event, call, signed-on, starts, answers, no-answer, power-returned, send-reversal, settles, send-next-upload}
+use Rattle.call_definitions.specs.Events.{Event, call, signed-on, starts, answers, no-answer, power-returned, send-reversal, settles, send-next-upload}
 
 -- the bytes of the journal up to the last of n entries, and those after it
 abbrev pub upTo : ℕ → List ℕ → List ℕ

@@ -5,7 +5,7 @@ use Rattle.journal.specs.Journal.{entriesOf}
 use Rattle.state.specs.declared.State.{State}
 use Rattle.state.specs.Calls.{Lent, Result}
 use Rattle.rules.specs.Rules.{tooShort, keepsRule2}
-use Rattle.terminal.specs.Events.{Event, call}
+use Rattle.call_definitions.specs.Events.{Event, call}
 
 -- rules 1 and 2 let every call pass
 pub record Ready (s : State) (lent : Lent) : Type 0 where

@@ -11,7 +11,7 @@ use Rattle.reading.specs.Reading.{readMessage}
 use Rattle.reading.specs.declared.ReadOutcome.the-variants.{Read}
 use Rattle.state.specs.declared.State.{State}
 use Rattle.state.specs.Calls.{Lent}
-use Rattle.terminal.specs.Events.{call, answers}
+use Rattle.call_definitions.specs.Events.{call, answers}
 
 -- answers carry 32, 44 and 63, and the terminal doesn't use them
 abbrev pub unused : ℕ → Bool

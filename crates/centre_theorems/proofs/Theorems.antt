@@ -25,7 +25,7 @@ use Rattle.compose.proofs.Composed.{all-composed}
 use Rattle.compose.proofs.Held.{apart, held-append}
 use Rattle.outgoing.proofs.Fields.{amount-held, trace-held, reference-held, authorisation-held, reason-held, terminal-held, merchant-held, mac-held}
 use Rattle.outgoing_theorems.specs.Theorems.{outgoingBytes, Reads}
-use Rattle.terminal.specs.Events.{call}
+use Rattle.call_definitions.specs.Events.{call}
 use Rattle.call_theorems.proofs.Facts.{sent-reads}
 use Rattle.centre_types.specs.Types.{leftAs, answerType, isApproval}
 use Rattle.centre_totals.specs.Totals.{sentPart, field48With}

@@ -16,8 +16,8 @@ use Rattle.writing.specs.declared.Writing.the-variants.{Written}
 use Rattle.state.specs.declared.State.{State}
 use Rattle.state.specs.declared.Outcome.the-variants.{Send}
 use Rattle.state.specs.Calls.{Lent}
-use Rattle.terminal.specs.Events.{Event, call}
-use Rattle.terminal.specs.Shapes.{SettingsShaped, EventShaped}
+use Rattle.call_definitions.specs.Events.{Event, call}
+use Rattle.call_definitions.specs.Shapes.{SettingsShaped, EventShaped}
 use Rattle.outgoing_theorems.specs.Theorems.{outgoingBytes}
 use Rattle.centre_types.specs.Types.{leftAs}
 use Rattle.centre.specs.Centre.{reply, reconciliation}

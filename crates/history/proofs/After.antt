@@ -13,7 +13,7 @@ use Rattle.state.specs.declared.Settings.{Settings}
 use Rattle.state.specs.declared.State.{State}
 use Rattle.state.specs.State.{waits, pends}
 use Rattle.state.specs.Calls.{Lent, Result, refused, judged}
-use Rattle.terminal.specs.Events.{Event}
+use Rattle.call_definitions.specs.Events.{Event}
 use Rattle.history.specs.Words.{messageIn, isRequest, isReversal, isSettlement}
 use Rattle.history.specs.History as history
 use Rattle.history.specs.History.{Given, sent, Request, Account, asked, withReversal, whenSent, whenGiven}

@@ -16,7 +16,7 @@ use Rattle.state.specs.declared.Counts.{Counts}
 use Rattle.state.specs.declared.Count.{Count}
 use Rattle.state.specs.declared.Count.the-variants.{Sent, Approved, Declined, Reversed, GivenUp, Unanswered}
 use Rattle.state.specs.State.{noCounts, plus}
-use Rattle.terminal.specs.Events.{Event}
+use Rattle.call_definitions.specs.Events.{Event}
 use Rattle.history.specs.Words.{kindIn, isDebit, isCredit}
 use Rattle.history.specs.History.{Ending, approved, declined, reversed, given-up, unanswered, Fate, deciding, pending, out, ended, Request, asked, becomes, approvedFor, count, amount, endedAs, isWaiting, approvedDebit, approvedCredit}
 use Rattle.history.specs.Demand.{countsOf}

@@ -24,8 +24,8 @@ use Rattle.effect_definitions.specs.StateEffects.{adopts}
 use Rattle.answer_match.specs.Match.{isAnswer}
 use Rattle.call_definitions.specs.Answer.{quietly, noAnswerRules, noAnswer, withoutPower, powerReturned, answersIn, answeredIn, answerRules, answerIn, readIn, answer}
 use Rattle.effect_definitions.specs.JournalEffects.{silentIn}
-use Rattle.terminal.specs.Events.{Event, signed-on, starts, answers, no-answer, power-returned, send-reversal, settles, send-next-upload, call}
-use Rattle.terminal.specs.Shapes.{EventShaped}
+use Rattle.call_definitions.specs.Events.{Event, signed-on, starts, answers, no-answer, power-returned, send-reversal, settles, send-next-upload, call}
+use Rattle.call_definitions.specs.Shapes.{EventShaped}
 use Rattle.history.specs.Words.{messageIn}
 use Rattle.history.specs.History.{Account, byFate, whenSilent}
 use Rattle.history.proofs.Requests.{silent-same}

@@ -52,7 +52,7 @@ use Rattle.call_definitions.specs.Answer.{quietly, noAnswerRules, noAnswer, pow
 use Rattle.call_theorems.specs.Ready.{Ready}
 use Rattle.call_theorems.proofs.Back.{ready-fits, fit-ready}
 use Rattle.call_theorems.proofs.Keeping.{keeping}
-use Rattle.terminal.specs.Events.{Event, signed-on, starts, answers, no-answer, power-returned, send-reversal, settles, send-next-upload, call}
+use Rattle.call_definitions.specs.Events.{Event, signed-on, starts, answers, no-answer, power-returned, send-reversal, settles, send-next-upload, call}
 use Rattle.history.specs.History.{refused as declined, Call, History}
 use Rattle.history.specs.Demand.{Invocation, Run, givenBy, recorded, runs, begun, Each}
 use Rattle.history.specs.NotEmpty.{BuffersSuffice, NeverRefusedByRules12}

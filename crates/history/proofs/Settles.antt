@@ -35,7 +35,7 @@ use Rattle.batch_messages.specs.BatchMessages.{settlementMessage, itemMessage, 
 use Rattle.effect_definitions.specs.StateEffects as effects
 use Rattle.call_definitions.specs.SendNextUpload.{sendsNext, uploadFrom, sendNextUploadRules, sendNextUpload}
 use Rattle.effect_definitions.specs.JournalEffects.{resent}
-use Rattle.terminal.specs.Events.{settles, send-next-upload}
+use Rattle.call_definitions.specs.Events.{settles, send-next-upload}
 use Rattle.history.specs.Words.{messageIn}
 use Rattle.history.specs.History.{sent, Request, Account, whenGiven}
 use Rattle.history.specs.Demand.{Carries}

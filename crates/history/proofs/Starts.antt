@@ -28,11 +28,11 @@ use Rattle.call_definitions.specs.Start.{originalOf, entryOf, namedBy, startRul
 use Rattle.desk.specs.DeskRules.{requestOf}
 use Rattle.effect_definitions.specs.StateEffects.{requested, again}
 use Rattle.desk.specs.declared.Desk.{Desk}
-use Rattle.call_start.proofs.Refusals.{unbroken}
-use Rattle.call_start.proofs.Held.{may-send}
+use Rattle.call_definitions.proofs.Refusals.{unbroken}
+use Rattle.call_definitions.proofs.Held.{may-send}
 use Rattle.call_definitions.specs.SendReversal.{sendFrom, sendReversalRules, sendReversal}
 use Rattle.call_theorems.proofs.Starting.{start-fits}
-use Rattle.terminal.specs.Events.{Event, starts, send-reversal}
+use Rattle.call_definitions.specs.Events.{Event, starts, send-reversal}
 use Rattle.history.specs.Words.{messageIn}
 use Rattle.history.specs.History.{sent, pending, out, Account, asked, withSending, whenGiven}
 use Rattle.history.proofs.Said.{handedOut, Says}

@@ -6,8 +6,8 @@ use Prim.Native.Nat.{ℕ, _≤_}
 use Rattle.message.specs.declared.Message.{Message}
 use Rattle.state.specs.declared.Settings.{Settings}
 use Rattle.state.specs.Calls.{lend}
-use Rattle.terminal.specs.Events.{call}
-use Rattle.terminal.specs.Shapes.{SettingsShaped, EventShaped}
+use Rattle.call_definitions.specs.Events.{call}
+use Rattle.call_definitions.specs.Shapes.{SettingsShaped, EventShaped}
 use Rattle.history.specs.Words.{messageIn, isRequest, isReversal, isSettlement}
 use Rattle.history.specs.History.{Given, History, Request, Account, account, batchOf}
 use Rattle.history.specs.Demand.{Invocation, Run, recorded, runs, begun, InvocationsShaped, Each, EachSent, EachRequest, inReversals, Carries, Demand3For, Demand3}

@@ -18,7 +18,7 @@ use Rattle.state.specs.declared.Phase.the-variants.{Resting, Waiting, Pending, 
 use Rattle.state.specs.declared.Counts.{Counts}
 use Rattle.state.specs.declared.Settings.{Settings}
 use Rattle.state.specs.declared.State.{State}
-use Rattle.terminal.specs.Shapes.{SettingsShaped}
+use Rattle.call_definitions.specs.Shapes.{SettingsShaped}
 use Rattle.history.specs.Words.{closesBatch}
 use Rattle.history.specs.History.{Fate, deciding, pending, out, Request, Account, withSending, whenSilent, whenHeard, byFate, reversing, withReversal, isWaiting, inReversal}
 use Rattle.history.specs.Demand.{EachRequest, waiting, inReversals}

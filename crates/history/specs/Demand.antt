@@ -15,8 +15,8 @@ use Rattle.state.specs.declared.Outcome.{Outcome}
 use Rattle.state.specs.declared.Outcome.the-variants.{Send, Quiet, Refused}
 use Rattle.state.specs.declared.Settings.{Settings}
 use Rattle.state.specs.declared.State.{State}
-use Rattle.terminal.specs.Events.{Event, call}
-use Rattle.terminal.specs.Shapes.{SettingsShaped, EventShaped}
+use Rattle.call_definitions.specs.Events.{Event, call}
+use Rattle.call_definitions.specs.Shapes.{SettingsShaped, EventShaped}
 use Rattle.history.specs.Words.{messageIn, isRequest, isReversal, isSettlement}
 use Rattle.history.specs.History.{Given, sent, quiet, refused, Call, History, Ending, approved, declined, reversed, given-up, unanswered, Request, batchOf, count, amount, endedAs, isWaiting, inReversal, approvedDebit, approvedCredit}
 

@@ -6,7 +6,7 @@ use Prim.Native.Nat.{ℕ, _+_}
 use lib.Dec.{leb, eqb}
 use Rattle.message.specs.Message.{empty}
 use Rattle.message.specs.declared.Message.{Message}
-use Rattle.terminal.specs.Events.{Event, signed-on, starts, answers, no-answer, power-returned, send-reversal, settles, send-next-upload}
+use Rattle.call_definitions.specs.Events.{Event, signed-on, starts, answers, no-answer, power-returned, send-reversal, settles, send-next-upload}
 use Rattle.history.specs.Words.{messageIn, kindIn, amountIn, isRequest, isReversal, isMatching, isApproval, macGood, endsIt, closesBatch, isDebit, isCredit}
 
 -- what came back: the message to send, a quiet change or a refusal number

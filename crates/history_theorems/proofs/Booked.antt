@@ -47,7 +47,7 @@ use Rattle.call_definitions.specs.Answer.{traceSent, quietly, noAnswer, without
 use Rattle.call_definitions.specs.SendReversal.{sendFrom, sendReversal}
 use Rattle.call_definitions.specs.Settle.{settle}
 use Rattle.call_definitions.specs.SendNextUpload.{sendsNext, uploadFrom, sendNextUpload}
-use Rattle.terminal.specs.Events.{Event, signed-on, starts, answers, no-answer, power-returned, send-reversal, settles, send-next-upload, call}
+use Rattle.call_definitions.specs.Events.{Event, signed-on, starts, answers, no-answer, power-returned, send-reversal, settles, send-next-upload, call}
 use Rattle.history.specs.Words.{messageIn, isRequest, closesBatch}
 use Rattle.history.proofs.Sent.{Typed, reversal-typed, settlement-typed, item-typed, end-typed}
 use Rattle.history.proofs.Matching.{approves-alike, mac-alike, settlement-closes, end-closes, other-closes}

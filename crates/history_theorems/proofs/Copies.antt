@@ -36,7 +36,7 @@ use Rattle.state.specs.declared.Phase.{Phase}
 use Rattle.state.specs.declared.Phase.the-variants.{Resting, Waiting, Pending, Settling, Uploading}
 use Rattle.state.specs.declared.Settings.{Settings}
 use Rattle.state.specs.declared.State.{State}
-use Rattle.terminal.specs.Events.{Event, signed-on, starts, answers, no-answer, power-returned, send-reversal, settles, send-next-upload}
+use Rattle.call_definitions.specs.Events.{Event, signed-on, starts, answers, no-answer, power-returned, send-reversal, settles, send-next-upload}
 use Rattle.history.specs.Words.{messageIn, reads, amountIn, isRequest, isSettlement, sameField, isApproval, matchesMessage, holdsItsFields, isMatching, macGood, closesBatch}
 use Rattle.history.specs.History as history
 use Rattle.history.specs.History.{Given}

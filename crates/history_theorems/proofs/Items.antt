@@ -47,7 +47,7 @@ use Rattle.call_definitions.specs.Answer.{quietly, noAnswerRules, noAnswer, wit
 use Rattle.call_definitions.specs.SendReversal.{sendFrom, sendReversal}
 use Rattle.call_definitions.specs.Settle.{settle}
 use Rattle.call_definitions.specs.SendNextUpload.{sendsNext, sendNextUploadRules, uploadFrom, sendNextUpload}
-use Rattle.terminal.specs.Events.{Event, signed-on, starts, answers, no-answer, power-returned, send-reversal, settles, send-next-upload, call}
+use Rattle.call_definitions.specs.Events.{Event, signed-on, starts, answers, no-answer, power-returned, send-reversal, settles, send-next-upload, call}
 use Rattle.history.specs.Words.{messageIn, kindIn, isRequest, isApproval, macGood, closesBatch, processingFor}
 use Rattle.history.specs.History as history
 use Rattle.history.specs.History.{Given, Account}

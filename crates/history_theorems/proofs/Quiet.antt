@@ -29,7 +29,7 @@ use Rattle.call_definitions.specs.SignOn.{signedOnRules, signedOn}
 use Rattle.call_definitions.specs.Answer.{traceSent, quietly, noAnswerRules, noAnswer, withoutPower, powerReturned, answerIn, readIn, answer}
 use Rattle.effect_definitions.specs.JournalEffects.{silentIn, answered}
 use Rattle.answer_match.specs.Match.{isAnswer}
-use Rattle.terminal.specs.Events.{Event, signed-on, answers, no-answer, power-returned}
+use Rattle.call_definitions.specs.Events.{Event, signed-on, answers, no-answer, power-returned}
 use Rattle.history.specs.Words.{messageIn, isMatching}
 use Rattle.history.specs.History.{Account}
 use Rattle.history.proofs.Tied.{Shape, Tied}

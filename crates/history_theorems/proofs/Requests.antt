@@ -41,8 +41,8 @@ use Rattle.state.specs.Calls.{Lent}
 use Rattle.checks.specs.Checks.{firstBroken}
 use Rattle.rules.proofs.InOrder.{Fit}
 use Rattle.outgoing.proofs.Leaving.{request-held, request-listed}
-use Rattle.call_start.proofs.Refusals.{unbroken}
-use Rattle.call_start.proofs.Held.{found-for, entry-in-form, may-send}
+use Rattle.call_definitions.proofs.Refusals.{unbroken}
+use Rattle.call_definitions.proofs.Held.{found-for, entry-in-form, may-send}
 use Rattle.history.specs.Words.{messageIn, typeFor}
 use Rattle.history.specs.History.{Account}
 use Rattle.history.proofs.Said.{handedOut, sent-reads}

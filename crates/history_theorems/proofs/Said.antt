@@ -11,7 +11,7 @@ use Rattle.state.specs.Calls.{Lent, Result, judged, refused}
 use Rattle.checks.specs.Checks.{Rule, firstBroken}
 use Rattle.rules.specs.Rules.{rules12, tooShort, keepsRule2}
 use Rattle.rules.proofs.InOrder.{Fit, fit}
-use Rattle.terminal.specs.Events.{Event}
+use Rattle.call_definitions.specs.Events.{Event}
 use Rattle.history.specs.History as history
 use Rattle.history.specs.History.{Given}
 use Rattle.history.specs.Demand.{givenBy}

@@ -53,7 +53,7 @@ use Rattle.effect_definitions.specs.JournalEffects.{resent}
 use Rattle.call_definitions.specs.SendReversal.{sendReversalRules, sendFrom, sendReversal}
 use Rattle.call_definitions.specs.Settle.{settleRules, settleNow, settle}
 use Rattle.call_definitions.specs.SendNextUpload.{sendNextUploadRules, sendsNext, uploadFrom, sendNextUpload}
-use Rattle.terminal.specs.Events.{send-reversal, settles, send-next-upload}
+use Rattle.call_definitions.specs.Events.{send-reversal, settles, send-next-upload}
 use Rattle.history.specs.Words.{messageIn, isRequest, isSettlement}
 use Rattle.history.specs.History.{Account}
 use Rattle.history.proofs.Said.{handedOut, sent-reads, number-read}

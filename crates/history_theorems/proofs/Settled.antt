@@ -28,7 +28,7 @@ use Rattle.outgoing_theorems.specs.Theorems.{Reads}
 use Rattle.batch_messages.specs.BatchMessages.{settlementFields, settlementMessage}
 use Rattle.batch_messages.proofs.Held.{settlement-held, settlement-listed}
 use Rattle.call_definitions.specs.Settle.{settleRules, settleNow, settle}
-use Rattle.terminal.specs.Events.{Event, settles, call}
+use Rattle.call_definitions.specs.Events.{Event, settles, call}
 use Rattle.history.specs.Words.{messageIn}
 use Rattle.history.specs.History as history
 use Rattle.history.specs.History.{Request, Account}

@@ -16,8 +16,8 @@ use Rattle.rules.proofs.InOrder.{Fit}
 use Rattle.desk.specs.declared.Desk.{Desk}
 use Rattle.desk.specs.DeskRules.{restRules}
 use Rattle.call_definitions.specs.Start.{start}
-use Rattle.terminal.specs.Events.{Event, starts, call}
-use Rattle.terminal.specs.Shapes.{EventShaped}
+use Rattle.call_definitions.specs.Events.{Event, starts, call}
+use Rattle.call_definitions.specs.Shapes.{EventShaped}
 use Rattle.history.specs.History.{Account, refused}
 use Rattle.history.proofs.Tied.{Tied}
 use Rattle.history_theorems.specs.Standing.{Standing}

@@ -46,9 +46,9 @@ use Rattle.effect_definitions.specs.StateEffects.{requested}
 use Rattle.desk.specs.declared.Desk.{Desk}
 use Rattle.desk.specs.DeskRules.{requestOf, restRules, deskRules, journalRules}
 use Rattle.call_definitions.specs.Start.{originalOf, entryOf, namedBy, startRules, start}
-use Rattle.call_start.proofs.Refusals.{unbroken}
-use Rattle.call_start.proofs.Held.{may-send}
-use Rattle.terminal.specs.Events.{starts}
+use Rattle.call_definitions.proofs.Refusals.{unbroken}
+use Rattle.call_definitions.proofs.Held.{may-send}
+use Rattle.call_definitions.specs.Events.{starts}
 use Rattle.history.specs.Words.{messageIn, isRequest}
 use Rattle.history.specs.History as history
 use Rattle.history.specs.History.{Account}

@@ -17,9 +17,9 @@ use Rattle.call_theorems.specs.Facts.{Leaves}
 use Rattle.call_theorems.proofs.Facts.{sent-reads}
 use Rattle.call_theorems.proofs.Steady.{settings-stay}
 use Rattle.outgoing_theorems.specs.Theorems as outgoing
-use Rattle.terminal.specs.Events.{Event, signed-on, starts, answers, no-answer, power-returned, send-reversal, settles, send-next-upload, call}
+use Rattle.call_definitions.specs.Events.{Event, signed-on, starts, answers, no-answer, power-returned, send-reversal, settles, send-next-upload, call}
 use Rattle.desk.specs.declared.Desk.{Desk}
-use Rattle.terminal.specs.Shapes.{SettingsShaped, EventShaped}
+use Rattle.call_definitions.specs.Shapes.{SettingsShaped, EventShaped}
 use Rattle.history.specs.Words.{messageIn, isRequest}
 use Rattle.history.specs.History as history
 use Rattle.history.specs.History.{Call, Account, account, batchOf}

@@ -29,8 +29,8 @@ use Rattle.desk.specs.DeskRules.{restRules}
 use Rattle.call_definitions.specs.Start.{start}
 use Rattle.call_definitions.specs.Settle.{settleRules, settle}
 use Rattle.call_definitions.specs.SendNextUpload.{sendNextUploadRules, sendsNext, uploadFrom, sendNextUpload}
-use Rattle.terminal.specs.Events.{Event, signed-on, starts, answers, no-answer, power-returned, send-reversal, settles, send-next-upload, call}
-use Rattle.terminal.specs.Shapes.{EventShaped}
+use Rattle.call_definitions.specs.Events.{Event, signed-on, starts, answers, no-answer, power-returned, send-reversal, settles, send-next-upload, call}
+use Rattle.call_definitions.specs.Shapes.{EventShaped}
 use Rattle.history.specs.Words.{messageIn, isReversal}
 use Rattle.history.specs.History as history
 use Rattle.history.specs.History.{Account}

@@ -15,8 +15,8 @@ use Rattle.parts.specs.declared.Part.the-variants as part
 use Rattle.entry.specs.declared.Entry.{Entry}
 use Rattle.journal.specs.Journal.{entriesOf}
 use Rattle.state.specs.declared.Settings.{Settings}
-use Rattle.terminal.specs.Events.{Event, signed-on, starts, answers, no-answer, power-returned, send-reversal, settles, send-next-upload}
-use Rattle.terminal.specs.Shapes.{SettingsShaped}
+use Rattle.call_definitions.specs.Events.{Event, signed-on, starts, answers, no-answer, power-returned, send-reversal, settles, send-next-upload}
+use Rattle.call_definitions.specs.Shapes.{SettingsShaped}
 use Rattle.history.specs.Words.{messageIn, kindIn, amountIn, isRequest, isApproval, macGood, closesBatch}
 use Rattle.history.specs.History.{Given, sent, quiet, refused, History}
 use Rattle.history.specs.Demand.{Invocation, runs, begun, InvocationsShaped}

@@ -17,8 +17,8 @@ use Rattle.parts.specs.Parts.{partOf}
 use Rattle.parts.specs.declared.Part.the-variants as part
 use Rattle.numbers.specs.declared.Batch.{Batch}
 use Rattle.state.specs.declared.Settings.{Settings}
-use Rattle.terminal.specs.Events.{Event, signed-on, starts, answers, no-answer, power-returned, send-reversal, settles, send-next-upload}
-use Rattle.terminal.specs.Shapes.{SettingsShaped}
+use Rattle.call_definitions.specs.Events.{Event, signed-on, starts, answers, no-answer, power-returned, send-reversal, settles, send-next-upload}
+use Rattle.call_definitions.specs.Shapes.{SettingsShaped}
 use Rattle.history.specs.Words.{messageIn, isRequest, isReversal, isSettlement, isMatching}
 use Rattle.history.specs.History.{Given, sent, quiet, refused, Fate, deciding, pending, out, ended, Request, batchOf, count}
 use Rattle.history.specs.Demand.{Invocation, runs, begun, InvocationsShaped, Each}

@@ -14,8 +14,8 @@ use Rattle.outgoing_theorems.specs.Theorems.{Reads}
 use Rattle.state.specs.declared.Card.{Card}
 use Rattle.state.specs.declared.Settings.{Settings}
 use Rattle.desk.specs.declared.Desk.{Desk}
-use Rattle.terminal.specs.Events.{starts}
-use Rattle.terminal.specs.Shapes.{SettingsShaped}
+use Rattle.call_definitions.specs.Events.{starts}
+use Rattle.call_definitions.specs.Shapes.{SettingsShaped}
 use Rattle.history.specs.Words.{messageIn, kindIn, amountIn, listedKinds, debitKinds, creditKinds, voidKinds, voidedKind, datedKinds, authorisedKinds, typeFor}
 use Rattle.history.specs.History.{Given, sent, refused, batchOf}
 use Rattle.history.specs.Demand.{Invocation, runs, begun, InvocationsShaped, Each}

@@ -5,8 +5,8 @@ use Prim.Native.Nat.{ℕ}
 use Rattle.reading.specs.Reading.{readMessage}
 use Rattle.outgoing_theorems.specs.Theorems.{Reads}
 use Rattle.state.specs.declared.Settings.{Settings}
-use Rattle.terminal.specs.Events.{settles}
-use Rattle.terminal.specs.Shapes.{SettingsShaped}
+use Rattle.call_definitions.specs.Events.{settles}
+use Rattle.call_definitions.specs.Shapes.{SettingsShaped}
 use Rattle.history.specs.Words.{messageIn}
 use Rattle.history.specs.History.{sent, batchOf}
 use Rattle.history.specs.Demand.{Invocation, runs, begun, InvocationsShaped, Each}

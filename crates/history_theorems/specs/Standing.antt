@@ -10,7 +10,7 @@ use Rattle.message.specs.Message.{empty}
 use Rattle.message.specs.declared.Message.{Message}
 use Rattle.parts.specs.Parts.{partOf}
 use Rattle.parts.specs.declared.Part.the-variants as part
-use Rattle.terminal.specs.Events.{Event, signed-on, starts, answers, no-answer, power-returned, send-reversal, settles, send-next-upload}
+use Rattle.call_definitions.specs.Events.{Event, signed-on, starts, answers, no-answer, power-returned, send-reversal, settles, send-next-upload}
 use Rattle.history.specs.Words.{messageIn, isRequest, isSettlement, isEnd, closesBatch}
 use Rattle.history.specs.History.{Given, sent, quiet, refused, History}
 

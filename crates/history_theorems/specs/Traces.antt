@@ -5,7 +5,7 @@ use mathlib.Core.Bool.{Bool, true, false, _||_}
 use Prim.Native.Nat.{ℕ, zero, suc, _<_}
 use lib.Dec.{eqb}
 use Rattle.state.specs.declared.Settings.{Settings}
-use Rattle.terminal.specs.Shapes.{SettingsShaped}
+use Rattle.call_definitions.specs.Shapes.{SettingsShaped}
 use Rattle.history.specs.Words.{messageIn}
 use Rattle.history.specs.History.{sent}
 use Rattle.history.specs.Demand.{Invocation, runs, begun, InvocationsShaped, Each}

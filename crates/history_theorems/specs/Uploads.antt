@@ -9,8 +9,8 @@ use Rattle.message.specs.declared.Message.{Message}
 use Rattle.reading.specs.Reading.{readMessage}
 use Rattle.outgoing_theorems.specs.Theorems.{Reads}
 use Rattle.state.specs.declared.Settings.{Settings}
-use Rattle.terminal.specs.Events.{Event, signed-on, starts, answers, no-answer, power-returned, send-reversal, settles, send-next-upload}
-use Rattle.terminal.specs.Shapes.{SettingsShaped}
+use Rattle.call_definitions.specs.Events.{Event, signed-on, starts, answers, no-answer, power-returned, send-reversal, settles, send-next-upload}
+use Rattle.call_definitions.specs.Shapes.{SettingsShaped}
 use Rattle.history.specs.Words.{messageIn, isRequest, isApproval, macGood, isEnd, closesBatch, isDebit, isCredit}
 use Rattle.history.specs.History.{Given, sent, quiet, refused, History}
 use Rattle.history.specs.Demand.{Invocation, runs, begun, InvocationsShaped, Each}

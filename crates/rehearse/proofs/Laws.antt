@@ -9,7 +9,7 @@ use Rattle.state.specs.Calls.{Lent, Result}
 use Rattle.calls.specs.declared.Call.{Call}
 use Rattle.terminal.specs.Terminal.{stepResult}
 use Rattle.terminal.specs.declared.Step.{Step}
-use Rattle.dispatch.specs.Dispatch.{eventOf}
+use Rattle.call_definitions.specs.Events.{eventOf}
 use Rattle.texts.specs.Text.{Text}
 use Rattle.words.specs.Rows.{row}
 use Rattle.words.specs.Words.{wordAt}

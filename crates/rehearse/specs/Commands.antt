@@ -4,8 +4,7 @@ use mathlib.Core.Bool.{Bool, true, false, cond, _||_}
 use Prim.Native.Nat.{ℕ}
 use lib.Dec.{eqb}
 use Rattle.state.specs.Calls.{Lent}
-use Rattle.terminal.specs.Events.{answers}
-use Rattle.dispatch.specs.Dispatch.{eventOf}
+use Rattle.call_definitions.specs.Events.{answers, eventOf}
 use Rattle.words.specs.Rows.{row}
 use Rattle.words.specs.Words.{wordAt}
 use Rattle.script.specs.declared.Command.{Command}

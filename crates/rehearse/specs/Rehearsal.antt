@@ -3,7 +3,7 @@ use mathlib.Core.Path.{_≡_}
 use mathlib.Core.List.{List}
 use Prim.Native.Nat.{ℕ}
 use Rattle.state.specs.Calls.{Lent, Result}
-use Rattle.terminal.specs.Events.{Event, call}
+use Rattle.call_definitions.specs.Events.{Event, call}
 use Rattle.texts.specs.Text.{Text}
 use Rattle.screen.specs.Outcomes.{outcomeLine}
 use Rattle.stage.specs.declared.Rehearsal.{Rehearsal}

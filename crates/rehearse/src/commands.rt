@@ -41,7 +41,7 @@ pub fn act(
             let terminal = Terminal { state: state };
             let mut bytes = [0u8; 2048];
             let n = lines::answer_into(command, words::word(s, 1), sent, r.date, &mut bytes);
-            let step = dispatch::make(terminal, c, desk, &bytes[..n], journal, message);
+            let step = terminal.make(c, desk, &bytes[..n], journal, message);
             told(step, r, message, out)
         }
         Asked::Error(error) => Acted {

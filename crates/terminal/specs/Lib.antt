@@ -1,3 +1,1 @@
 pub mod Terminal
-pub mod Events
-pub mod Shapes

@@ -1,4 +1,5 @@
 // The card terminal: its state, and the calls of document 01 as methods.
+use calls::Call;
 use desk::Desk;
 use entry::Entry;
 use message::Message;
@@ -11,7 +12,7 @@ ghost use mathlib.Core.Path.{_≡_};
 ghost use Rattle.state.specs.State.{fresh};
 ghost use Rattle.state.specs.Calls.{lend};
 ghost use Rattle.terminal.specs.Terminal.{limits, stepResult, stepOf};
-ghost use Rattle.terminal.specs.Events.{call, signed-on, starts, answers, no-answer, power-returned, send-reversal, settles, send-next-upload};
+ghost use Rattle.call_definitions.specs.Events.{call, eventOf, signed-on, starts, answers, no-answer, power-returned, send-reversal, settles, send-next-upload};
 
 pub struct Terminal {
     pub state: State,
@@ -128,6 +129,29 @@ impl Terminal {
     {
         let state = self.state;
         step_of(call_upload::send_next_upload(state, journal, message))
+    }
+
+    // The call that a value names, with what the desk keyed and the bytes of an answer.
+    pub fn make(
+        self,
+        c: Call,
+        desk: Desk,
+        bytes: &[u8],
+        journal: &mut [u8],
+        message: &mut [u8],
+    ) -> Step
+        ensures { λ r. ⌜ stepResult r (lend (now (journal .exit)) (now (message .exit))) ≡ call (eventOf c desk (now (bytes .entry))) (self .state) (lend (now (journal .entry)) (now (message .entry))) ⌝ }
+    {
+        match c {
+            Call::SignedOn(batch) => self.signed_on(batch, journal, message),
+            Call::Start => self.start(desk, journal, message),
+            Call::Answer(good) => self.answer(bytes, good, journal, message),
+            Call::NoAnswer => self.no_answer(journal, message),
+            Call::PowerReturned => self.power_returned(journal, message),
+            Call::SendReversal => self.send_reversal(journal, message),
+            Call::Settle => self.settle(journal, message),
+            Call::SendNextUpload => self.send_next_upload(journal, message),
+        }
     }
 }
 

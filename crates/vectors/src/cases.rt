@@ -95,7 +95,7 @@ pub fn call(s: &[u8], journal: &mut [u8], message: &mut [u8]) -> Step {
     let state = reading.state;
     let terminal = Terminal { state: state };
     let desk = desk_of(part(s, DESK, 42));
-    dispatch::make(terminal, call_of(s), desk, answer_of(s), journal, message)
+    terminal.make(call_of(s), desk, answer_of(s), journal, message)
 }
 
 fn call_of(s: &[u8]) -> Call {

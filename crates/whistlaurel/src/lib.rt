@@ -263,7 +263,7 @@ fn make(
     }
     let state = held.state;
     let terminal = Terminal { state: state };
-    let step = dispatch::make(terminal, call, desk, bytes, journal, message);
+    let step = terminal.make(call, desk, bytes, journal, message);
     let outcome = step.outcome;
     let after = step.terminal;
     put_image(after.state, image);

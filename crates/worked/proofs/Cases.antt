@@ -14,7 +14,7 @@ use Rattle.parts.specs.declared.Part.the-variants as part
 use Rattle.state.specs.declared.Outcome.the-variants.{Send, Refused}
 use Rattle.state.specs.declared.Phase.the-variants.{Resting, Pending}
 use Rattle.state.specs.declared.Reason.the-variants.{Silence}
-use Rattle.terminal.specs.Events.{run, settles}
+use Rattle.call_definitions.specs.Events.{run, settles}
 use Rattle.worked.specs.Desk.{opened, keyed, approval, totals}
 use Rattle.worked.specs.Worked.{fieldsNamed, firstSent, sent, saleOnWire, fullest, afterF, afterG, afterH, afterK, firstSale, settlementOf}
 use Rattle.worked.proofs.Machine.{machine}

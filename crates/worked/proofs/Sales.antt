@@ -46,7 +46,7 @@ use Rattle.call_theorems.proofs.Refusing.{Fits}
 use Rattle.call_theorems.proofs.Signing.{signed-on-fits}
 use Rattle.call_theorems.proofs.Starting.{start-fits}
 use Rattle.call_theorems.proofs.Events.{answer-fits}
-use Rattle.terminal.specs.Events.{run}
+use Rattle.call_definitions.specs.Events.{run}
 use Rattle.worked.specs.Desk.{settings, opened, sale, approval}
 use Rattle.worked.specs.Worked.{sales, hundred}
 use Rattle.worked.proofs.Approvals.{asked, approvalBytes, answered, reads, approving, is-answer, good-mac, entry-form}

@@ -14,7 +14,7 @@ use Rattle.state.specs.State.{fresh}
 use Rattle.state.specs.Calls.{lend, Result, quiet}
 use Rattle.state.specs.declared.Settings.{Settings}
 use Rattle.outgoing.specs.Outgoing.{field60}
-use Rattle.terminal.specs.Events.{Event, signed-on, starts, answers, run}
+use Rattle.call_definitions.specs.Events.{Event, signed-on, starts, answers, run}
 
 -- three sendings, refunds up to 100,000 fen
 abbrev pub settings : ℕ → Settings

@@ -13,7 +13,7 @@ use Rattle.state.specs.declared.Phase.{Phase}
 use Rattle.state.specs.declared.Phase.the-variants.{Resting, Waiting, Pending, Settling, Uploading}
 use Rattle.state.specs.declared.State.{State}
 use Rattle.outgoing.specs.Outgoing.{field60}
-use Rattle.terminal.specs.Events.{Event, answers, no-answer, send-reversal, settles, send-next-upload, run}
+use Rattle.call_definitions.specs.Events.{Event, answers, no-answer, send-reversal, settles, send-next-upload, run}
 use Rattle.worked.specs.Desk.{opened, keyed, sale, reply, approval, toReversal}
 
 -- a phase without what it holds

@@ -24,7 +24,7 @@ use Rattle.digits.specs.declared.Number.the-variants.{Is}
 use Rattle.reading.specs.Reading.{readMessage}
 use Rattle.parts.specs.Parts.{partOf}
 use Rattle.parts.specs.declared.Part.the-variants as part
-use Rattle.terminal.specs.Events.{run, no-answer, send-reversal, settles}
+use Rattle.call_definitions.specs.Events.{run, no-answer, send-reversal, settles}
 use Rattle.worked.specs.Desk.{settings, opened, keyed, sale, approval, toReversal, totals}
 use Rattle.writing.specs.declared.Writing.the-variants.{Written}
 

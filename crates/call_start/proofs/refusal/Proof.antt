@@ -3,7 +3,7 @@ use borrow.Author.Needs.{needs}
 use denote.Ref.{now}
 use Rattle.journal.specs.Journal.{entriesOf}
 use Rattle.state.specs.Calls.{lend}
-use Rattle.call_start.proofs.Refusals.{stops-first-refusal, stops-rest, stops-desk, asks-journal}
+use Rattle.call_definitions.proofs.Refusals.{stops-first-refusal, stops-rest, stops-desk, asks-journal}
 use Rattle.call_start.proofs.refusal.Statement.{statement}
 use Rattle.call_start.proofs.refusal.Tie as tie
 

@@ -5,13 +5,15 @@ use Prim.Native.Nat.{ℕ}
 use Rattle.numbers.specs.declared.Batch.{Batch}
 use Rattle.state.specs.declared.State.{State}
 use Rattle.state.specs.Calls.{Lent, Result}
 use Rattle.call_definitions.specs.SignOn.{signedOn}
 use Rattle.call_definitions.specs.Start.{start}
 use Rattle.desk.specs.declared.Desk.{Desk}
+use Rattle.calls.specs.declared.Call.{Call}
+use Rattle.calls.specs.declared.Call.the-variants.{SignedOn, Start, Answer, NoAnswer, PowerReturned, SendReversal, Settle, SendNextUpload}
 use Rattle.call_definitions.specs.SendReversal.{sendReversal}
 use Rattle.call_definitions.specs.Settle.{settle}
 use Rattle.call_definitions.specs.SendNextUpload.{sendNextUpload}
 use Rattle.call_definitions.specs.Answer.{answer, noAnswer, powerReturned}
 
 -- a call, with what is handed in besides state and buffers
 pub data Event : Type 0 where
@@ -23,6 +25,17 @@ pub data Event : Type 0 where
   send-reversal : Event
   settles : Event
   send-next-upload : Event
+
+-- the event that a call's name stands for, with what the desk keyed and the bytes of an answer
+abbrev pub eventOf : Call → Desk → List ℕ → Event
+eventOf (SignedOn batch) desk bytes = signed-on batch
+eventOf Start desk bytes = starts desk
+eventOf (Answer good) desk bytes = answers bytes good
+eventOf NoAnswer desk bytes = no-answer
+eventOf PowerReturned desk bytes = power-returned
+eventOf SendReversal desk bytes = send-reversal
+eventOf Settle desk bytes = settles
+eventOf SendNextUpload desk bytes = send-next-upload
 
 -- what a call gives
 abbrev pub call : Event → State → Lent → Result

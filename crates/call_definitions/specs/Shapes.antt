@@ -3,7 +3,7 @@ use mathlib.Core.Path.{_≡_}
 use Prim.Native.Nat.{ℕ}
 use lib.ListN.{length}
 use Rattle.state.specs.declared.Settings.{Settings}
-use Rattle.terminal.specs.Events.{Event, signed-on, starts, answers, no-answer, power-returned, send-reversal, settles, send-next-upload}
+use Rattle.call_definitions.specs.Events.{Event, signed-on, starts, answers, no-answer, power-returned, send-reversal, settles, send-next-upload}
 
 pub record SettingsShaped (x : Settings) : Type 0 where
   pub terminal-length : length (x .terminal) ≡ 8

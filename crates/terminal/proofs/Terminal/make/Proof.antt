@@ -1,7 +1,7 @@
--- `dispatch::make` meets its contract.
+-- `terminal::Terminal::make` meets its contract.
 use borrow.Author.Needs.{needs}
-use Rattle.dispatch.proofs.make.Statement.{statement}
-use Rattle.dispatch.proofs.make.Tie as tie
+use Rattle.terminal.proofs.Terminal.make.Statement.{statement}
+use Rattle.terminal.proofs.Terminal.make.Tie as tie
 
 enum-known-c : tie.Need-enum-known-c
 enum-known-c c = search needs

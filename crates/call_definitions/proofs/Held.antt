@@ -24,11 +24,11 @@ use Rattle.state_rules.specs.StateRules.{isCard}
 use Rattle.state_rules.proofs.Holds.{card-holds, room-for-one}
 use Rattle.outgoing.specs.Held.{OriginalHeld}
 use Rattle.desk.specs.declared.Desk.{Desk}
 use Rattle.call_definitions.specs.Start.{originalOf, entryOf, namedBy}
 use Rattle.desk.specs.DeskRules.{deskInForm, requestOf}
 use Rattle.approval.specs.Cards.{cardOf}
-use Rattle.call_start.specs.Sending.{MaySend}
-use Rattle.call_start.proofs.Refusals.{Unbroken}
+use Rattle.call_definitions.specs.Sending.{MaySend}
+use Rattle.call_definitions.proofs.Refusals.{Unbroken}
 
 -- what is found is found for a void, by kind and trace
 pub found-for : (d : Desk) (es : List Entry) (f : Found) → originalOf d es ≡ f → nowhere f ≡ false
