@@ -10,6 +10,17 @@ use state::Outcome;
 use state::Settings;
 use state::State;
 use terminal::Terminal;
+ghost use mathlib.Core.Path.{_≡_};
+ghost use lib.ListN.{length as lengthIn};
+ghost use Rattle.message.specs.Message.{largest};
+ghost use Rattle.reading.specs.Reading.{readMessage};
+ghost use Rattle.entry.specs.Entry.{entrySize};
+ghost use Rattle.state.specs.Calls.{lend};
+ghost use Rattle.image.specs.Layout.{size};
+ghost use Rattle.image.specs.Image.{image as imageOf};
+ghost use Rattle.terminal.specs.Events.{signed-on, starts, answers, no-answer, power-returned, send-reversal, settles, send-next-upload};
+ghost use Rattle.dispatch.specs.Dispatch.{eventOf};
+ghost use Rattle.whistlaurel.specs.Interface.{gives, numberOf, lengthOf, onImage, settingsOf, deskOf, returned, freshImage, numberAt, totalsOn, readNumber, held, fieldAt};
 
 // What a function returns beside the numbers of document 01: a message leaves; a message does not hold the field.
 const SENDS: u8 = 255;
@@ -18,19 +29,25 @@ const ABSENT: u8 = 254;
 
 // The bytes of an image.
 #[no_mangle]
-pub extern "C" fn whistlaurel_image_size() -> usize {
+pub extern "C" fn whistlaurel_image_size() -> usize
+    ensures { λ r. ⌜ r ≡ size ⌝ }
+{
     image::SIZE
 }
 
 // The bytes of a message buffer.
 #[no_mangle]
-pub extern "C" fn whistlaurel_message_size() -> usize {
+pub extern "C" fn whistlaurel_message_size() -> usize
+    ensures { λ r. ⌜ r ≡ largest ⌝ }
+{
     Terminal::MESSAGE
 }
 
 // The bytes of a journal entry.
 #[no_mangle]
-pub extern "C" fn whistlaurel_entry_size() -> usize {
+pub extern "C" fn whistlaurel_entry_size() -> usize
+    ensures { λ r. ⌜ r ≡ entrySize ⌝ }
+{
     Terminal::ENTRY
 }
 
@@ -43,7 +60,9 @@ pub extern "C" fn whistlaurel_fresh(
     refund: u64,
     terminal: &[u8; 8],
     merchant: &[u8; 15],
-) -> u8 {
+) -> u8
+    ensures { λ r. ⌜ returned r (now (image .exit)) ≡ freshImage (settingsOf limit sendings refund (now (terminal .entry)) (now (merchant .entry))) (now (image .entry)) ⌝ }
+{
     if image.len() != image::SIZE {
         return 2;
     }
@@ -66,7 +85,9 @@ pub extern "C" fn whistlaurel_signed_on(
     message: &mut [u8],
     length: &mut usize,
     batch: u32,
-) -> u8 {
+) -> u8
+    ensures { λ r. ⌜ gives r (now (length .exit)) (now (image .exit)) (now (journal .exit)) (now (message .exit)) ≡ onImage (signed-on (record { 0 = batch })) (now (image .entry)) (lend (now (journal .entry)) (now (message .entry))) ⌝ }
+{
     make(image, journal, message, length, Call::SignedOn(Batch(batch)), nothing_keyed(), b"")
 }
 
@@ -86,7 +107,9 @@ pub extern "C" fn whistlaurel_start(
     day: u8,
     authorisation: &[u8; 6],
     reference: &[u8; 12],
-) -> u8 {
+) -> u8
+    ensures { λ r. ⌜ gives r (now (length .exit)) (now (image .exit)) (now (journal .exit)) (now (message .exit)) ≡ onImage (starts (deskOf kind amount «card_number» «card_length» original month day (now (authorisation .entry)) (now (reference .entry)))) (now (image .entry)) (lend (now (journal .entry)) (now (message .entry))) ⌝ }
+{
     let desk = Desk {
         kind: kind,
         amount: amount,
@@ -112,7 +135,9 @@ pub extern "C" fn whistlaurel_answer(
     length: &mut usize,
     bytes: &[u8],
     good: bool,
-) -> u8 {
+) -> u8
+    ensures { λ r. ⌜ gives r (now (length .exit)) (now (image .exit)) (now (journal .exit)) (now (message .exit)) ≡ onImage (answers (now (bytes .entry)) good) (now (image .entry)) (lend (now (journal .entry)) (now (message .entry))) ⌝ }
+{
     make(image, journal, message, length, Call::Answer(good), nothing_keyed(), bytes)
 }
 
@@ -123,7 +148,9 @@ pub extern "C" fn whistlaurel_no_answer(
     journal: &mut [u8],
     message: &mut [u8],
     length: &mut usize,
-) -> u8 {
+) -> u8
+    ensures { λ r. ⌜ gives r (now (length .exit)) (now (image .exit)) (now (journal .exit)) (now (message .exit)) ≡ onImage no-answer (now (image .entry)) (lend (now (journal .entry)) (now (message .entry))) ⌝ }
+{
     make(image, journal, message, length, Call::NoAnswer, nothing_keyed(), b"")
 }
 
@@ -134,7 +161,9 @@ pub extern "C" fn whistlaurel_power_returned(
     journal: &mut [u8],
     message: &mut [u8],
     length: &mut usize,
-) -> u8 {
+) -> u8
+    ensures { λ r. ⌜ gives r (now (length .exit)) (now (image .exit)) (now (journal .exit)) (now (message .exit)) ≡ onImage power-returned (now (image .entry)) (lend (now (journal .entry)) (now (message .entry))) ⌝ }
+{
     make(image, journal, message, length, Call::PowerReturned, nothing_keyed(), b"")
 }
 
@@ -145,7 +174,9 @@ pub extern "C" fn whistlaurel_send_reversal(
     journal: &mut [u8],
     message: &mut [u8],
     length: &mut usize,
-) -> u8 {
+) -> u8
+    ensures { λ r. ⌜ gives r (now (length .exit)) (now (image .exit)) (now (journal .exit)) (now (message .exit)) ≡ onImage send-reversal (now (image .entry)) (lend (now (journal .entry)) (now (message .entry))) ⌝ }
+{
     make(image, journal, message, length, Call::SendReversal, nothing_keyed(), b"")
 }
 
@@ -156,7 +187,9 @@ pub extern "C" fn whistlaurel_settle(
     journal: &mut [u8],
     message: &mut [u8],
     length: &mut usize,
-) -> u8 {
+) -> u8
+    ensures { λ r. ⌜ gives r (now (length .exit)) (now (image .exit)) (now (journal .exit)) (now (message .exit)) ≡ onImage settles (now (image .entry)) (lend (now (journal .entry)) (now (message .entry))) ⌝ }
+{
     make(image, journal, message, length, Call::Settle, nothing_keyed(), b"")
 }
 
@@ -167,13 +200,17 @@ pub extern "C" fn whistlaurel_send_next_upload(
     journal: &mut [u8],
     message: &mut [u8],
     length: &mut usize,
-) -> u8 {
+) -> u8
+    ensures { λ r. ⌜ gives r (now (length .exit)) (now (image .exit)) (now (journal .exit)) (now (message .exit)) ≡ onImage send-next-upload (now (image .entry)) (lend (now (journal .entry)) (now (message .entry))) ⌝ }
+{
     make(image, journal, message, length, Call::SendNextUpload, nothing_keyed(), b"")
 }
 
 // The number in a row of an image.
 #[no_mangle]
-pub extern "C" fn whistlaurel_number(image: &[u8], row: usize, number: &mut u64) -> u8 {
+pub extern "C" fn whistlaurel_number(image: &[u8], row: usize, number: &mut u64) -> u8
+    ensures { λ r. ⌜ returned r (now (number .exit)) ≡ numberAt (now (image .entry)) row (now (number .entry)) ⌝ }
+{
     if image::ROWS <= row {
         return 2;
     }
@@ -188,7 +225,9 @@ pub extern "C" fn whistlaurel_number(image: &[u8], row: usize, number: &mut u64)
 
 // The debit amount and count and the credit amount and count of the entries.
 #[no_mangle]
-pub extern "C" fn whistlaurel_totals(image: &[u8], journal: &[u8], totals: &mut [u64; 4]) -> u8 {
+pub extern "C" fn whistlaurel_totals(image: &[u8], journal: &[u8], totals: &mut [u64; 4]) -> u8
+    ensures { λ r. ⌜ returned r (now (totals .exit)) ≡ totalsOn (now (image .entry)) (now (journal .entry)) (now (totals .entry)) ⌝ }
+{
     let held = image::read(image);
     if !held.accepted {
         return 2;
@@ -201,7 +240,9 @@ pub extern "C" fn whistlaurel_totals(image: &[u8], journal: &[u8], totals: &mut 
 
 // Whether bytes are a message: 0, or the number by which they are refused.
 #[no_mangle]
-pub extern "C" fn whistlaurel_read(bytes: &[u8]) -> u8 {
+pub extern "C" fn whistlaurel_read(bytes: &[u8]) -> u8
+    ensures { λ r. ⌜ r ≡ readNumber (readMessage (now (bytes .entry)) .outcome) ⌝ }
+{
     let r = reading::read(bytes);
     let outcome = r.outcome;
     match outcome {
@@ -212,7 +253,9 @@ pub extern "C" fn whistlaurel_read(bytes: &[u8]) -> u8 {
 
 // Puts the bytes of field n of a message to the front of out, and how many digits or bytes it has.
 #[no_mangle]
-pub extern "C" fn whistlaurel_field(bytes: &[u8], n: u8, out: &mut [u8], count: &mut usize) -> u8 {
+pub extern "C" fn whistlaurel_field(bytes: &[u8], n: u8, out: &mut [u8], count: &mut usize) -> u8
+    ensures { λ r. ⌜ returned r (held (now (count .exit)) (now (out .exit))) ≡ fieldAt (now (bytes .entry)) n (held (now (count .entry)) (now (out .entry))) ⌝ }
+{
     let r = reading::read(bytes);
     let outcome = r.outcome;
     if let ReadOutcome::Refused(e) = outcome {
@@ -255,7 +298,9 @@ fn make(
     call: Call,
     desk: Desk,
     bytes: &[u8],
-) -> u8 {
+) -> u8
+    ensures { λ r. ⌜ gives r (now (length .exit)) (now (image .exit)) (now (journal .exit)) (now (message .exit)) ≡ onImage (eventOf call desk (now (bytes .entry))) (now (image .entry)) (lend (now (journal .entry)) (now (message .entry))) ⌝ }
+{
     *length = 0;
     let held = image::read(image);
     if !held.accepted {
@@ -271,15 +316,18 @@ fn make(
     number_of(outcome)
 }
 
-// Puts the image of a state where there is room for it.
-fn put_image(s: State, image: &mut [u8]) {
+// Puts the image of a state.
+fn put_image(s: State, out: &mut [u8])
+    requires { ⌜ lengthIn (now out) ≡ size ⌝ }
+    ensures { λ _. ⌜ now (out .exit) ≡ imageOf s ⌝ }
+{
     let b = image::image_of(s);
-    if image.len() == image::SIZE {
-        bytes::copy(&b, image);
-    }
+    bytes::copy(&b, out);
 }
 
-fn length_of(o: Outcome) -> usize {
+fn length_of(o: Outcome) -> usize
+    ensures { λ r. ⌜ r ≡ lengthOf o ⌝ }
+{
     match o {
         Outcome::Send(n) => n,
         Outcome::Quiet => 0,
@@ -287,7 +335,9 @@ fn length_of(o: Outcome) -> usize {
     }
 }
 
-fn number_of(o: Outcome) -> u8 {
+fn number_of(o: Outcome) -> u8
+    ensures { λ r. ⌜ r ≡ numberOf o ⌝ }
+{
     match o {
         Outcome::Send(n) => SENDS,
         Outcome::Quiet => 0,
