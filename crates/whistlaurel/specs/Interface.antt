@@ -3,7 +3,7 @@ use mathlib.Core.List.{List, [], _∷_}
 use mathlib.Core.Bool.{cond, _&&_}
 use Prim.Native.Nat.{ℕ}
 use lib.Dec.{ltb, eqb}
-use lib.ListN.{length, getD}
+use lib.ListN.{length, getD, replicate}
 use Rattle.kinds.specs.declared.Totals.{Totals}
 use Rattle.message.specs.Message.{Field, fieldOf}
 use Rattle.message.specs.declared.Message.{Message}
@@ -86,6 +86,10 @@ deskOf kind amount card digits original month day authorisation reference =
       authorisation = authorisation;
       reference = reference;
     }
+
+-- zeros where a call takes nothing from the desk
+abbrev pub nothingKeyed : Desk
+nothingKeyed = deskOf 0 0 0 0 0 0 0 (replicate 6 0) (replicate 12 0)
 
 -- What a function that is no call leaves: the number returned, and what stands where it writes.
 pub record Returned (A : Type 0) : Type 0 where

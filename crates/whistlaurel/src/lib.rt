@@ -11,6 +11,7 @@ use state::Settings;
 use state::State;
 use terminal::Terminal;
 ghost use mathlib.Core.Path.{_≡_};
+ghost use mathlib.Core.List.{[]};
 ghost use lib.ListN.{length as lengthIn};
 ghost use Rattle.message.specs.Message.{largest};
 ghost use Rattle.reading.specs.Reading.{readMessage};
@@ -20,7 +21,7 @@ ghost use Rattle.image.specs.Layout.{size};
 ghost use Rattle.image.specs.Image.{image as imageOf};
 ghost use Rattle.terminal.specs.Events.{signed-on, starts, answers, no-answer, power-returned, send-reversal, settles, send-next-upload};
 ghost use Rattle.dispatch.specs.Dispatch.{eventOf};
-ghost use Rattle.whistlaurel.specs.Interface.{gives, numberOf, lengthOf, onImage, settingsOf, deskOf, returned, freshImage, numberAt, totalsOn, readNumber, held, fieldAt};
+ghost use Rattle.whistlaurel.specs.Interface.{gives, numberOf, lengthOf, onImage, settingsOf, deskOf, nothingKeyed, returned, freshImage, numberAt, totalsOn, readNumber, held, fieldAt};
 
 // What a function returns beside the numbers of document 01: a message leaves; a message does not hold the field.
 const SENDS: u8 = 255;
@@ -88,7 +89,8 @@ pub extern "C" fn whistlaurel_signed_on(
 ) -> u8
     ensures { λ r. ⌜ gives r (now (length .exit)) (now (image .exit)) (now (journal .exit)) (now (message .exit)) ≡ onImage (signed-on (record { 0 = batch })) (now (image .entry)) (lend (now (journal .entry)) (now (message .entry))) ⌝ }
 {
-    make(image, journal, message, length, Call::SignedOn(Batch(batch)), nothing_keyed(), b"")
+    let call = Call::SignedOn(Batch(batch));
+    plain(image, journal, message, length, call)
 }
 
 // A card request leaves.
@@ -138,7 +140,15 @@ pub extern "C" fn whistlaurel_answer(
 ) -> u8
     ensures { λ r. ⌜ gives r (now (length .exit)) (now (image .exit)) (now (journal .exit)) (now (message .exit)) ≡ onImage (answers (now (bytes .entry)) good) (now (image .entry)) (lend (now (journal .entry)) (now (message .entry))) ⌝ }
 {
-    make(image, journal, message, length, Call::Answer(good), nothing_keyed(), bytes)
+    make(
+        image,
+        journal,
+        message,
+        length,
+        Call::Answer(good),
+        nothing_keyed(),
+        bytes,
+    )
 }
 
 // The line has fallen silent.
@@ -151,7 +161,7 @@ pub extern "C" fn whistlaurel_no_answer(
 ) -> u8
     ensures { λ r. ⌜ gives r (now (length .exit)) (now (image .exit)) (now (journal .exit)) (now (message .exit)) ≡ onImage no-answer (now (image .entry)) (lend (now (journal .entry)) (now (message .entry))) ⌝ }
 {
-    make(image, journal, message, length, Call::NoAnswer, nothing_keyed(), b"")
+    plain(image, journal, message, length, Call::NoAnswer)
 }
 
 // Power has returned.
@@ -164,7 +174,7 @@ pub extern "C" fn whistlaurel_power_returned(
 ) -> u8
     ensures { λ r. ⌜ gives r (now (length .exit)) (now (image .exit)) (now (journal .exit)) (now (message .exit)) ≡ onImage power-returned (now (image .entry)) (lend (now (journal .entry)) (now (message .entry))) ⌝ }
 {
-    make(image, journal, message, length, Call::PowerReturned, nothing_keyed(), b"")
+    plain(image, journal, message, length, Call::PowerReturned)
 }
 
 // The pending reversal leaves.
@@ -177,7 +187,7 @@ pub extern "C" fn whistlaurel_send_reversal(
 ) -> u8
     ensures { λ r. ⌜ gives r (now (length .exit)) (now (image .exit)) (now (journal .exit)) (now (message .exit)) ≡ onImage send-reversal (now (image .entry)) (lend (now (journal .entry)) (now (message .entry))) ⌝ }
 {
-    make(image, journal, message, length, Call::SendReversal, nothing_keyed(), b"")
+    plain(image, journal, message, length, Call::SendReversal)
 }
 
 // The batch's totals leave.
@@ -190,7 +200,7 @@ pub extern "C" fn whistlaurel_settle(
 ) -> u8
     ensures { λ r. ⌜ gives r (now (length .exit)) (now (image .exit)) (now (journal .exit)) (now (message .exit)) ≡ onImage settles (now (image .entry)) (lend (now (journal .entry)) (now (message .entry))) ⌝ }
 {
-    make(image, journal, message, length, Call::Settle, nothing_keyed(), b"")
+    plain(image, journal, message, length, Call::Settle)
 }
 
 // The next due entry leaves, or the upload's end.
@@ -203,7 +213,7 @@ pub extern "C" fn whistlaurel_send_next_upload(
 ) -> u8
     ensures { λ r. ⌜ gives r (now (length .exit)) (now (image .exit)) (now (journal .exit)) (now (message .exit)) ≡ onImage send-next-upload (now (image .entry)) (lend (now (journal .entry)) (now (message .entry))) ⌝ }
 {
-    make(image, journal, message, length, Call::SendNextUpload, nothing_keyed(), b"")
+    plain(image, journal, message, length, Call::SendNextUpload)
 }
 
 // The number in a row of an image.
@@ -273,7 +283,9 @@ pub extern "C" fn whistlaurel_field(bytes: &[u8], n: u8, out: &mut [u8], count: 
 }
 
 // What the desk has keyed where a call takes nothing from it.
-fn nothing_keyed() -> Desk {
+fn nothing_keyed() -> Desk
+    ensures { λ r. ⌜ r ≡ nothingKeyed ⌝ }
+{
     Desk {
         kind: 0,
         amount: 0,
@@ -287,6 +299,19 @@ fn nothing_keyed() -> Desk {
         authorisation: [0u8; 6],
         reference: [0u8; 12],
     }
+}
+
+// Makes a call that takes nothing from the desk and no bytes.
+fn plain(
+    image: &mut [u8],
+    journal: &mut [u8],
+    message: &mut [u8],
+    length: &mut usize,
+    call: Call,
+) -> u8
+    ensures { λ r. ⌜ gives r (now (length .exit)) (now (image .exit)) (now (journal .exit)) (now (message .exit)) ≡ onImage (eventOf call nothingKeyed []) (now (image .entry)) (lend (now (journal .entry)) (now (message .entry))) ⌝ }
+{
+    make(image, journal, message, length, call, nothing_keyed(), b"")
 }
 
 // Makes a call on the terminal of an image, and puts the image of the terminal after it.

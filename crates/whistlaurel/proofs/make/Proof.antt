@@ -1,10 +1,13 @@
 -- `whistlaurel::make` meets its contract.
 use mathlib.Core.Path.{_≡_, sym, _∙_, ap}
+use denote.Ref.{now}
 use borrow.Author.Needs.{needs}
 use borrow.Author.Tests.{not-true, not-false}
-use Rattle.whistlaurel.proofs.Leaves.{not-called, called}
+use Rattle.state.specs.Calls.{lend}
 use Rattle.image.specs.declared.Reading.{Reading}
 use Rattle.image.proofs.Found.{accepted-length}
+use Rattle.dispatch.specs.Dispatch.{eventOf}
+use Rattle.whistlaurel.proofs.Leaves.{not-called, called}
 use Rattle.whistlaurel.proofs.make.Statement.{statement}
 use Rattle.whistlaurel.proofs.make.Tie as tie
 
@@ -16,8 +19,10 @@ same-length c = search needs
 
 returns : tie.Need-returns
 returns c =
+    let at-args = c .before .before .before .before .before .before .before .before .args in
     let at-read = c .before .before .read in
-    not-called _ (at-read .ensures) _ _ (not-true _ (c .if1 .taken))
+    not-called (now (at-args .image)) (at-read .ensures) (eventOf (at-args .call) (at-args .desk) (now (at-args .bytes)))
+    (lend (now (at-args .journal)) (now (at-args .message))) (not-true _ (c .if1 .taken))
 
 make-requires : tie.Need-make-requires
 make-requires c κs = search needs
@@ -45,6 +50,8 @@ same-length-4 c = search needs
 
 returns-2 : tie.Need-returns-2
 returns-2 c =
+    let at-args = c .before .before .before .before .before .before .before .before .before .before .before .before .before .before .before
+    .before .before .before .before .before .before .before .before .args in
     let at-read = c .before .before .before .before .before .before .before .before .before .before .before .before .before .before .before
     .before .before .read in
     let at-if1 = c .before .before .before .before .before .before .before .before .before .before .before .before .before .before .before
@@ -52,7 +59,9 @@ returns-2 c =
     let at-make = c .before .before .before .before .before .before .before .before .before .before .before .make in
     let at-put-image = c .before .before .before .before .put-image in
     rw (c .number-of .ensures, c .before .length-of .ensures, at-put-image .ensures)
-    (called _ (at-read .ensures) _ _ (not-false _ (at-if1 .left)) (at-make .ensures))
+    (called (now (at-args .image)) (at-read .ensures) (eventOf (at-args .call) (at-args .desk) (now (at-args .bytes)))
+    (lend (now (at-args .journal)) (now (at-args .message)))
+    (not-false _ (at-if1 .left)) (at-make .ensures))
 
 pub make-spec : {M : Type 1} → statement M
 make-spec =
