@@ -17,11 +17,10 @@ ghost use Rattle.message.specs.Message.{largest};
 ghost use Rattle.reading.specs.Reading.{readMessage};
 ghost use Rattle.entry.specs.Entry.{entrySize};
 ghost use Rattle.state.specs.Calls.{lend};
-ghost use Rattle.image.specs.Layout.{size};
-ghost use Rattle.image.specs.Image.{image as imageOf};
-ghost use Rattle.terminal.specs.Events.{signed-on, starts, answers, no-answer, power-returned, send-reversal, settles, send-next-upload};
-ghost use Rattle.dispatch.specs.Dispatch.{eventOf};
-ghost use Rattle.whistlaurel.specs.Interface.{gives, numberOf, lengthOf, onImage, settingsOf, deskOf, nothingKeyed, returned, freshImage, numberAt, totalsOn, readNumber, held, fieldAt};
+ghost use Rattle.image_definitions.specs.Layout.{size};
+ghost use Rattle.image_definitions.specs.Image.{image as imageOf};
+ghost use Rattle.call_definitions.specs.Events.{eventOf, signed-on, starts, answers, no-answer, power-returned, send-reversal, settles, send-next-upload};
+ghost use Rattle.interface_definitions.specs.Interface.{gives, numberOf, lengthOf, onImage, settingsOf, deskOf, nothingKeyed, returned, freshImage, numberAt, totalsOn, readNumber, held, fieldAt};
 
 // What a function returns beside the numbers of document 01: a message leaves; a message does not hold the field.
 const SENDS: u8 = 255;

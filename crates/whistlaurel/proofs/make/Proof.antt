@@ -1,13 +1,13 @@
 -- `whistlaurel::make` meets its contract.
-use mathlib.Core.Path.{_≡_, sym, _∙_, ap}
+use mathlib.Core.Path.{ap, sym, _∙_}
 use denote.Ref.{now}
 use borrow.Author.Needs.{needs}
 use borrow.Author.Tests.{not-true, not-false}
 use Rattle.state.specs.Calls.{lend}
-use Rattle.image.specs.declared.Reading.{Reading}
-use Rattle.image.proofs.Found.{accepted-length}
-use Rattle.dispatch.specs.Dispatch.{eventOf}
-use Rattle.whistlaurel.proofs.Leaves.{not-called, called}
+use Rattle.image_definitions.specs.declared.Reading.{Reading}
+use Rattle.image_definitions.proofs.Found.{accepted-length}
+use Rattle.call_definitions.specs.Events.{eventOf}
+use Rattle.interface_definitions.proofs.Leaves.{not-called, called}
 use Rattle.whistlaurel.proofs.make.Statement.{statement}
 use Rattle.whistlaurel.proofs.make.Tie as tie
 

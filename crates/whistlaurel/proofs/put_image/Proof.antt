@@ -1,6 +1,6 @@
 -- `whistlaurel::put_image` meets its contract.
 use borrow.Author.Needs.{needs}
-use Rattle.whistlaurel.proofs.Leaves.{image-copied}
+use Rattle.interface_definitions.proofs.Leaves.{image-copied}
 use Rattle.whistlaurel.proofs.put_image.Statement.{statement}
 use Rattle.whistlaurel.proofs.put_image.Tie as tie
 

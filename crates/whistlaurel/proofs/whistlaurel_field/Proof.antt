@@ -1,6 +1,6 @@
 -- `whistlaurel::whistlaurel_field` meets its contract.
 use borrow.Author.Needs.{needs}
-use Rattle.whistlaurel.proofs.Leaves.{not-read, field-taken}
+use Rattle.interface_definitions.proofs.Leaves.{not-read, field-taken}
 use Rattle.whistlaurel.proofs.whistlaurel_field.Statement.{statement}
 use Rattle.whistlaurel.proofs.whistlaurel_field.Tie as tie
 

@@ -1,6 +1,6 @@
 -- `whistlaurel::whistlaurel_fresh` meets its contract.
 use borrow.Author.Needs.{needs}
-use Rattle.whistlaurel.proofs.Leaves.{no-room, fresh-put}
+use Rattle.interface_definitions.proofs.Leaves.{no-room, fresh-put}
 use Rattle.whistlaurel.proofs.whistlaurel_fresh.Statement.{statement}
 use Rattle.whistlaurel.proofs.whistlaurel_fresh.Tie as tie
 

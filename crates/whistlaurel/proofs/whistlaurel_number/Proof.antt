@@ -1,7 +1,7 @@
 -- `whistlaurel::whistlaurel_number` meets its contract.
 use borrow.Author.Needs.{needs}
 use borrow.Author.Tests.{not-true, not-false}
-use Rattle.whistlaurel.proofs.Leaves.{no-row, no-number, number-read}
+use Rattle.interface_definitions.proofs.Leaves.{no-row, no-number, number-read}
 use Rattle.whistlaurel.proofs.whistlaurel_number.Statement.{statement}
 use Rattle.whistlaurel.proofs.whistlaurel_number.Tie as tie
 

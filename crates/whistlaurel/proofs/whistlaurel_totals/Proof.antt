@@ -1,7 +1,7 @@
 -- `whistlaurel::whistlaurel_totals` meets its contract.
 use borrow.Author.Needs.{needs}
 use borrow.Author.Tests.{not-true, not-false}
-use Rattle.whistlaurel.proofs.Leaves.{no-totals, totals-read}
+use Rattle.interface_definitions.proofs.Leaves.{no-totals, totals-read}
 use Rattle.whistlaurel.proofs.whistlaurel_totals.Statement.{statement}
 use Rattle.whistlaurel.proofs.whistlaurel_totals.Tie as tie
 

@@ -10,7 +10,7 @@ use borrow.Author.Tests.{eq-eqb, ne-eqb, lt-ltb, le-ltb}
 use Rattle.kinds.specs.declared.Totals.{Totals}
 use Rattle.message.specs.Message.{fieldOf}
 use Rattle.reading.specs.Reading.{readMessage}
-use Rattle.reading.specs.declared.Reading.{Reading as Read-as}
+use Rattle.reading.specs.declared.Reading.{Reading as MessageReading}
 use Rattle.reading.specs.declared.ReadOutcome.the-variants.{Read, Refused as Unread}
 use Rattle.parts.specs.Parts.{taken, withTaken}
 use Rattle.parts.specs.declared.Taken.{Taken}
@@ -19,12 +19,12 @@ use Rattle.state.specs.declared.Settings.{Settings}
 use Rattle.state.specs.declared.State.{State}
 use Rattle.state.specs.State.{fresh}
 use Rattle.state.specs.Calls.{Lent, Result}
-use Rattle.image.specs.Layout.{rows, size}
-use Rattle.image.specs.Image.{valuesOf, image, readImage}
-use Rattle.image.specs.declared.Reading.{Reading}
-use Rattle.image.proofs.Theorems.{image-length}
-use Rattle.terminal.specs.Events.{Event, call}
-use Rattle.whistlaurel.specs.Interface.{done, outOfForm, given, noImage, onImage, returned, freshImage, numberAt, listOf, totalsOn, held, takenNumber, takenCount, fieldAt}
+use Rattle.image_definitions.specs.Layout.{rows, size}
+use Rattle.image_definitions.specs.Image.{valuesOf, image, readImage}
+use Rattle.image_definitions.specs.declared.Reading.{Reading}
+use Rattle.image_definitions.proofs.Theorems.{image-length}
+use Rattle.call_definitions.specs.Events.{Event, call}
+use Rattle.interface_definitions.specs.Interface.{done, outOfForm, given, noImage, onImage, returned, freshImage, numberAt, listOf, totalsOn, held, takenNumber, takenCount, fieldAt}
 
 -- what is copied into bytes of its length is all that stands there
 copied : (a o : List ℕ) {x : List ℕ} → length o ≡ length a → x ≡ take (length a) a ++ drop (length a) o → x ≡ a
@@ -77,7 +77,7 @@ module _ (b : List ℕ) {r : Reading} (q : r ≡ readImage b) where
   totals-read j x h p = rw (p, ← q, h)
 
 -- bytes that were read as a message
-module _ (b : List ℕ) (n k : ℕ) (out : List ℕ) {r : Read-as} (q : r ≡ readMessage b) where
+module _ (b : List ℕ) (n k : ℕ) (out : List ℕ) {r : MessageReading} (q : r ≡ readMessage b) where
   pub not-read : {e : ℕ} → r .outcome ≡ Unread e → returned e (held k out) ≡ fieldAt b n (held k out)
   unfolding fieldAt
   not-read h = rw (← q, h)

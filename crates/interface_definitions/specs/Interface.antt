@@ -20,9 +20,9 @@ use Rattle.state.specs.declared.Outcome.the-variants.{Send, Quiet, Refused}
 use Rattle.state.specs.State.{fresh}
 use Rattle.state.specs.Calls.{Lent, lend, Result}
 use Rattle.desk.specs.declared.Desk.{Desk}
-use Rattle.image.specs.Layout.{rows, size}
-use Rattle.image.specs.Image.{valuesOf, image, readImage}
-use Rattle.terminal.specs.Events.{Event, call}
+use Rattle.image_definitions.specs.Layout.{rows, size}
+use Rattle.image_definitions.specs.Image.{valuesOf, image, readImage}
+use Rattle.call_definitions.specs.Events.{Event, call}
 
 -- The numbers beside those of document 01: done, a message does not hold a field, a message is to be sent.
 abbrev pub done : ℕ
