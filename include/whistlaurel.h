@@ -40,7 +40,8 @@ extern "C" {
 
 /*
  * What a function returns. WHISTLAUREL_QUIET: done, and nothing is to be sent. WHISTLAUREL_SENDS: the first *length bytes of message are
- * to be sent. Every other number is a refusal, and nothing has changed: neither image nor journal nor message.
+ * to be sent. Every other number is a refusal, and nothing has changed: neither image nor journal nor message, nor what another function
+ * would have set; a refused call sets *length to 0.
  */
 enum whistlaurel_result {
     WHISTLAUREL_QUIET = 0,

@@ -1,0 +1,173 @@
+//! Holds codec and passes against the library before anything is timed.
+use crate::codec::{self, LARGEST, LISTED, TYPES};
+use crate::library::{self, Sale, ABSENT, ENTRY_SIZE, IMAGE_SIZE, MESSAGE_SIZE, MOST_ENTRIES, QUIET, SENDS};
+use crate::messages;
+use crate::passes;
+use crate::random::Random;
+use crate::terminals::{self, Order};
+
+const RANDOM_MESSAGES: usize = 20_000;
+const SALES: usize = 1_000;
+
+/// How many messages were read, by the number that both gave (0 for a well-formed one).
+#[derive(Default)]
+struct Readings([usize; 10]);
+
+/// Compares; says what agreed, or the first difference.
+pub fn run() -> Result<String, String> {
+    same(|| "sizes".to_string(), library::sizes(), [IMAGE_SIZE, MESSAGE_SIZE, ENTRY_SIZE])?;
+    let mut readings = Readings::default();
+    for message in [messages::sale(), messages::approval(1, messages::SALE.amount), messages::largest()] {
+        compare_neighbours(&message, &mut readings)?;
+    }
+    let mut random = Random::new();
+    for _ in 0..RANDOM_MESSAGES {
+        let message = messages::any(&mut random);
+        readings.compare(&message)?;
+        compare_fields(&message)?;
+        let altered = altered(message, &mut random);
+        readings.compare(&altered)?;
+        compare_fields(&altered)?;
+        readings.compare(&noise(&mut random))?;
+    }
+    compare_sales(&mut random)?;
+    compare_totals()?;
+    readings.summary()
+}
+
+impl Readings {
+    fn compare(&mut self, bytes: &[u8]) -> Result<(), String> {
+        let number = codec::read(bytes).err().unwrap_or(0);
+        same(|| format!("reading {}", hexadecimal(bytes)), library::read(bytes), number)?;
+        self.0[usize::from(number)] += 1;
+        Ok(())
+    }
+
+    fn summary(&self) -> Result<String, String> {
+        if let Some(number) = (3..10).find(|&number| self.0[number] == 0) {
+            return Err(format!("no message was refused by {number}"));
+        }
+        let refused: Vec<String> = (3..10).map(|number| format!("{} by {number}", self.0[number])).collect();
+        Ok(format!(
+            "Codec and library agree on {} messages: {} well-formed; refused {}.",
+            self.0.iter().sum::<usize>(),
+            self.0[0],
+            refused.join(", ")
+        ))
+    }
+}
+
+/// The message, each of its fronts, itself with bytes after it, and every change of one byte.
+fn compare_neighbours(message: &[u8], readings: &mut Readings) -> Result<(), String> {
+    for end in 0..=message.len() {
+        readings.compare(&message[..end])?;
+    }
+    for more in 1..=LARGEST {
+        readings.compare(&[message, &vec![0; more]].concat())?;
+    }
+    let mut changed = message.to_vec();
+    for place in 0..message.len() {
+        for byte in 0..=255 {
+            changed[place] = byte;
+            readings.compare(&changed)?;
+        }
+        changed[place] = message[place];
+    }
+    Ok(())
+}
+
+/// Each field of a message, and that what was read is written again as the same bytes.
+fn compare_fields(bytes: &[u8]) -> Result<(), String> {
+    let read = codec::read(bytes);
+    let mut fields = Vec::new();
+    for number in 0..=255 {
+        let found = read.as_ref().map(|view| view.field(number, bytes));
+        let mut out = [0; LARGEST];
+        let (result, count) = library::field(bytes, number, &mut out);
+        let expected = match found {
+            Err(refusal) => (*refusal, 0, &[][..]),
+            Ok(None) => (ABSENT, 0, &[][..]),
+            Ok(Some(field)) => (QUIET, field.count, field.contents),
+        };
+        let got = (result, count, &out[..expected.2.len()]);
+        same(|| format!("field {number} of {}", hexadecimal(bytes)), got, expected)?;
+        fields.extend(found.ok().flatten());
+    }
+    if let Ok(view) = read {
+        let mut out = [0; LARGEST];
+        let length = codec::write(view.message_type, &fields, &mut out);
+        same(|| "what was read is written".to_string(), length.map(|end| &out[..end]), Ok(bytes))?;
+    }
+    Ok(())
+}
+
+/// Sales of many amounts and cards, as start writes them and as the codec does.
+fn compare_sales(random: &mut Random) -> Result<(), String> {
+    for _ in 0..SALES {
+        let card_length = 13 + random.below(7) as u8;
+        let sale = Sale {
+            amount: 1 + random.below(9_999_999_999) as u64,
+            card_number: random.below(10usize.pow(u32::from(card_length))) as u64,
+            card_length,
+        };
+        let mut terminal = terminals::empty(1);
+        same(|| format!("{sale:?} leaves"), terminal.start(&sale), SENDS)?;
+        let mut out = [0; LARGEST];
+        let length = messages::write_sale(&sale, 1, &mut out).map_err(|number| format!("{sale:?} is refused by {number}"))?;
+        same(|| format!("the message of {sale:?}"), terminal.sent(), &out[..length])?;
+    }
+    Ok(())
+}
+
+/// The totals of a full journal, as the library has them and as the plain pass does.
+fn compare_totals() -> Result<(), String> {
+    for order in [Order::Ascending, Order::Random] {
+        let terminal = terminals::resting(MOST_ENTRIES, order);
+        let [debit, _, credit, _] = terminal.totals();
+        let pass = passes::over_journal(&terminal.journal, MOST_ENTRIES);
+        same(|| "totals".to_string(), Some((debit, credit)), pass)?;
+    }
+    Ok(())
+}
+
+/// A message with one to three faults, most of them small.
+fn altered(message: Vec<u8>, random: &mut Random) -> Vec<u8> {
+    let mut bytes = message;
+    for _ in 0..=random.below(3) {
+        let place = random.below(bytes.len().max(1));
+        match random.below(8) {
+            0 => bytes.truncate(place),
+            1 => bytes.extend(std::iter::repeat(0x11).take(1 + random.below(9))),
+            2 if bytes.len() >= 10 => bytes[2 + random.below(8)] ^= 1 << random.below(8),
+            3 if bytes.len() >= 10 => put_bitmap(&mut bytes, random),
+            _ if place < bytes.len() => bytes[place] = random.below(256) as u8,
+            _ => {}
+        }
+    }
+    bytes
+}
+
+/// Any bytes behind a type and a bitmap that are listed.
+fn noise(random: &mut Random) -> Vec<u8> {
+    let mut bytes: Vec<u8> = (0..10 + random.below(300)).map(|_| random.below(256) as u8).collect();
+    bytes[..2].copy_from_slice(&TYPES[random.below(TYPES.len())].to_be_bytes());
+    put_bitmap(&mut bytes, random);
+    bytes
+}
+
+/// Puts a bitmap of any listed fields.
+fn put_bitmap(bytes: &mut [u8], random: &mut Random) {
+    let named = (random.below(1 << 32) as u64) << 32 | random.below(1 << 32) as u64;
+    bytes[2..10].copy_from_slice(&(named & LISTED).to_be_bytes());
+}
+
+fn same<T: PartialEq + std::fmt::Debug>(what: impl Fn() -> String, library: T, codec: T) -> Result<(), String> {
+    if library == codec {
+        return Ok(());
+    }
+    Err(format!("{}: {library:?} and {codec:?}", what()))
+}
+
+fn hexadecimal(bytes: &[u8]) -> String {
+    bytes.iter().map(|byte| format!("{byte:02X}")).collect()
+}

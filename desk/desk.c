@@ -1,0 +1,459 @@
+#define _POSIX_C_SOURCE 200809L
+
+#include "desk.h"
+
+#include <inttypes.h>
+#include <stdlib.h>
+#include <string.h>
+
+#include "key_pad.h"
+#include "trial.h"
+#include "trouble.h"
+#include "wording.h"
+
+/* Sendings of an upload's end in a row, words of a command, and a second in milliseconds. */
+enum { ENDS_MOST = 5, WORDS_MOST = 8, SECOND = 1000 };
+
+/* A card request: its kind, and a letter for each datum that is keyed after its word. */
+struct card_command {
+    uint8_t kind;
+    const char *data;   /* a amount, c card, t trace, u authorisation, r reference, d date */
+};
+
+static const struct card_command card_commands[] = {
+    {WHISTLAUREL_SALE, "ac"},
+    {WHISTLAUREL_SALE_VOID, "t"},
+    {WHISTLAUREL_REFUND, "acrd"},
+    {WHISTLAUREL_AUTHORISATION, "ac"},
+    {WHISTLAUREL_AUTHORISATION_VOID, "acud"},
+    {WHISTLAUREL_COMPLETION, "acud"},
+    {WHISTLAUREL_COMPLETION_VOID, "t"},
+};
+
+/* A command without data. */
+struct plain_command {
+    const char *word;
+    void (*run)(struct desk *desk);
+};
+
+static void settle(struct desk *desk);
+static void tell_counts(struct desk *desk);
+static void tell_totals(struct desk *desk);
+static void tell_state(struct desk *desk);
+static void tell_journal(struct desk *desk);
+static void tell_doubtful(struct desk *desk);
+static void tell_help(struct desk *desk);
+
+static const struct plain_command plain_commands[] = {
+    {"settle", settle},         {"counts", tell_counts},     {"totals", tell_totals}, {"state", tell_state},
+    {"journal", tell_journal},  {"doubtful", tell_doubtful}, {"help", tell_help},
+};
+
+enum { CARD_COMMANDS = sizeof card_commands / sizeof card_commands[0], PLAIN_COMMANDS = sizeof plain_commands / sizeof plain_commands[0] };
+
+static uint64_t number(const struct desk *desk, enum whistlaurel_row row);
+static uint8_t exchange(struct desk *desk, const struct call *call);
+static bool receive(struct desk *desk, uint8_t *bytes, size_t *size, int64_t deadline);
+static void sign_on(struct desk *desk, uint32_t batch);
+static void send_reversals(struct desk *desk);
+static void upload(struct desk *desk);
+static size_t split(char *line, char *words[WORDS_MOST]);
+static void carry_out(struct desk *desk, char *words[WORDS_MOST], size_t count);
+static void request(struct desk *desk, const struct card_command *command, char *words[WORDS_MOST], size_t count);
+static const char *read_keyed(const struct card_command *command, char *words[WORDS_MOST], struct keyed *keyed);
+static const char *read_datum(char letter, const char *word, struct keyed *keyed);
+static const char *read_card(const char *word, struct keyed *keyed);
+static const char *read_date(const char *word, struct keyed *keyed);
+static const char *read_text(const char *word, uint8_t *text, size_t size);
+static const char *datum_word(char letter);
+static void tell_refusal(uint8_t result);
+
+void desk_begin(struct desk *desk, uint32_t batch)
+{
+    const struct call power_returned = {.name = POWER_RETURNED};
+
+    if (terminal_make(&desk->terminal, &power_returned) != WHISTLAUREL_QUIET) {
+        store_is_damaged(desk->terminal.store, "image and journal do not fit together");
+    }
+    trial_point("after-power");
+    sign_on(desk, batch == 0 ? (uint32_t)number(desk, WHISTLAUREL_BATCH) : batch);
+    send_reversals(desk);
+    if (number(desk, WHISTLAUREL_PHASE) != WHISTLAUREL_RESTING) {
+        settle(desk);
+    }
+    printf("last request: ");
+    if (desk->terminal.last.kind == 0) {
+        printf("none\n");
+    } else {
+        tell_request(&desk->terminal.last);
+    }
+    printf("ready, batch %06" PRIu64 "\n", number(desk, WHISTLAUREL_BATCH));
+}
+
+void desk_run(struct desk *desk, FILE *input)
+{
+    char *line = NULL;
+    size_t size = 0;
+    ssize_t length;
+
+    while (!ferror(stdout) && (length = getline(&line, &size, input)) >= 0) {
+        char *words[WORDS_MOST];
+        size_t count;
+
+        if (strlen(line) != (size_t)length) {
+            printf("error: the line holds a zero byte\n");
+            continue;
+        }
+        count = split(line, words);
+        if (count == 1 && strcmp(words[0], "quit") == 0) {
+            break;
+        }
+        if (count > 0 && words[0][0] != '#') {
+            carry_out(desk, words, count);
+        }
+    }
+    free(line);
+    if (ferror(stdout)) {
+        end_with(STATUS_OUTPUT, "standard output cannot be written");
+    }
+}
+
+static uint64_t number(const struct desk *desk, enum whistlaurel_row row)
+{
+    return terminal_number(&desk->terminal, row);
+}
+
+/* Makes a call, sends its message and waits until that is decided by an answer or by silence. Gives the call's result back. */
+static uint8_t exchange(struct desk *desk, const struct call *call)
+{
+    struct terminal *terminal = &desk->terminal;
+    uint8_t bytes[LINE_MESSAGE_MOST];
+    struct call answer = {.name = ANSWER, .bytes = bytes};
+    const struct call no_answer = {.name = NO_ANSWER};
+    int64_t deadline;
+    uint8_t result;
+
+    trial_point("before-call");
+    result = terminal_make(terminal, call);
+    if (result != WHISTLAUREL_SENDS) {
+        return result;
+    }
+    desk->awaited = number(desk, WHISTLAUREL_PHASE);
+    key_pad_write(terminal->message, terminal->length);
+    deadline = line_clock() + desk->time_out;
+    line_send(&desk->line, terminal->message, terminal->length, deadline);
+    trial_point("after-send");
+    while (receive(desk, bytes, &answer.size, deadline)) {
+        trial_point("after-answer");
+        answer.mac_is_good = key_pad_judges(bytes, answer.size);
+        if (terminal_make(terminal, &answer) == WHISTLAUREL_QUIET) {
+            return result;
+        }
+    }
+    line_break(&desk->line);
+    terminal_make(terminal, &no_answer);
+    return result;
+}
+
+/* Receives until the deadline, and shows each second that it waits. */
+static bool receive(struct desk *desk, uint8_t *bytes, size_t *size, int64_t deadline)
+{
+    int64_t now = line_clock();
+
+    while (now < deadline) {
+        int64_t left = (deadline - now - 1) % SECOND + 1;
+
+        if (line_receive(&desk->line, bytes, size, now + left)) {
+            return true;
+        }
+        now = line_clock();
+        if (now < deadline) {
+            fprintf(stderr, "waiting for the centre, at most %" PRId64 " s\n", (deadline - now + SECOND - 1) / SECOND);
+        }
+    }
+    return false;
+}
+
+static void sign_on(struct desk *desk, uint32_t batch)
+{
+    const struct call signed_on = {.name = SIGNED_ON, .batch = batch};
+    uint8_t result = terminal_make(&desk->terminal, &signed_on);
+
+    if (result != WHISTLAUREL_QUIET) {
+        tell_refusal(result);
+    }
+}
+
+static void send_reversals(struct desk *desk)
+{
+    const struct call send_reversal = {.name = SEND_REVERSAL};
+
+    while (number(desk, WHISTLAUREL_PHASE) == WHISTLAUREL_PENDING) {
+        uint8_t result;
+
+        fprintf(stderr, "reversal, sending %" PRIu64 " of %" PRIu64 "\n", number(desk, WHISTLAUREL_REVERSAL_SENDINGS) + 1,
+                number(desk, WHISTLAUREL_SENDINGS));
+        result = exchange(desk, &send_reversal);
+        if (result != WHISTLAUREL_SENDS) {
+            tell_refusal(result);
+            return;
+        }
+    }
+}
+
+/* Settles, or goes on with the upload, as far as the line allows. A closed batch is signed off: then signs on for the next. */
+static void settle(struct desk *desk)
+{
+    const struct call settle_call = {.name = SETTLE};
+    const struct terminal *terminal = &desk->terminal;
+    uint64_t batch = number(desk, WHISTLAUREL_BATCH);
+    uint64_t totals[4];
+
+    whistlaurel_totals(terminal->image, sizeof terminal->image, terminal->journal, sizeof terminal->journal, totals);
+    if (number(desk, WHISTLAUREL_PHASE) != WHISTLAUREL_UPLOADING) {
+        uint8_t result = exchange(desk, &settle_call);
+
+        if (result != WHISTLAUREL_SENDS) {
+            tell_refusal(result);
+            return;
+        }
+    }
+    upload(desk);
+    if (number(desk, WHISTLAUREL_PHASE) == WHISTLAUREL_RESTING) {
+        printf("settled batch %06" PRIu64 ": debit ", batch);
+        tell_amount(totals[0]);
+        printf(" in %" PRIu64 ", credit ", totals[1]);
+        tell_amount(totals[2]);
+        printf(" in %" PRIu64 "\n", totals[3]);
+        sign_on(desk, (uint32_t)number(desk, WHISTLAUREL_BATCH));
+    } else {
+        printf("%s not answered; settle again\n", number(desk, WHISTLAUREL_PHASE) == WHISTLAUREL_SETTLING ? "settlement" : "upload");
+    }
+    trial_point("after-told");
+}
+
+/* Sends entries and end of an upload until the batch is closed or the end has left ENDS_MOST times in a row. */
+static void upload(struct desk *desk)
+{
+    const struct call send_next_upload = {.name = SEND_NEXT_UPLOAD};
+    unsigned ends = 0;
+
+    while (number(desk, WHISTLAUREL_PHASE) == WHISTLAUREL_UPLOADING && ends < ENDS_MOST) {
+        uint8_t result;
+
+        fprintf(stderr, "uploading the batch\n");
+        result = exchange(desk, &send_next_upload);
+        if (result != WHISTLAUREL_SENDS) {
+            tell_refusal(result);
+            return;
+        }
+        ends += desk->awaited == WHISTLAUREL_END_AWAITED;
+    }
+}
+
+/* Splits a line into words parted by spaces. Words past the most count, and are left out. */
+static size_t split(char *line, char *words[WORDS_MOST])
+{
+    char *rest = line;
+    char *word;
+    size_t count = 0;
+
+    while ((word = strtok_r(rest, " \t\r\n", &rest)) != NULL) {
+        if (count < WORDS_MOST) {
+            words[count] = word;
+        }
+        count++;
+    }
+    return count;
+}
+
+static void carry_out(struct desk *desk, char *words[WORDS_MOST], size_t count)
+{
+    for (size_t i = 0; i < CARD_COMMANDS; i++) {
+        if (strcmp(words[0], kind_word(card_commands[i].kind)) == 0) {
+            request(desk, &card_commands[i], words, count);
+            return;
+        }
+    }
+    for (size_t i = 0; i < PLAIN_COMMANDS; i++) {
+        if (count == 1 && strcmp(words[0], plain_commands[i].word) == 0) {
+            plain_commands[i].run(desk);
+            return;
+        }
+    }
+    printf("error: no such command; help lists them\n");
+}
+
+/* A card request, with its reversal where it needs one. */
+static void request(struct desk *desk, const struct card_command *command, char *words[WORDS_MOST], size_t count)
+{
+    struct call start = {.name = START};
+    const char *error = "wrong number of words; help lists them";
+    uint8_t result;
+
+    if (count == 1 + strlen(command->data)) {
+        error = read_keyed(command, words, &start.keyed);
+    }
+    if (error != NULL) {
+        printf("error: %s\n", error);
+        return;
+    }
+    result = exchange(desk, &start);
+    if (result != WHISTLAUREL_SENDS) {
+        tell_refusal(result);
+        return;
+    }
+    send_reversals(desk);
+    tell_request(&desk->terminal.last);
+    trial_point("after-told");
+}
+
+/* Reads what is keyed after a command's word; gives back what is wrong, or NULL. */
+static const char *read_keyed(const struct card_command *command, char *words[WORDS_MOST], struct keyed *keyed)
+{
+    const char *error = NULL;
+
+    keyed->kind = command->kind;
+    for (size_t i = 0; error == NULL && command->data[i] != '\0'; i++) {
+        error = read_datum(command->data[i], words[1 + i], keyed);
+    }
+    return error;
+}
+
+static const char *read_datum(char letter, const char *word, struct keyed *keyed)
+{
+    uint64_t trace = 0;
+
+    switch (letter) {
+    case 'a':
+        return read_number(word, &keyed->amount) ? NULL : "the amount is a number of fen";
+    case 'c':
+        return read_card(word, keyed);
+    case 't':
+        if (!read_number(word, &trace) || trace > UINT32_MAX) {
+            return "the trace is a number of six digits";
+        }
+        keyed->original = (uint32_t)trace;
+        return NULL;
+    case 'u':
+        return read_text(word, keyed->authorisation, sizeof keyed->authorisation);
+    case 'r':
+        return read_text(word, keyed->reference, sizeof keyed->reference);
+    default:
+        return read_date(word, keyed);
+    }
+}
+
+static const char *read_card(const char *word, struct keyed *keyed)
+{
+    keyed->card_length = (uint8_t)strlen(word);
+    return read_number(word, &keyed->card_number) ? NULL : "the card is its number, 13 to 19 digits";
+}
+
+static const char *read_date(const char *word, struct keyed *keyed)
+{
+    uint64_t date;
+
+    if (strlen(word) != 4 || !read_number(word, &date)) {
+        return "the date is month and day, four digits";
+    }
+    keyed->month = (uint8_t)(date / 100);
+    keyed->day = (uint8_t)(date % 100);
+    return NULL;
+}
+
+/* An underscore stands for a space. */
+static const char *read_text(const char *word, uint8_t *text, size_t size)
+{
+    if (strlen(word) != size) {
+        return "an authorisation has 6 characters, a reference 12";
+    }
+    for (size_t i = 0; i < size; i++) {
+        text[i] = word[i] == '_' ? ' ' : (uint8_t)word[i];
+    }
+    return NULL;
+}
+
+static void tell_counts(struct desk *desk)
+{
+    printf("counts sent %" PRIu64 " approved %" PRIu64 " declined %" PRIu64 " reversed %" PRIu64 " given-up %" PRIu64
+           " unanswered %" PRIu64 "\n",
+           number(desk, WHISTLAUREL_SENT), number(desk, WHISTLAUREL_APPROVED), number(desk, WHISTLAUREL_DECLINED),
+           number(desk, WHISTLAUREL_REVERSED), number(desk, WHISTLAUREL_GIVEN_UP), number(desk, WHISTLAUREL_UNANSWERED));
+}
+
+static void tell_totals(struct desk *desk)
+{
+    const struct terminal *terminal = &desk->terminal;
+    uint64_t totals[4];
+
+    whistlaurel_totals(terminal->image, sizeof terminal->image, terminal->journal, sizeof terminal->journal, totals);
+    printf("totals debit ");
+    tell_amount(totals[0]);
+    printf(" in %" PRIu64 " credit ", totals[1]);
+    tell_amount(totals[2]);
+    printf(" in %" PRIu64 "\n", totals[3]);
+}
+
+static void tell_state(struct desk *desk)
+{
+    printf("state batch %06" PRIu64 " next-trace %06" PRIu64 " %s entries %" PRIu64 " %s\n", number(desk, WHISTLAUREL_BATCH),
+           number(desk, WHISTLAUREL_NEXT_TRACE), number(desk, WHISTLAUREL_IS_SIGNED_ON) == 1 ? "signed-on" : "signed-off",
+           number(desk, WHISTLAUREL_ENTRIES), phase_word(number(desk, WHISTLAUREL_PHASE)));
+}
+
+static void tell_journal(struct desk *desk)
+{
+    uint64_t entries = number(desk, WHISTLAUREL_ENTRIES);
+
+    for (uint64_t place = 0; place < entries; place++) {
+        tell_entry(desk->terminal.journal + place * WHISTLAUREL_ENTRY_SIZE);
+    }
+    printf("journal %" PRIu64 " entries\n", entries);
+}
+
+static void tell_doubtful(struct desk *desk)
+{
+    printf("doubtful: %" PRIu64 "\n", store_doubtful(desk->terminal.store));
+    store_each_doubtful(desk->terminal.store, tell_request);
+}
+
+static void tell_help(struct desk *desk)
+{
+    (void)desk;
+    for (size_t i = 0; i < CARD_COMMANDS; i++) {
+        printf("%s", kind_word(card_commands[i].kind));
+        for (const char *letter = card_commands[i].data; *letter != '\0'; letter++) {
+            printf(" %s", datum_word(*letter));
+        }
+        printf("\n");
+    }
+    for (size_t i = 0; i < PLAIN_COMMANDS; i++) {
+        printf("%s\n", plain_commands[i].word);
+    }
+    printf("quit\n");
+    printf("# amounts are in fen; in an authorisation or a reference _ stands for a space\n");
+}
+
+static const char *datum_word(char letter)
+{
+    switch (letter) {
+    case 'a':
+        return "AMOUNT";
+    case 'c':
+        return "CARD";
+    case 't':
+        return "TRACE";
+    case 'u':
+        return "AUTHORISATION";
+    case 'r':
+        return "REFERENCE";
+    default:
+        return "MMDD";
+    }
+}
+
+static void tell_refusal(uint8_t result)
+{
+    printf("refused (%u): %s\n", (unsigned)result, refusal_words(result));
+}

@@ -1,0 +1,49 @@
+/* Links the library with nothing but memcpy and memset, and makes a sale leave. Ends with status 0 where it does. */
+#include "whistlaurel.h"
+
+void *memcpy(void *restrict to, const void *restrict from, size_t size);
+void *memset(void *to, int byte, size_t size);
+_Noreturn void _start(void);
+
+void *memcpy(void *restrict to, const void *restrict from, size_t size)
+{
+    volatile uint8_t *out = to;
+    const uint8_t *in = from;
+
+    for (size_t i = 0; i < size; i++) {
+        out[i] = in[i];
+    }
+    return to;
+}
+
+void *memset(void *to, int byte, size_t size)
+{
+    volatile uint8_t *out = to;
+
+    for (size_t i = 0; i < size; i++) {
+        out[i] = (uint8_t)byte;
+    }
+    return to;
+}
+
+/* Ends the process by Linux's own call. */
+static _Noreturn void end(long status)
+{
+    for (;;) {
+        __asm__ volatile("syscall" : : "a"(60L), "D"(status) : "rcx", "r11", "memory");
+    }
+}
+
+__attribute__((force_align_arg_pointer)) _Noreturn void _start(void)
+{
+    static const uint8_t terminal[8] = "LIB00001", merchant[15] = "WHISTLAUREL0001", none[12];
+    static uint8_t image[WHISTLAUREL_IMAGE_SIZE], journal[WHISTLAUREL_ENTRY_SIZE], message[WHISTLAUREL_MESSAGE_SIZE];
+    size_t length = 0;
+    uint8_t result;
+
+    whistlaurel_fresh(image, sizeof image, 1, 3, 100000, terminal, merchant);
+    whistlaurel_signed_on(image, sizeof image, journal, sizeof journal, message, sizeof message, &length, 1);
+    result = whistlaurel_start(image, sizeof image, journal, sizeof journal, message, sizeof message, &length, WHISTLAUREL_SALE, 12000,
+                               6222021234567894, 16, 0, 0, 0, none, none);
+    end(result == WHISTLAUREL_SENDS && length == 76 ? 0 : 1);
+}

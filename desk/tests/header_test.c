@@ -1,0 +1,471 @@
+/* Holds every constant of whistlaurel.h against what the library does. Prints the first that do not hold, and ends with 1 then. */
+#include "whistlaurel.h"
+
+#include <stdio.h>
+#include <string.h>
+
+enum { PRINTED_MOST = 20, FIRST_BATCH = 7, ROOM = WHISTLAUREL_ENTRY_SIZE * (WHISTLAUREL_MOST_ENTRIES + 1) };
+
+#define CARD UINT64_C(6222021234561234)
+#define CARD_LENGTH 16
+#define AMOUNT_MOST UINT64_C(9999999999)
+
+struct terminal {
+    uint8_t image[WHISTLAUREL_IMAGE_SIZE];
+    uint8_t journal[ROOM];
+    uint8_t message[WHISTLAUREL_MESSAGE_SIZE];
+    size_t length;
+};
+
+struct answer {
+    uint8_t bytes[WHISTLAUREL_MESSAGE_SIZE];
+    size_t size;
+};
+
+#define LENT(t) (t)->image, sizeof (t)->image, (t)->journal, sizeof (t)->journal, (t)->message, sizeof (t)->message, &(t)->length
+#define HOLDS(condition) holds((condition), #condition, __LINE__)
+
+static const uint8_t field_41[8] = {'L', 'I', 'B', '0', '0', '0', '0', '1'};
+static const uint8_t field_42[15] = {'W', 'H', 'I', 'S', 'T', 'L', 'A', 'U', 'R', 'E', 'L', '0', '0', '0', '1'};
+static const uint8_t authorisation[6] = {'B', '0', '0', '0', '0', '1'};
+static const uint8_t reference[12] = {'0', '0', '0', '0', '0', '0', '0', '0', '0', '0', '7', '7'};
+static unsigned failures;
+
+static void sizes(void);
+static void settings(void);
+static void first_rows(void);
+static void reversal_phases(void);
+static void closing_phases(void);
+static void kinds(void);
+static void entries(void);
+static void refusals_of_memory(void);
+static void refusals_of_messages(void);
+static void refusals_of_phase(void);
+static void refusals_of_requests(void);
+static void refusal_of_totals(void);
+
+int main(void)
+{
+    sizes();
+    settings();
+    first_rows();
+    reversal_phases();
+    closing_phases();
+    kinds();
+    entries();
+    refusals_of_memory();
+    refusals_of_messages();
+    refusals_of_phase();
+    refusals_of_requests();
+    refusal_of_totals();
+    printf("header_test: %s\n", failures == 0 ? "every constant holds" : "failed");
+    return failures == 0 ? 0 : 1;
+}
+
+static void holds(bool held, const char *condition, int line)
+{
+    if (!held && failures < PRINTED_MOST) {
+        printf("header_test.c:%d: does not hold: %s\n", line, condition);
+    }
+    failures += !held;
+}
+
+/* ---- a terminal, its requests and the centre's answers */
+
+static uint64_t number(const struct terminal *t, enum whistlaurel_row row)
+{
+    uint64_t n = UINT64_MAX;
+
+    HOLDS(whistlaurel_number(t->image, sizeof t->image, row, &n) == WHISTLAUREL_QUIET);
+    return n;
+}
+
+/* A fresh terminal, signed on. */
+static struct terminal terminal_of(uint32_t limit, uint8_t sendings)
+{
+    struct terminal t = {.length = 1};
+
+    HOLDS(whistlaurel_fresh(t.image, sizeof t.image, limit, sendings, 100000, field_41, field_42) == 0);
+    HOLDS(whistlaurel_signed_on(LENT(&t), FIRST_BATCH) == WHISTLAUREL_QUIET);
+    HOLDS(t.length == 0);
+    return t;
+}
+
+static uint8_t start(struct terminal *t, enum whistlaurel_kind kind, uint64_t amount, uint32_t original)
+{
+    return whistlaurel_start(LENT(t), (uint8_t)kind, amount, CARD, CARD_LENGTH, original, 11, 16, authorisation, reference);
+}
+
+/* Appends a field and names it in the bitmap. */
+static void put(struct answer *a, unsigned field, const void *bytes, size_t size)
+{
+    a->bytes[2 + (field - 1) / 8] = (uint8_t)(a->bytes[2 + (field - 1) / 8] | 0x80u >> (field - 1) % 8);
+    memcpy(a->bytes + a->size, bytes, size);
+    a->size += size;
+}
+
+/* Copies a field of the message that left, digits where it has any; 48 and 60 with their length. */
+static void copy(struct answer *a, const struct terminal *t, uint8_t field)
+{
+    uint8_t bytes[2 + 64] = {0};
+    size_t front = field == 48 || field == 60 ? 2 : 0;
+    size_t count = 0;
+    uint8_t result = whistlaurel_field(t->message, t->length, field, bytes + front, sizeof bytes - front, &count);
+
+    if (result == WHISTLAUREL_ABSENT) {
+        return;
+    }
+    HOLDS(result == WHISTLAUREL_QUIET);
+    bytes[1] = front == 0 ? bytes[1] : (uint8_t)(count / 10 * 16 + count % 10);
+    put(a, field, bytes, front + (field == 41 || field == 42 ? count : (count + 1) / 2));
+}
+
+/* The answer to what left, with a code, or with a digit for a settlement. */
+static struct answer answer_to(const struct terminal *t, const char *code, unsigned digit)
+{
+    struct answer a = {.size = 10};
+
+    a.bytes[0] = t->message[0];
+    a.bytes[1] = (uint8_t)(t->message[1] + 0x10);
+    copy(&a, t, 4);
+    copy(&a, t, 11);
+    put(&a, 13, "\x11\x16", 2);
+    put(&a, 37, "000000000012", 12);
+    put(&a, 38, "A00012", 6);
+    put(&a, 39, code, 2);
+    copy(&a, t, 41);
+    copy(&a, t, 42);
+    copy(&a, t, 48);
+    if (digit > 0) {
+        a.bytes[a.size - 16] = (uint8_t)(a.bytes[a.size - 16] | digit << 4);
+    }
+    copy(&a, t, 60);
+    put(&a, 64, "\0\0\0\0\0\0\0\0", 8);
+    return a;
+}
+
+static uint8_t reply(struct terminal *t, const char *code, unsigned digit, bool mac_is_good)
+{
+    struct answer a = answer_to(t, code, digit);
+
+    HOLDS(whistlaurel_read(a.bytes, a.size) == WHISTLAUREL_QUIET);
+    return whistlaurel_answer(LENT(t), a.bytes, a.size, mac_is_good);
+}
+
+static void approve(struct terminal *t, enum whistlaurel_kind kind, uint64_t amount, uint32_t original)
+{
+    HOLDS(start(t, kind, amount, original) == WHISTLAUREL_SENDS);
+    HOLDS(reply(t, "00", 0, true) == WHISTLAUREL_QUIET);
+}
+
+/* ---- sizes and settings */
+
+static void sizes(void)
+{
+    HOLDS(whistlaurel_image_size() == WHISTLAUREL_IMAGE_SIZE);
+    HOLDS(whistlaurel_message_size() == WHISTLAUREL_MESSAGE_SIZE);
+    HOLDS(whistlaurel_entry_size() == WHISTLAUREL_ENTRY_SIZE);
+}
+
+static uint8_t judged(uint32_t limit, uint8_t sendings, uint64_t refund)
+{
+    struct terminal t = {.length = 1};
+
+    HOLDS(whistlaurel_fresh(t.image, sizeof t.image, limit, sendings, refund, field_41, field_42) == 0);
+    return whistlaurel_power_returned(LENT(&t));
+}
+
+static void settings(void)
+{
+    HOLDS(judged(1, 1, 1) == WHISTLAUREL_QUIET);
+    HOLDS(judged(WHISTLAUREL_MOST_ENTRIES, WHISTLAUREL_MOST_SENDINGS, WHISTLAUREL_LARGEST_REFUND) == WHISTLAUREL_QUIET);
+    HOLDS(judged(0, 1, 1) == WHISTLAUREL_OUT_OF_FORM);
+    HOLDS(judged(1, 0, 1) == WHISTLAUREL_OUT_OF_FORM);
+    HOLDS(judged(1, 1, 0) == WHISTLAUREL_OUT_OF_FORM);
+    HOLDS(judged(WHISTLAUREL_MOST_ENTRIES + 1, 1, 1) == WHISTLAUREL_OUT_OF_FORM);
+    HOLDS(judged(1, WHISTLAUREL_MOST_SENDINGS + 1, 1) == WHISTLAUREL_OUT_OF_FORM);
+    HOLDS(judged(1, 1, WHISTLAUREL_LARGEST_REFUND + 1) == WHISTLAUREL_OUT_OF_FORM);
+}
+
+/* ---- rows and phases */
+
+/* Compares the phase and the rows that belong to it. */
+static void phase_is(const struct terminal *t, enum whistlaurel_phase phase, const uint64_t rows[WHISTLAUREL_ROWS])
+{
+    HOLDS(number(t, WHISTLAUREL_PHASE) == phase);
+    for (int row = WHISTLAUREL_PHASE + 1; row < WHISTLAUREL_ROWS; row++) {
+        HOLDS(number(t, (enum whistlaurel_row)row) == rows[row]);
+    }
+}
+
+/* Compares the six counts: sent, approved, declined, reversed, given up, unanswered. */
+static void counts_are(const struct terminal *t, const uint64_t counts[6])
+{
+    HOLDS(number(t, WHISTLAUREL_SENT) == counts[0]);
+    HOLDS(number(t, WHISTLAUREL_APPROVED) == counts[1]);
+    HOLDS(number(t, WHISTLAUREL_DECLINED) == counts[2]);
+    HOLDS(number(t, WHISTLAUREL_REVERSED) == counts[3]);
+    HOLDS(number(t, WHISTLAUREL_GIVEN_UP) == counts[4]);
+    HOLDS(number(t, WHISTLAUREL_UNANSWERED) == counts[5]);
+}
+
+static uint64_t word_of(const uint8_t *bytes, size_t size)
+{
+    uint64_t word = 0;
+
+    for (size_t i = 0; i < size; i++) {
+        word = word << 8 | bytes[i];
+    }
+    return word;
+}
+
+static void first_rows(void)
+{
+    struct terminal t = terminal_of(10, 2);
+    uint64_t n;
+
+    HOLDS(number(&t, WHISTLAUREL_VERSION) == 1 && word_of(t.image, 2) == 1);
+    HOLDS(number(&t, WHISTLAUREL_ENTRY_LIMIT) == 10);
+    HOLDS(number(&t, WHISTLAUREL_SENDINGS) == 2);
+    HOLDS(number(&t, WHISTLAUREL_REFUND_LIMIT) == 100000);
+    HOLDS(number(&t, WHISTLAUREL_FIELD_41) == word_of(field_41, 8));
+    HOLDS(number(&t, WHISTLAUREL_FIELD_42_FRONT) == word_of(field_42, 8));
+    HOLDS(number(&t, WHISTLAUREL_FIELD_42_REST) == word_of(field_42 + 8, 7));
+    HOLDS(number(&t, WHISTLAUREL_IS_SIGNED_ON) == 1);
+    HOLDS(number(&t, WHISTLAUREL_BATCH) == FIRST_BATCH);
+    HOLDS(number(&t, WHISTLAUREL_NEXT_TRACE) == 1);
+    HOLDS(number(&t, WHISTLAUREL_ENTRIES) == 0);
+    phase_is(&t, WHISTLAUREL_RESTING, (uint64_t[WHISTLAUREL_ROWS]){0});
+    HOLDS(whistlaurel_number(t.image, sizeof t.image, WHISTLAUREL_ROWS, &n) == WHISTLAUREL_OUT_OF_FORM);
+    approve(&t, WHISTLAUREL_SALE, 12000, 0);
+    HOLDS(number(&t, WHISTLAUREL_NEXT_TRACE) == 2);
+    HOLDS(number(&t, WHISTLAUREL_ENTRIES) == 1);
+    HOLDS(whistlaurel_power_returned(LENT(&t)) == WHISTLAUREL_QUIET);
+    HOLDS(number(&t, WHISTLAUREL_IS_SIGNED_ON) == 0);
+}
+
+/* A request and its reversal: awaited, pending, reversal awaited; by silence and by a bad MAC. */
+static void reversal_phases(void)
+{
+    struct terminal t = terminal_of(10, 2);
+    uint64_t rows[WHISTLAUREL_ROWS] = {
+        [WHISTLAUREL_REQUEST_KIND] = WHISTLAUREL_SALE_VOID,      [WHISTLAUREL_REQUEST_AMOUNT] = 12000,
+        [WHISTLAUREL_REQUEST_CARD_NUMBER] = CARD,                [WHISTLAUREL_REQUEST_CARD_LENGTH] = CARD_LENGTH,
+        [WHISTLAUREL_REQUEST_TRACE] = 2,                         [WHISTLAUREL_REQUEST_ORIGINAL] = 1,
+    };
+
+    approve(&t, WHISTLAUREL_SALE, 12000, 0);
+    HOLDS(start(&t, WHISTLAUREL_SALE_VOID, 0, 1) == WHISTLAUREL_SENDS);
+    phase_is(&t, WHISTLAUREL_REQUEST_AWAITED, rows);
+    HOLDS(whistlaurel_no_answer(LENT(&t)) == WHISTLAUREL_QUIET);
+    phase_is(&t, WHISTLAUREL_PENDING, rows);
+    HOLDS(whistlaurel_send_reversal(LENT(&t)) == WHISTLAUREL_SENDS);
+    rows[WHISTLAUREL_REVERSAL_SENDINGS] = 1;
+    phase_is(&t, WHISTLAUREL_REVERSAL_AWAITED, rows);
+    HOLDS(reply(&t, "25", 0, true) == WHISTLAUREL_QUIET);
+    counts_are(&t, (uint64_t[]){2, 1, 0, 1, 0, 0});
+    HOLDS(start(&t, WHISTLAUREL_SALE, 500, 0) == WHISTLAUREL_SENDS);
+    HOLDS(reply(&t, "00", 0, false) == WHISTLAUREL_QUIET);
+    HOLDS(number(&t, WHISTLAUREL_REVERSAL_REASON) == 1);
+    for (int sending = 0; sending < 2; sending++) {
+        HOLDS(whistlaurel_send_reversal(LENT(&t)) == WHISTLAUREL_SENDS);
+        HOLDS(whistlaurel_no_answer(LENT(&t)) == WHISTLAUREL_QUIET);
+    }
+    counts_are(&t, (uint64_t[]){3, 1, 0, 1, 1, 0});
+    HOLDS(start(&t, WHISTLAUREL_REFUND, 500, 0) == WHISTLAUREL_SENDS);
+    HOLDS(whistlaurel_no_answer(LENT(&t)) == WHISTLAUREL_QUIET);
+    HOLDS(start(&t, WHISTLAUREL_SALE, 500, 0) == WHISTLAUREL_SENDS);
+    HOLDS(reply(&t, "51", 0, true) == WHISTLAUREL_QUIET);
+    counts_are(&t, (uint64_t[]){5, 1, 1, 1, 1, 1});
+}
+
+/* Settlement and upload, and the marks of an entry on the way. */
+static void closing_phases(void)
+{
+    struct terminal t = terminal_of(10, 1);
+    uint64_t rows[WHISTLAUREL_ROWS] = {[WHISTLAUREL_OTHER] = 4};
+    const uint8_t *second = t.journal + WHISTLAUREL_ENTRY_SIZE;
+    const uint8_t *third = second + WHISTLAUREL_ENTRY_SIZE;
+
+    approve(&t, WHISTLAUREL_SALE, 100, 0);
+    approve(&t, WHISTLAUREL_SALE, 200, 0);
+    approve(&t, WHISTLAUREL_REFUND, 300, 0);
+    HOLDS(whistlaurel_settle(LENT(&t)) == WHISTLAUREL_SENDS);
+    phase_is(&t, WHISTLAUREL_SETTLEMENT_AWAITED, rows);
+    HOLDS(whistlaurel_no_answer(LENT(&t)) == WHISTLAUREL_QUIET);
+    phase_is(&t, WHISTLAUREL_SETTLING, (uint64_t[WHISTLAUREL_ROWS]){0});
+    HOLDS(whistlaurel_settle(LENT(&t)) == WHISTLAUREL_SENDS);
+    HOLDS(reply(&t, "00", 2, true) == WHISTLAUREL_QUIET);
+    phase_is(&t, WHISTLAUREL_UPLOADING, (uint64_t[WHISTLAUREL_ROWS]){0});
+    HOLDS(whistlaurel_send_next_upload(LENT(&t)) == WHISTLAUREL_SENDS);
+    HOLDS(reply(&t, "00", 0, true) == WHISTLAUREL_QUIET);
+    HOLDS(t.journal[WHISTLAUREL_ENTRY_MARK] == 2 && second[WHISTLAUREL_ENTRY_MARK] == 0);
+    HOLDS(whistlaurel_send_next_upload(LENT(&t)) == WHISTLAUREL_SENDS);
+    rows[WHISTLAUREL_OTHER] = 1;
+    phase_is(&t, WHISTLAUREL_ITEM_AWAITED, rows);
+    HOLDS(whistlaurel_no_answer(LENT(&t)) == WHISTLAUREL_QUIET);
+    HOLDS(second[WHISTLAUREL_ENTRY_MARK] == 1 && second[WHISTLAUREL_ENTRY_RESENDS] == 0);
+    HOLDS(whistlaurel_send_next_upload(LENT(&t)) == WHISTLAUREL_SENDS);
+    HOLDS(reply(&t, "12", 0, true) == WHISTLAUREL_QUIET);
+    HOLDS(third[WHISTLAUREL_ENTRY_MARK] == 3);
+    HOLDS(whistlaurel_send_next_upload(LENT(&t)) == WHISTLAUREL_SENDS);
+    HOLDS(second[WHISTLAUREL_ENTRY_RESENDS] == 1);
+    HOLDS(whistlaurel_no_answer(LENT(&t)) == WHISTLAUREL_QUIET);
+    HOLDS(second[WHISTLAUREL_ENTRY_MARK] == 4);
+    HOLDS(whistlaurel_send_next_upload(LENT(&t)) == WHISTLAUREL_SENDS);
+    rows[WHISTLAUREL_OTHER] = 6;
+    phase_is(&t, WHISTLAUREL_END_AWAITED, rows);
+    HOLDS(reply(&t, "00", 0, true) == WHISTLAUREL_QUIET);
+    phase_is(&t, WHISTLAUREL_RESTING, (uint64_t[WHISTLAUREL_ROWS]){0});
+    HOLDS(number(&t, WHISTLAUREL_BATCH) == FIRST_BATCH + 1);
+}
+
+/* ---- kinds and entries */
+
+/* A kind leaves as such: its type, its number in field 60, and its side of the totals. */
+static void kind_leaves(struct terminal *t, enum whistlaurel_kind kind, uint32_t original, unsigned type, unsigned side)
+{
+    uint64_t before[4];
+    uint64_t after[4];
+    uint8_t field_60[6];
+    size_t count;
+
+    HOLDS(whistlaurel_totals(t->image, sizeof t->image, t->journal, sizeof t->journal, before) == WHISTLAUREL_QUIET);
+    HOLDS(start(t, kind, 100, original) == WHISTLAUREL_SENDS);
+    HOLDS(word_of(t->message, 2) == type);
+    HOLDS(whistlaurel_field(t->message, t->length, 60, field_60, sizeof field_60, &count) == 0 && count == 11);
+    HOLDS(field_60[0] == kind / 10 * 16 + kind % 10);
+    HOLDS(reply(t, "00", 0, true) == WHISTLAUREL_QUIET);
+    HOLDS(whistlaurel_totals(t->image, sizeof t->image, t->journal, sizeof t->journal, after) == WHISTLAUREL_QUIET);
+    HOLDS(after[0] - before[0] == (side == 1 ? 100 : 0) && after[1] - before[1] == (side == 1));
+    HOLDS(after[2] - before[2] == (side == 2 ? 100 : 0) && after[3] - before[3] == (side == 2));
+}
+
+static void kinds(void)
+{
+    struct terminal t = terminal_of(10, 3);
+
+    kind_leaves(&t, WHISTLAUREL_SALE, 0, 0x0200, 1);
+    kind_leaves(&t, WHISTLAUREL_COMPLETION, 0, 0x0200, 1);
+    kind_leaves(&t, WHISTLAUREL_SALE_VOID, 1, 0x0200, 2);
+    kind_leaves(&t, WHISTLAUREL_COMPLETION_VOID, 2, 0x0200, 2);
+    kind_leaves(&t, WHISTLAUREL_REFUND, 0, 0x0220, 2);
+    kind_leaves(&t, WHISTLAUREL_AUTHORISATION, 0, 0x0100, 0);
+    kind_leaves(&t, WHISTLAUREL_AUTHORISATION_VOID, 0, 0x0100, 0);
+}
+
+static void entries(void)
+{
+    struct terminal t = terminal_of(10, 3);
+    const uint8_t *e = t.journal;
+
+    approve(&t, WHISTLAUREL_SALE, 12000, 0);
+    HOLDS(e[WHISTLAUREL_ENTRY_KIND] == WHISTLAUREL_SALE);
+    HOLDS(e[WHISTLAUREL_ENTRY_VOIDED] == 0);
+    HOLDS(memcmp(e + WHISTLAUREL_ENTRY_TRACE, "\x00\x00\x01", 3) == 0);
+    HOLDS(memcmp(e + WHISTLAUREL_ENTRY_AMOUNT, "\x00\x00\x00\x01\x20\x00", 6) == 0);
+    HOLDS(e[WHISTLAUREL_ENTRY_CARD_LENGTH] == CARD_LENGTH);
+    HOLDS(memcmp(e + WHISTLAUREL_ENTRY_CARD, "\x62\x22\x02\x12\x34\x56\x12\x34\x00\x00", 10) == 0);
+    HOLDS(memcmp(e + WHISTLAUREL_ENTRY_DATE, "\x11\x16", 2) == 0);
+    HOLDS(memcmp(e + WHISTLAUREL_ENTRY_AUTHORISATION, "A00012", 6) == 0);
+    HOLDS(memcmp(e + WHISTLAUREL_ENTRY_REFERENCE, "000000000012", 12) == 0);
+    HOLDS(WHISTLAUREL_ENTRY_REFERENCE + 12 + 4 == WHISTLAUREL_ENTRY_SIZE);
+    approve(&t, WHISTLAUREL_SALE_VOID, 0, 1);
+    HOLDS(e[WHISTLAUREL_ENTRY_VOIDED] == 1);
+}
+
+/* ---- refusals, each once, by number */
+
+static void refusals_of_memory(void)
+{
+    struct terminal t = terminal_of(10, 3);
+    uint8_t short_out[1];
+    size_t count;
+
+    HOLDS(whistlaurel_settle(t.image, sizeof t.image, t.journal, sizeof t.journal, t.message, WHISTLAUREL_MESSAGE_SIZE - 1, &t.length) ==
+          WHISTLAUREL_BUFFER_TOO_SHORT);
+    HOLDS(whistlaurel_settle(t.image, sizeof t.image, t.journal, 10 * WHISTLAUREL_ENTRY_SIZE - 1, t.message, sizeof t.message, &t.length) ==
+          WHISTLAUREL_BUFFER_TOO_SHORT);
+    HOLDS(whistlaurel_fresh(t.image, WHISTLAUREL_IMAGE_SIZE - 1, 10, 3, 1, field_41, field_42) == WHISTLAUREL_OUT_OF_FORM);
+    HOLDS(whistlaurel_settle(LENT(&t)) == WHISTLAUREL_SENDS);
+    HOLDS(whistlaurel_field(t.message, t.length, 42, short_out, sizeof short_out, &count) == WHISTLAUREL_BUFFER_TOO_SHORT);
+    HOLDS(whistlaurel_field(t.message, t.length, 64, short_out, sizeof short_out, &count) == WHISTLAUREL_ABSENT);
+}
+
+/* A message of one field is refused by its number, and so are the same bytes as an answer. */
+static void refused_message(struct terminal *t, unsigned field, const char *bytes, size_t size, uint8_t refusal)
+{
+    struct answer a = {.bytes = {0x02, 0x10}, .size = 10};
+
+    put(&a, field, bytes, size);
+    HOLDS(whistlaurel_read(a.bytes, a.size) == refusal);
+    HOLDS(whistlaurel_answer(LENT(t), a.bytes, a.size, true) == refusal);
+}
+
+static void refusals_of_messages(void)
+{
+    struct terminal t = terminal_of(10, 3);
+    const uint8_t no_type[10] = {0x09, 0x99};
+
+    HOLDS(start(&t, WHISTLAUREL_SALE, 100, 0) == WHISTLAUREL_SENDS);
+    refused_message(&t, 3, "\x00\x00", 2, WHISTLAUREL_MESSAGE_ENDS);
+    HOLDS(whistlaurel_read(no_type, sizeof no_type) == WHISTLAUREL_TYPE_NOT_LISTED);
+    refused_message(&t, 5, "", 0, WHISTLAUREL_FIELD_NOT_LISTED);
+    refused_message(&t, 3, "\x0A\x00\x00", 3, WHISTLAUREL_NOT_A_DIGIT);
+    refused_message(&t, 2, "\x12", 1, WHISTLAUREL_LENGTH_NOT_ALLOWED);
+    refused_message(&t, 39, "0\x1F", 2, WHISTLAUREL_NOT_PRINTABLE);
+    refused_message(&t, 39, "000", 3, WHISTLAUREL_BYTES_FOLLOW);
+}
+
+static void refusals_of_phase(void)
+{
+    struct terminal t = terminal_of(10, 3);
+    struct answer late;
+    struct answer reversed;
+
+    HOLDS(whistlaurel_no_answer(LENT(&t)) == WHISTLAUREL_NOTHING_TO_DO);
+    HOLDS(start(&t, WHISTLAUREL_SALE, 100, 0) == WHISTLAUREL_SENDS);
+    late = answer_to(&t, "00", 0);
+    HOLDS(start(&t, WHISTLAUREL_SALE, 100, 0) == WHISTLAUREL_AWAITED);
+    HOLDS(whistlaurel_no_answer(LENT(&t)) == WHISTLAUREL_QUIET);
+    HOLDS(start(&t, WHISTLAUREL_SALE, 100, 0) == WHISTLAUREL_REVERSAL_PENDING);
+    HOLDS(whistlaurel_send_reversal(LENT(&t)) == WHISTLAUREL_SENDS);
+    reversed = answer_to(&t, "00", 0);
+    HOLDS(whistlaurel_answer(LENT(&t), late.bytes, late.size, true) == WHISTLAUREL_ANSWER_NOT_MATCHING);
+    HOLDS(whistlaurel_answer(LENT(&t), reversed.bytes, reversed.size, true) == WHISTLAUREL_QUIET);
+    HOLDS(whistlaurel_settle(LENT(&t)) == WHISTLAUREL_SENDS);
+    HOLDS(whistlaurel_power_returned(LENT(&t)) == WHISTLAUREL_QUIET);
+    HOLDS(start(&t, WHISTLAUREL_SALE, 100, 0) == WHISTLAUREL_SIGNED_OFF);
+    HOLDS(whistlaurel_signed_on(LENT(&t), FIRST_BATCH) == WHISTLAUREL_QUIET);
+    HOLDS(start(&t, WHISTLAUREL_SALE, 100, 0) == WHISTLAUREL_BATCH_CLOSING);
+}
+
+static void refusals_of_requests(void)
+{
+    struct terminal t = terminal_of(3, 3);
+    uint8_t image[WHISTLAUREL_IMAGE_SIZE];
+
+    memcpy(image, t.image, sizeof image);
+    HOLDS(start(&t, WHISTLAUREL_SALE, 0, 0) == WHISTLAUREL_AMOUNT);
+    HOLDS(start(&t, WHISTLAUREL_SALE, AMOUNT_MOST + 1, 0) == WHISTLAUREL_AMOUNT);
+    HOLDS(start(&t, (enum whistlaurel_kind)24, 100, 0) == WHISTLAUREL_DESK_OUT_OF_FORM);
+    HOLDS(start(&t, WHISTLAUREL_REFUND, 100001, 0) == WHISTLAUREL_REFUND_TOO_LARGE);
+    HOLDS(start(&t, WHISTLAUREL_SALE_VOID, 0, 1) == WHISTLAUREL_NO_ORIGINAL);
+    HOLDS(memcmp(image, t.image, sizeof image) == 0 && t.length == 0);
+    approve(&t, WHISTLAUREL_SALE, AMOUNT_MOST, 0);
+    approve(&t, WHISTLAUREL_SALE_VOID, 0, 1);
+    HOLDS(start(&t, WHISTLAUREL_SALE_VOID, 0, 1) == WHISTLAUREL_VOIDED_ALREADY);
+    approve(&t, WHISTLAUREL_REFUND, 100000, 0);
+    HOLDS(start(&t, WHISTLAUREL_SALE, 100, 0) == WHISTLAUREL_JOURNAL_FULL);
+}
+
+static void refusal_of_totals(void)
+{
+    struct terminal t = terminal_of(WHISTLAUREL_MOST_ENTRIES, 3);
+
+    for (int sale = 0; sale < 100; sale++) {
+        approve(&t, WHISTLAUREL_SALE, AMOUNT_MOST, 0);
+    }
+    HOLDS(start(&t, WHISTLAUREL_SALE, 100, 0) == WHISTLAUREL_TOTAL_TOO_LARGE);
+    HOLDS(start(&t, WHISTLAUREL_SALE, 99, 0) == WHISTLAUREL_SENDS);
+}

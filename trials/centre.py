@@ -1,0 +1,415 @@
+"""A centre to test a desk against: a server with a ledger of its own, and faults by a seed.
+
+    python3 trials/centre.py --port 0 --seed 7 --faults 0.3
+
+Its first line says on which port it listens; then a line for each event, card numbers masked. End it by an interrupt.
+"""
+
+import argparse
+import heapq
+import itertools
+import random
+import selectors
+import socket
+import sys
+import time
+
+sys.dont_write_bytecode = True
+
+import history
+import iso
+
+DEBIT = ("20", "22")
+CREDIT = ("21", "23", "25")
+DECLINES = ("51", "54", "61", "91")
+DECLINED_SHARE = 0.12
+
+# What can happen to any message. "lost": the ledger does not take it; "kept": it still holds what is to be reversed.
+LINE_FAULTS = ("silence", "silence, lost", "drop", "drop, lost", "torn", "late", "late elsewhere", "delay", "duplicate", "noise",
+               "raw noise", "foreign", "foreign, silence", "pieces")
+FAULTS = {
+    "request": LINE_FAULTS + ("wrong MAC", "wrong MAC", "no MAC", "unfit"),
+    "reversal": LINE_FAULTS + ("wrong MAC", "no MAC", "code 96", "code 96, kept", "code 96, kept"),
+    "settlement": LINE_FAULTS + ("digit 2",) * 24 + ("digit 3", "digit 7"),
+    "item": LINE_FAULTS + ("code 30", "code 30"),
+    "end": LINE_FAULTS + ("code 96",),
+}
+
+
+def part_of(message):
+    """What a message of the desk is: request, reversal, settlement, item or end."""
+    if message[0] == "0320":
+        return "end" if iso.code_of(message) == "202" else "item"
+    return {"0400": "reversal", "0500": "settlement"}.get(message[0], "request")
+
+
+def following(batch):
+    """The batch number after a batch number, both as six digits."""
+    return f"{int(batch) % 999999 + 1:06d}"
+
+
+class Entry:
+    """A request that the ledger has decided on."""
+
+    def __init__(self, request, code):
+        self.request = request
+        self.code = code
+        self.is_held = code == "00"
+        self.is_voided = False
+        self.date = self.reference = self.authorisation = None
+
+
+class Ledger:
+    """What the centre decided on each request, by (field 41, batch, trace), and what became of it."""
+
+    def __init__(self, generator, record):
+        self.generator = generator
+        self.record = record
+        self.entries = {}
+
+    def decide(self, request):
+        """Takes a card request: its entry, approved or declined."""
+        code = self._code_for(request)
+        entry = Entry(request, code)
+        self.entries.setdefault(key_of(request), entry)
+        if entry.is_held:
+            number = len(self.entries)
+            entry.date = f"{self.generator.randint(1, 12):02d}{self.generator.randint(1, 28):02d}"
+            entry.reference = f"{number:012d}"
+            entry.authorisation = f"A{number:05d}" if self.generator.random() < 0.95 else None
+            self._void_original(request, True)
+            self.record(history.Held(request[11]))
+        return entry
+
+    def reverse(self, message):
+        """Takes a reversal: its code. Only where nothing is held does it say 25 or 12."""
+        entry = self.entries.get(key_of(message))
+        if entry is None or not entry.is_held:
+            return self.generator.choice(("00", "25", "25", "12"))
+        entry.is_held = False
+        self._void_original(entry.request, False)
+        self.record(history.Released(message[11]))
+        return "00"
+
+    def sums(self, terminal, batch):
+        """The first 30 digits of field 48 as this ledger has them."""
+        held = [entry.request for key, entry in self.entries.items() if key[:2] == (terminal, batch) and entry.is_held]
+        digits = ""
+        for side in (DEBIT, CREDIT):
+            amounts = [int(request[4]) for request in held if iso.kind_of(request) in side]
+            digits += f"{sum(amounts):012d}{len(amounts):03d}"
+        return digits
+
+    def _code_for(self, request):
+        kind = iso.kind_of(request)
+        if key_of(request) in self.entries:
+            return "94"
+        if kind in ("21", "23"):
+            original = self._original(request)
+            if original is None or not original.is_held or original.request[4] != request[4]:
+                return "25"
+            if original.is_voided:
+                return "12"
+        if kind in ("11", "20") and not self._has_authorisation(request):
+            return "25"
+        return self.generator.choice(DECLINES) if self.generator.random() < DECLINED_SHARE else "00"
+
+    def _original(self, request):
+        return self.entries.get((request[41], request[61][:6], request[61][6:12]))
+
+    def _has_authorisation(self, request):
+        return any(entry.is_held and iso.kind_of(entry.request) == "10" and entry.authorisation == request[38] for entry in self.entries.values())
+
+    def _void_original(self, request, is_voided):
+        if iso.kind_of(request) in ("21", "23"):
+            self._original(request).is_voided = is_voided
+
+
+def key_of(message):
+    """Under which the ledger has a message: field 41, batch, trace."""
+    return message[41], iso.batch_of(message), message[11]
+
+
+class Connection:
+    """A desk's connection."""
+
+    def __init__(self, line):
+        self.line = line
+        self.buffer = b""
+        self.is_open = True
+        self.waiting = None     # what is to be done after the packet of which a piece has left
+
+    def send(self, data):
+        """Whether the bytes left."""
+        try:
+            self.line.sendall(data)
+        except OSError:
+            return False
+        return True
+
+
+class Centre:
+    """The server. One thread: each turn handles what has arrived and what has become due."""
+
+    def __init__(self, seed, faults, timeout, record, port=0):
+        self.generator = random.Random(f"centre {seed}")
+        self.faults = faults
+        self.timeout = timeout
+        self.record = record
+        self.ledger = Ledger(self.generator, record)
+        self.batch = None
+        self.is_closed = False
+        self.connections = []
+        self.timers = []
+        self.order = itertools.count()
+        self.selector = selectors.DefaultSelector()
+        self.listener = socket.create_server(("127.0.0.1", port))
+        self.port = self.listener.getsockname()[1]
+        self.watch(self.listener, self._accept)
+
+    def watch(self, file, callback):
+        """Calls back in a turn in which the file can be read. Connections come first, older before newer."""
+        self.selector.register(file, selectors.EVENT_READ, (1, next(self.order), callback))
+
+    def unwatch(self, file):
+        self.selector.unregister(file)
+
+    def turn(self, wait):
+        """Handles what is ready and due, after waiting for it at most so many seconds; whether a file was ready."""
+        if self.timers:
+            wait = min(wait, self.timers[0][0] - time.monotonic())
+        ready = [key for key, _ in self.selector.select(max(0, wait))]
+        for key in sorted(ready, key=lambda key: key.data[:2]):
+            if key.fileobj.fileno() >= 0:
+                key.data[2]()
+        while self.timers and self.timers[0][0] <= time.monotonic():
+            heapq.heappop(self.timers)[2]()
+        return bool(ready)
+
+    def batch_to_sign_on(self, first):
+        """The batch number that the centre tells at a sign-on: the first while no message has come."""
+        if self.batch is None:
+            return first
+        return int(following(self.batch) if self.is_closed else self.batch)
+
+    def close(self):
+        for connection in list(self.connections):
+            self._drop(connection)
+        self.unwatch(self.listener)
+        self.listener.close()
+        self.selector.close()
+
+    def _accept(self):
+        line, _ = self.listener.accept()
+        if self.generator.random() < self.faults / 20:
+            line.close()
+            self.record(history.Unread())
+            return
+        line.setsockopt(socket.IPPROTO_TCP, socket.TCP_NODELAY, 1)
+        connection = Connection(line)
+        self.connections.append(connection)
+        self.selector.register(line, selectors.EVENT_READ, (0, next(self.order), lambda: self._read(connection)))
+
+    def _drop(self, connection):
+        if connection.is_open:
+            connection.is_open = False
+            self.connections.remove(connection)
+            self.selector.unregister(connection.line)
+            connection.line.close()
+
+    def _read(self, connection):
+        try:
+            data = connection.line.recv(4096)
+        except OSError:
+            data = b""
+        if not data:
+            self._drop(connection)
+            return
+        connection.buffer += data
+        try:
+            content, connection.buffer = iso.first_packet(connection.buffer)
+            while content is not None:
+                self._take(connection, content)
+                content, connection.buffer = iso.first_packet(connection.buffer)
+        except iso.MessageError as error:
+            self.record(history.Noise(str(error)))
+            self._drop(connection)
+
+    def _take(self, connection, content):
+        front = iso.REQUEST_TPDU + iso.HEADER
+        if content[:len(front)] != front:
+            raise iso.MessageError(f"TPDU and header are {content[:len(front)].hex()}")
+        data = content[len(front):]
+        message = iso.read(data)
+        if 64 in message and message[64] != iso.mac(data):
+            self.record(history.Noise(f"a wrong MAC in message {message[11]} of type {message[0]}"))
+        self.record(history.Received(message))
+        if part_of(message) in ("request", "settlement") and iso.batch_of(message) != self.batch:
+            self.batch, self.is_closed = iso.batch_of(message), False
+        self._handle(connection, message)
+
+    def _handle(self, connection, message):
+        part = part_of(message)
+        fault = self.generator.choice(FAULTS[part]) if self.generator.random() < self.faults else "plain"
+        answer = None
+        if not fault.endswith("lost"):
+            answer = {"request": self._card_answer, "reversal": self._reversal_answer, "settlement": self._settlement_answer,
+                      "item": self._upload_answer, "end": self._upload_answer}[part](message, fault)
+        self._deliver(connection, answer, fault)
+
+    def _card_answer(self, message, fault):
+        entry = self.ledger.decide(message)
+        answer = {number: message[number] for number in (2, 3, 4, 11, 25, 41, 42, 49, 60)}
+        answer.update({0: _answer_type(message), 12: "101500", 32: "48020000", 39: entry.code, 44: bytes(range(10)), 64: bytes(8)})
+        if entry.is_held:
+            answer.update({13: entry.date, 37: entry.reference})
+            if entry.authorisation:
+                answer[38] = entry.authorisation
+        if fault == "unfit" and entry.is_held:
+            number = self.generator.choice((4, 13, 37))
+            if number == 4:
+                answer[4] = f"{int(answer[4]) + 1:012d}"
+            else:
+                del answer[number]
+        return answer
+
+    def _reversal_answer(self, message, fault):
+        code = "96" if fault == "code 96, kept" else self.ledger.reverse(message)
+        answer = {number: message[number] for number in (2, 3, 4, 11, 25, 41, 42, 49, 60)}
+        answer.update({0: _answer_type(message), 13: "0101", 39: "96" if fault.startswith("code 96") else code, 64: bytes(8)})
+        return answer
+
+    def _settlement_answer(self, message, fault):
+        agrees = message[48][:30] == self.ledger.sums(message[41], iso.batch_of(message))
+        digit = fault[-1] if fault.startswith("digit") else "1" if agrees else "2"
+        answer = {number: message[number] for number in (11, 41, 42, 49, 60)}
+        answer.update({0: _answer_type(message), 48: message[48][:30] + digit + message[48][31:], 63: b"CUP"})
+        return answer
+
+    def _upload_answer(self, message, fault):
+        answer = {number: message[number] for number in (11, 41, 42, 60)}
+        answer.update({0: _answer_type(message), 39: fault[-2:] if fault.startswith("code") else "00"})
+        return answer
+
+    def _deliver(self, connection, answer, fault):
+        if connection.waiting is not None:
+            connection.waiting.append(lambda: self._deliver(connection, answer, fault))
+        elif fault.startswith("drop"):
+            self._drop(connection)
+        elif fault == "torn":
+            connection.send(self._packet(answer, True)[:self.generator.randint(1, 40)])
+            self._drop(connection)
+        elif fault in ("late", "late elsewhere"):
+            wait = self.timeout * self.generator.uniform(1.1, 2.5)
+            self._later(wait, lambda: self._send_late(connection, answer, fault))
+        elif fault == "delay":
+            self._later(self.timeout * self.generator.uniform(0.05, 0.6), lambda: self._send(connection, answer, True, fault))
+        elif fault == "pieces":
+            self._send_pieces(connection, answer)
+        elif not fault.startswith("silence"):
+            self._send_now(connection, answer, fault)
+
+    def _send_now(self, connection, answer, fault):
+        if fault in ("noise", "raw noise"):
+            connection.send(self._noise(fault))
+        if fault.startswith("foreign"):
+            connection.send(self._packet(self._foreign(answer), True))
+        if fault == "no MAC":
+            answer = {number: value for number, value in answer.items() if number != 64}
+        if fault != "foreign, silence":
+            self._send(connection, answer, fault not in ("wrong MAC", "no MAC"), fault)
+        if fault == "duplicate":
+            wait = self.generator.choice((0, 0.05, 0.5)) * self.timeout
+            self._later(wait, lambda: self._send_late(connection, answer, "late elsewhere"))
+
+    def _send(self, connection, answer, mac_is_good, manner):
+        if connection.waiting is not None:
+            connection.waiting.append(lambda: self._send(connection, answer, mac_is_good, manner))
+        elif connection.is_open and connection.send(self._packet(answer, mac_is_good)):
+            self._note_sent(answer, mac_is_good, manner)
+
+    def _send_late(self, connection, answer, fault):
+        """To the connection that asked, or to the newest one."""
+        if fault == "late elsewhere" and self.connections:
+            connection = self.connections[-1]
+        self._send(connection, answer, True, fault)
+
+    def _send_pieces(self, connection, answer):
+        data = self._packet(answer, True)
+        cut = self.generator.randint(1, len(data) - 1)
+        connection.send(data[:cut])
+        connection.waiting = []
+        self._later(self.timeout * 0.05, lambda: self._send_rest(connection, data[cut:], answer))
+
+    def _send_rest(self, connection, data, answer):
+        """The last piece, then what had to wait for it: a packet's bytes stand together."""
+        waiting, connection.waiting = connection.waiting, None
+        if connection.is_open and connection.send(data):
+            self._note_sent(answer, True, "pieces")
+        for action in waiting:
+            action()
+
+    def _note_sent(self, answer, mac_is_good, manner):
+        self.record(history.Answered(answer, mac_is_good, manner))
+        closes = answer[0] == "0510" and answer[48][30] == "1"
+        closes = closes or answer[0] == "0330" and iso.code_of(answer) == "202" and answer[39] == "00"
+        if closes and iso.batch_of(answer) == self.batch:
+            self.is_closed = True
+
+    def _packet(self, answer, mac_is_good):
+        data = iso.sealed(answer) if 64 in answer else iso.write(answer)
+        if not mac_is_good and 64 in answer:
+            place = self.generator.randint(1, 8)
+            data = data[:-place] + bytes([data[-place] ^ 1 << self.generator.randint(0, 7)]) + data[len(data) - place + 1:]
+        return iso.packet(iso.ANSWER_TPDU, data)
+
+    def _noise(self, fault):
+        noise = self.generator.randbytes(self.generator.randint(1, 60))
+        if fault == "raw noise":
+            return noise
+        front = self.generator.choice((iso.ANSWER_TPDU, iso.REQUEST_TPDU))
+        return iso.packet(front, noise)
+
+    def _foreign(self, answer):
+        """An approval of something else."""
+        foreign = dict(answer)
+        number = self.generator.choice((0, 11, 41, 42, 60))
+        if number == 0:
+            foreign[0] = self.generator.choice([kind for kind in ("0110", "0210", "0230", "0330", "0410") if kind != answer[0]])
+        elif number == 60:
+            foreign[60] = answer[60][:2] + following(iso.batch_of(answer)) + iso.code_of(answer)
+        else:
+            foreign[number] = {11: following(answer[11]), 41: "LIB99999", 42: "WHISTLAUREL9999"}[number]
+        if foreign[0] in ("0110", "0210", "0230"):
+            foreign = {4: "000000000100", 13: "0101", 37: "000000999999", **foreign}
+        if 39 in foreign:
+            foreign[39] = "00"
+        return foreign
+
+    def _later(self, wait, action):
+        heapq.heappush(self.timers, (time.monotonic() + wait, next(self.order), action))
+
+
+def _answer_type(message):
+    return f"{int(message[0]) + 10:04d}"
+
+
+def main():
+    parser = argparse.ArgumentParser(description="A centre to test a desk against.")
+    parser.add_argument("--port", type=int, default=0, help="0 takes a free one")
+    parser.add_argument("--seed", default="0", help="of the faults")
+    parser.add_argument("--faults", type=float, default=0.0, help="share of messages that meet a fault, 0 to 1")
+    parser.add_argument("--timeout", type=float, default=15.0, help="the desk's time-out in seconds, by which delays are measured")
+    options = parser.parse_args()
+    centre = Centre(options.seed, options.faults, options.timeout, lambda event: print(history.shown(event), flush=True), options.port)
+    print(f"listening on {centre.port}", flush=True)
+    try:
+        while True:
+            centre.turn(3600)
+    except KeyboardInterrupt:
+        centre.close()
+    return 0
+
+
+if __name__ == "__main__":
+    sys.exit(main())

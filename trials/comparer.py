@@ -1,0 +1,640 @@
+"""Compares what the desk says with what reached and left the centre, event by event, against document 01.
+
+The desk's word on a request is its result line. The centre's word is its ledger. A difference is a sentence that both cannot fulfil.
+"""
+
+import collections
+import re
+from typing import NamedTuple
+
+import history
+import iso
+from centre import CREDIT, DEBIT, following, part_of
+
+KINDS = {"authorise": "10", "authorise-void": "11", "complete": "20", "complete-void": "21", "sale": "22", "sale-void": "23", "refund": "25"}
+WORDS = {kind: word for word, kind in KINDS.items()}
+DOUBTFUL = ("given up", "unanswered")
+
+_WORD = "(" + "|".join(sorted(KINDS, key=len, reverse=True)) + ")"
+_YUAN = r"(\d+\.\d\d) yuan"
+RESULT = re.compile(rf"{_WORD} (\d{{6}}): (approved|declined|reversed|given up|unanswered)(?: \((..)\))? {_YUAN}, card (\d{{6}}\*+\d{{4}})(.*)")
+APPROVED_TAIL = re.compile(r", reference (.{12}), authorisation (.{6})")
+SETTLED = re.compile(rf"settled batch (\d{{6}}): debit {_YUAN} in (\d+), credit {_YUAN} in (\d+)")
+READY = re.compile(r"ready, batch (\d{6})")
+COUNTS = re.compile(r"counts sent (\d+) approved (\d+) declined (\d+) reversed (\d+) given-up (\d+) unanswered (\d+)")
+TOTALS = re.compile(rf"totals debit {_YUAN} in (\d+) credit {_YUAN} in (\d+)")
+STATE = re.compile(r"state batch (\d{6}) next-trace (\d{6}) (signed-on|signed-off) entries (\d+) (.+)")
+JOURNAL_ENTRY = re.compile(rf"{_WORD} (\d{{6}}): {_YUAN}, card (\d{{6}}\*+\d{{4}}), date (\d{{4}}), reference (.{{12}}), "
+                           r"authorisation (.{6})(, voided)?")
+JOURNAL_END = re.compile(r"journal (\d+) entries")
+DOUBTFUL_HEAD = re.compile(r"doubtful: (\d+)")
+REFUSED = re.compile(r"refused \((\d+)\): .+")
+PLAIN_CARD = re.compile(r"(?<!\d)\d{13,19}(?!\d)")
+
+CARD_FIELDS = {0, 2, 3, 4, 11, 22, 25, 41, 42, 49, 60, 64}
+EXTRA_FIELDS = {"11": {38, 61}, "20": {38, 61}, "21": {37, 38, 61}, "23": {37, 38, 61}, "25": {37, 61}}
+SETTLEMENT_FIELDS = {0, 11, 41, 42, 48, 49, 60}
+ITEM_FIELDS = {0, 2, 3, 4, 11, 37, 38, 41, 42, 49, 60}
+END_FIELDS = {0, 11, 41, 42, 60}
+
+
+class Difference(NamedTuple):
+    name: str
+    words: str
+    events: list    # as text: those of the trace, then the latest
+
+
+class Request:
+    """A card request, as far as desk and centre have said something of it."""
+
+    def __init__(self, trace, batch, message=None):
+        self.trace = trace
+        self.batch = batch
+        self.message = message          # None where it never reached the centre
+        self.approval = None            # the approval that left, fit to be taken
+        self.wrong_mac_left = False
+        self.codes = set()              # of declines that left
+        self.reversal = None            # as it came first
+        self.reversals = 0
+        self.reversal_ended = False     # an answer that ends the reversal left
+        self.is_held = False
+        self.word = None
+        self.line = None
+
+    @property
+    def kind(self):
+        return iso.kind_of(self.message)
+
+
+class Batch:
+    """A batch at and after its settlement."""
+
+    def __init__(self):
+        self.sums = None                # first 30 digits of the settlement's field 48
+        self.may_close = False          # an answer that closes it left
+        self.may_upload = False         # an answer that starts the upload left
+        self.items = collections.Counter()
+        self.answered_items = set()
+        self.first_items = []
+        self.losses = 0                 # kills and unread connections since its settlement left
+
+
+class Comparer:
+    """Takes the events of one terminal, from a fresh store on. Traces do not start again within a trial."""
+
+    def __init__(self, limit, sendings, refund, terminal, merchant):
+        self.limit = limit
+        self.sendings = sendings
+        self.refund = refund
+        self.names = {41: terminal, 42: merchant, 49: "156"}
+        self.requests = {}
+        self.batches = collections.defaultdict(Batch)
+        self.batch = None
+        self.last_trace = 0             # of the latest card request, settlement or upload's end
+        self.is_settling = False
+        self.command = None             # the words of the command that is under way
+        self.command_has_sent = False
+        self.settle_asked = False       # in this batch
+        self.losses = 0                 # kills and unread connections
+        self.losses_before = 0          # the same, before the latest card command
+        self.listing = None             # lines of a journal or doubtful list under way
+        self.listing_left = 0
+        self.figures = collections.Counter()
+        self.differences = []
+        self.events = []
+
+    def take(self, event):
+        """Takes the next event."""
+        self.events.append(event)
+        name = type(event).__name__.lower()
+        getattr(self, f"_take_{name}")(event)
+
+    def entries(self):
+        """Requests of the open batch that the desk called approved, in the journal's order."""
+        return [request for request in self._open_batch() if request.word == "approved" and request.message]
+
+    def voided(self):
+        """Traces of the open batch's entries that an approved void names."""
+        return {request.message[61][6:12] for request in self.entries() if request.kind in ("21", "23")}
+
+    def is_busy(self):
+        """Whether a request has not ended yet, or a settlement."""
+        return self.is_settling or bool(self._without_word())
+
+    def finish(self):
+        """Compares what is left when the desk has ended in order."""
+        for request in self.requests.values():
+            if request.word is None:
+                self._differ("untold", f"the desk never said how request {request.trace} ended", request.trace)
+            self._compare_holding(request)
+
+    # What happens to the desk.
+
+    def _take_started(self, _event):
+        self.command = None
+        self.listing = None
+
+    def _take_killed(self, _event):
+        self.figures["kills"] += 1
+        self._note_loss()
+
+    def _take_ended(self, event):
+        if event.status != 0:
+            self._differ("exit", f"the desk ended with status {event.status}: {event.words}")
+
+    def _take_unread(self, _event):
+        self._note_loss()
+
+    def _take_noise(self, event):
+        self._differ("noise", f"the desk sent {event.words}")
+
+    def _take_command(self, event):
+        self.command = event.text.split()
+        self.command_has_sent = False
+        self.listing = [] if self.command[0] in ("journal", "doubtful") else None
+        if self.command[0] in KINDS:
+            self.losses_before = self.losses
+        if self.command[0] == "settle":
+            self.settle_asked = True
+
+    def _note_loss(self):
+        self.losses += 1
+        if self.batch and self.batches[self.batch].sums:
+            self.batches[self.batch].losses += 1
+
+    # What the centre decides and answers.
+
+    def _take_held(self, event):
+        self.requests[event.trace].is_held = True
+
+    def _take_released(self, event):
+        self.requests[event.trace].is_held = False
+
+    def _take_answered(self, event):
+        answer = event.answer
+        trace = answer[11]
+        self.figures["answers"] += 1
+        if answer[0] == "0510":
+            self._note_settlement_answer(answer)
+        elif answer[0] == "0330":
+            self._note_upload_answer(answer)
+        elif answer[0] == "0410":
+            if answer[39] in ("25", "12") or answer[39] == "00" and event.mac_is_good:
+                self.requests[trace].reversal_ended = True
+        else:
+            self._note_card_answer(self.requests[trace], answer, event.mac_is_good)
+
+    def _note_card_answer(self, request, answer, mac_is_good):
+        if answer[39] != "00":
+            request.codes.add(answer[39])
+        elif answer[4] == request.message[4] and 13 in answer and 37 in answer:
+            if mac_is_good:
+                request.approval = answer
+            else:
+                request.wrong_mac_left = True
+
+    def _note_settlement_answer(self, answer):
+        batch = self.batches[iso.batch_of(answer)]
+        digit = answer[48][30]
+        batch.may_close = batch.may_close or digit == "1"
+        batch.may_upload = batch.may_upload or digit in "23"
+
+    def _note_upload_answer(self, answer):
+        batch = self.batches[iso.batch_of(answer)]
+        if iso.code_of(answer) == "201":
+            batch.answered_items.add(answer[11])
+        elif answer[39] == "00":
+            batch.may_close = True
+
+    # What the desk sends.
+
+    def _take_received(self, event):
+        message = event.message
+        self.figures["messages"] += 1
+        part = part_of(message)
+        for fault in faults_of_form(message, part, self.names):
+            self._differ("form", f"{part} {message.get(11)}: {fault}", message.get(11))
+        getattr(self, f"_receive_{part}")(message)
+
+    def _receive_request(self, message):
+        trace = message[11]
+        self.figures["card requests"] += 1
+        self._look_at_new_trace(message, "card request")
+        self._look_for_open_requests(message, "card request")
+        self._note_batch(iso.batch_of(message))
+        if self.is_settling:
+            self._differ("request while settling", f"card request {trace} left after the settlement of its batch", trace)
+        self._compare_with_command(message)
+        if self._refusals():
+            self._differ("not refused", f"card request {trace} left, and the command breaks rule {min(self._refusals())}", trace)
+        if trace not in self.requests:
+            self.requests[trace] = Request(trace, self.batch, message)
+        if iso.kind_of(message) in ("21", "23"):
+            self._compare_with_original(message)
+
+    def _receive_reversal(self, message):
+        trace = message[11]
+        self.figures["reversals"] += 1
+        request = self.requests.setdefault(trace, Request(trace, iso.batch_of(message)))
+        request.reversals += 1
+        if request.reversals > self.sendings:
+            self._differ("reversal too often", f"the reversal of {trace} left {request.reversals} times, L is {self.sendings}", trace)
+        if int(trace) < self.last_trace:
+            self._differ("reversal after a later request", f"the reversal of {trace} was open when {self.last_trace:06d} left", trace)
+        if request.word is not None:
+            self._differ("reversal after its end", f"a reversal of {trace} left after the desk had said: {request.line}", trace)
+        self._compare_reversal(request, message)
+        self.last_trace = max(self.last_trace, int(trace))
+        self._note_batch(iso.batch_of(message))
+
+    def _receive_settlement(self, message):
+        self.figures["settlements"] += 1
+        self._look_at_new_trace(message, "settlement")
+        self._look_for_open_requests(message, "settlement")
+        self._note_batch(iso.batch_of(message))
+        if not self.settle_asked:
+            self._differ("settlement not asked for", f"settlement {message[11]} left without the command", message[11])
+        self.is_settling = True
+        self._compare_settlement(message)
+
+    def _receive_item(self, message):
+        trace = message[11]
+        batch = self.batches[iso.batch_of(message)]
+        self.figures["upload items"] += 1
+        if not batch.may_upload:
+            self._differ("upload not asked for", f"upload item {trace} left, no answer had asked for an upload", trace)
+        if trace not in batch.items and batch.first_items and trace < batch.first_items[-1] and not batch.losses:
+            self._differ("upload order", f"upload item {trace} left after {batch.first_items[-1]}", trace)
+        if trace not in batch.items:
+            batch.first_items.append(trace)
+        batch.items[trace] += 1
+        if batch.items[trace] > 1 + self.sendings:
+            self._differ("upload too often", f"upload item {trace} left {batch.items[trace]} times, L is {self.sendings}", trace)
+        self._compare_item(message)
+
+    def _receive_end(self, message):
+        number = iso.batch_of(message)
+        batch = self.batches[number]
+        self.figures["upload ends"] += 1
+        self._look_at_new_trace(message, "upload's end")
+        if not batch.may_upload:
+            self._differ("upload not asked for", f"the upload's end {message[11]} left, no answer had asked for an upload", message[11])
+        for request in self._due(number):
+            sendings = batch.items[request.trace] + batch.losses
+            if request.trace not in batch.answered_items and sendings < 1 + self.sendings:
+                self._differ("upload ended early", f"upload item {request.trace} left {batch.items[request.trace]} times without an answer, "
+                             f"then the end", request.trace)
+
+    # Comparisons of messages.
+
+    def _look_at_new_trace(self, message, name):
+        trace = int(message[11])
+        if trace <= self.last_trace:
+            self._differ("trace used again", f"{name} {message[11]} is not above {self.last_trace:06d}", message[11])
+        self.last_trace = max(self.last_trace, trace)
+
+    def _look_for_open_requests(self, message, name):
+        for request in self._without_word():
+            what = "while its reversal was open" if request.reversals else "before it was ended"
+            self._differ(f"{name} while open", f"{name} {message[11]} left, and {request.trace} had no end: {what}", request.trace)
+
+    def _compare_with_command(self, message):
+        trace, kind = message[11], iso.kind_of(message)
+        command = self.command or [""]
+        if self.command_has_sent:
+            self._differ("sent twice", f"one command sent a second card request, {trace}", trace)
+        self.command_has_sent = True
+        if KINDS.get(command[0]) != kind:
+            self._differ("not commanded", f"card request {trace} of kind {kind} left at the command {command[0] or 'none'}", trace)
+            return
+        if kind in ("21", "23"):
+            given = {61: message[61][:6] + command[1].zfill(6) + message[61][12:]}
+        else:
+            given = {4: command[1].zfill(12), 2: command[2]}
+            given.update(zip({"25": (37, 61), "11": (38, 61), "20": (38, 61)}.get(kind, ()), command[3:]))
+            if 61 in given:
+                given[61] = "0" * 12 + given[61]
+        for number, value in given.items():
+            if message.get(number) != value:
+                self._differ("not as commanded", f"field {number} of card request {trace} differs from the command", trace)
+
+    def _compare_with_original(self, message):
+        trace, named = message[11], message[61][6:12]
+        original = self.requests.get(named)
+        if original is None or original.word != "approved" or not original.approval:
+            self._differ("void", f"void {trace} names {named}, which the desk never called approved", trace)
+            return
+        wanted = {2: original.message[2], 4: original.message[4], 37: original.approval[37], 38: original.approval.get(38, " " * 6),
+                  61: original.batch + named + original.approval[13]}
+        for number, value in wanted.items():
+            if message.get(number) != value:
+                self._differ("void", f"field {number} of void {trace} is not that of its original {named}", trace)
+        if original.kind != {"21": "20", "23": "22"}[iso.kind_of(message)] or named in self.voided():
+            self._differ("void", f"void {trace} names {named}, which is of another kind or voided", trace)
+
+    def _compare_reversal(self, request, message):
+        first = request.reversal or {**(request.message or message), 39: message[39]}
+        request.reversal = request.reversal or message
+        for number in set(first) | set(message):
+            if number not in (0, 37, 38, 61, 64) and first.get(number) != message.get(number):
+                self._differ("reversal", f"field {number} of the reversal of {request.trace} differs from its request or first sending",
+                             request.trace)
+        if iso.kind_of(message) == "25":
+            self._differ("reversal", f"a refund is reversed: {request.trace}", request.trace)
+        if message[39] == "A0" and not request.wrong_mac_left:
+            self._differ("reversal", f"reason A0 for {request.trace}, and no approval with a wrong MAC had left", request.trace)
+
+    def _compare_settlement(self, message):
+        number, sums = iso.batch_of(message), message[48][:30]
+        batch = self.batches[number]
+        told = self._sums(self._due(number))
+        if sums != told:
+            self._differ("settlement", f"settlement {message[11]} of batch {number} carries {sums}, the desk's approved requests give {told}",
+                         message[11])
+        if batch.sums not in (None, sums):
+            self._differ("settlement", f"settlement {message[11]} of batch {number} carries {sums}, the one before it {batch.sums}", message[11])
+        batch.sums = sums
+        held = [request for request in self.requests.values() if request.batch == number and request.is_held and request.word not in DOUBTFUL]
+        if sums != self._sums(held):
+            self._differ("settlement and ledger", f"settlement {message[11]} of batch {number} carries {sums}, the centre's ledger without "
+                         f"doubtful requests gives {self._sums(held)}", message[11])
+        for request in self.requests.values():
+            if request.batch == number:
+                self._compare_holding(request)
+
+    def _compare_item(self, message):
+        trace = message[11]
+        request = self.requests.get(trace)
+        if request not in self._due(iso.batch_of(message)):
+            self._differ("upload", f"upload item {trace} is no approved debit or credit of batch {iso.batch_of(message)}", trace)
+            return
+        approval = request.approval or {}
+        wanted = {2: request.message[2], 3: request.message[3], 4: request.message[4], 37: approval.get(37),
+                  38: approval.get(38, " " * 6), 60: request.kind + request.batch + "201"}
+        for number, value in wanted.items():
+            if message.get(number) != value:
+                self._differ("upload", f"field {number} of upload item {trace} differs from its request or approval", trace)
+
+    def _compare_holding(self, request):
+        """A fee that the centre holds is approved or doubtful at the desk, and what the desk calls approved is held."""
+        if request.is_held and request.word != "approved" and request.word not in DOUBTFUL:
+            self._differ("held", f"the centre holds {request.trace}, and the desk says: {request.line}", request.trace)
+        if request.word == "approved" and not request.is_held:
+            self._differ("not held", f"the desk called {request.trace} approved, and the centre does not hold it", request.trace)
+
+    # What the desk says.
+
+    def _take_line(self, event):
+        text = event.text
+        self._look_for_card(text)
+        if text.startswith("last request: "):
+            self._compare_last(text)
+        if self.listing is not None:
+            self._take_listed(text)
+            return
+        for pattern, method in ((RESULT, self._take_result), (SETTLED, self._take_settled), (READY, self._take_ready),
+                                (COUNTS, self._take_counts), (TOTALS, self._take_totals), (STATE, self._take_state),
+                                (REFUSED, self._take_refused)):
+            match = pattern.fullmatch(text.removeprefix("last request: "))
+            if match:
+                method(match)
+                return
+        if text not in ("last request: none", "settlement not answered; settle again", "upload not answered; settle again"):
+            self._differ("line", f"the desk wrote what the agreement does not have: {text}")
+
+    def _take_error(self, event):
+        self._look_for_card(event.text)
+
+    def _look_for_card(self, text):
+        if PLAIN_CARD.search(text):
+            self._differ("card shown", "a line shows a run of 13 to 19 digits")
+
+    def _compare_last(self, text):
+        match = RESULT.fullmatch(text.removeprefix("last request: "))
+        latest = max(self.requests, default="000000")
+        if latest > (match.group(2) if match else "000000"):
+            self._differ("last request", f"the latest request is {latest}, and the desk says {text!r}", latest)
+
+    def _take_result(self, match):
+        word_of_kind, trace, word, code, yuan, card, tail = match.groups()
+        line = match.group(0)
+        request = self.requests.setdefault(trace, Request(trace, self.batch))
+        if request.line not in (None, line):
+            self._differ("word changed", f"the desk said {request.line!r} and later {line!r}", trace)
+        if request.line is not None:
+            return
+        request.word, request.line = word, line
+        self.figures[word] += 1
+        known = request.message or request.reversal
+        if known and (word_of_kind != WORDS[iso.kind_of(known)] or _fen(yuan) != int(known[4]) or card != history.masked(known[2])):
+            self._differ("result line", f"kind, amount or card of the line is not that of request {trace}: {line}", trace)
+        self._compare_result(request, word, code, tail)
+
+    def _compare_result(self, request, word, code, tail):
+        trace = request.trace
+        if word == "approved":
+            self._compare_approval(request, tail)
+        elif word == "declined" and code not in request.codes:
+            self._differ("declined", f"declined ({code}) is not what the centre said on {trace}: {sorted(request.codes)}", trace)
+        elif word == "reversed" and not request.reversal_ended:
+            self._differ("reversed", f"{trace} is called reversed, and no answer that ends the reversal left", trace)
+        elif word == "given up" and request.reversals + self.losses - self.losses_before < self.sendings:
+            self._differ("given up early", f"{trace} is given up after {request.reversals} sendings and {self.losses - self.losses_before} losses, "
+                         f"L is {self.sendings}", trace)
+        elif word == "unanswered" and request.message and request.kind != "25":
+            self._differ("unanswered", f"{trace} is called unanswered and is no refund", trace)
+        if word in ("approved", "declined", "unanswered") and request.reversals:
+            self._differ("word and reversal", f"{trace} is called {word}, and its reversal had left", trace)
+        self._compare_holding(request)
+
+    def _compare_approval(self, request, tail):
+        match = APPROVED_TAIL.fullmatch(tail)
+        if request.approval is None:
+            self._differ("approved", f"{request.trace} is called approved, and no approval with a good MAC left", request.trace)
+        elif not match or match.groups() != (_shown(request.approval[37]), _shown(request.approval.get(38, " " * 6))):
+            self._differ("result line", f"reference or authorisation of {request.trace} is not the centre's: {request.line}", request.trace)
+        if len(self.entries()) > self.limit:
+            self._differ("journal full", f"{request.trace} is approved beyond the entry limit", request.trace)
+
+    def _take_settled(self, match):
+        number = match.group(1)
+        batch = self.batches[number]
+        digits = _sums_of_words(match.groups()[1:])
+        if digits != batch.sums:
+            self._differ("settled line", f"the desk says {match.group(0)!r}, its settlement carried {batch.sums}")
+        if not batch.may_close:
+            self._differ("closed", f"batch {number} is called settled, and no answer that closes it left")
+        if number != self.batch:
+            self._differ("closed", f"batch {number} is called settled, the open one is {self.batch}")
+        self._open(following(number))
+
+    def _take_ready(self, match):
+        self._note_batch(match.group(1))
+        for request in self._without_word():
+            self._differ("untold", f"the desk is ready and has not said how request {request.trace} ended", request.trace)
+
+    def _take_counts(self, match):
+        words = collections.Counter(request.word for request in self._open_batch())
+        told = [sum(words.values())] + [words[word] for word in ("approved", "declined", "reversed", *DOUBTFUL)]
+        if [int(number) for number in match.groups()] != told:
+            self._differ("counts", f"the desk says {match.group(0)!r}, its result lines give {told}")
+
+    def _take_totals(self, match):
+        if _sums_of_words(match.groups()) != self._sums(self.entries()):
+            self._differ("totals", f"the desk says {match.group(0)!r}, its approved requests give {self._sums(self.entries())}")
+
+    def _take_state(self, match):
+        number, next_trace, signed, entries, phase = match.groups()
+        if (number != self.batch or int(next_trace) <= self.last_trace or int(entries) != len(self.entries()) or signed != "signed-on"
+                or phase not in ("resting", "settling", "uploading")):
+            self._differ("state", f"the desk says {match.group(0)!r}; batch {self.batch}, latest trace {self.last_trace}, "
+                         f"{len(self.entries())} entries")
+
+    def _take_refused(self, match):
+        self.figures["refusals"] += 1
+        may_settle = {13} if self.settle_asked else set()
+        if int(match.group(1)) not in may_settle | {min(self._refusals(), default=0)}:
+            self._differ("refused", f"the command {self.command} breaks rules {sorted(self._refusals())}, and the desk says: {match.group(0)}")
+        if self.command_has_sent:
+            self._differ("refused", f"a refused command had sent a message: {match.group(0)}")
+
+    def _refusals(self):
+        """Numbers of the rules that the card command under way breaks, as far as a trial breaks any; 13 aside."""
+        word, *data = self.command or [""]
+        numbers = set()
+        if word == "refund" and int(data[0]) > self.refund:
+            numbers.add(17)
+        if word in KINDS and len(self.entries()) >= self.limit:
+            numbers.add(18)
+        if word in ("sale-void", "complete-void"):
+            original = next((entry for entry in self.entries() if entry.trace == data[0].zfill(6)), None)
+            if original is None or original.kind != {"sale-void": "22", "complete-void": "20"}[word]:
+                numbers.add(19)
+            elif original.trace in self.voided():
+                numbers.add(20)
+        return numbers
+
+    def _take_listed(self, text):
+        head = DOUBTFUL_HEAD.fullmatch(text)
+        if head and not self.listing:
+            self.listing_left = int(head.group(1)) + 1
+            self.listing = ["doubtful"]
+        elif self.listing[:1] != ["doubtful"] and JOURNAL_END.fullmatch(text):
+            self._compare_journal(int(text.split()[1]))
+            return
+        else:
+            self.listing.append(text)
+        if self.listing[:1] == ["doubtful"]:
+            self.listing_left -= 1
+            if self.listing_left == 0:
+                self._compare_doubtful()
+
+    def _compare_journal(self, count):
+        shown, self.listing = self.listing, None
+        matches = [JOURNAL_ENTRY.fullmatch(text) for text in shown]
+        listed = [match and match.groups() for match in matches]
+        told = [self._as_listed(request) for request in self.entries()]
+        self.figures["journals compared"] += 1
+        if listed != told or count != len(listed):
+            self._differ("journal", f"the journal shows {listed}, the desk's approved requests are {told}")
+
+    def _as_listed(self, request):
+        approval, amount = request.approval or {}, int(request.message[4])
+        return (WORDS[request.kind], request.trace, f"{amount // 100}.{amount % 100:02d}", history.masked(request.message[2]), approval.get(13),
+                _shown(approval.get(37, "")), _shown(approval.get(38, " " * 6)), ", voided" if request.trace in self.voided() else None)
+
+    def _compare_doubtful(self):
+        shown, self.listing = self.listing[1:], None
+        told = [request.line for request in self.requests.values() if request.word in DOUBTFUL]
+        self.figures["doubtful lists compared"] += 1
+        if sorted(shown) != sorted(told):
+            self._differ("doubtful", f"the desk lists {sorted(shown)}, it called doubtful {sorted(told)}")
+
+    # Sums and lists.
+
+    def _note_batch(self, number):
+        """The desk goes by this batch number now."""
+        if number == self.batch:
+            return
+        if self.batch and (self.is_settling or self._open_batch()):
+            if not self.batches[self.batch].may_close or number != following(self.batch):
+                self._differ("batch number", f"batch {self.batch} became {number} without being closed")
+        self._open(number)
+
+    def _open(self, number):
+        if self.is_settling:
+            self.figures["closings"] += 1
+        self.batch, self.is_settling, self.settle_asked = number, False, False
+
+    def _open_batch(self):
+        return [request for trace, request in sorted(self.requests.items()) if request.batch == self.batch]
+
+    def _without_word(self):
+        return [request for request in self.requests.values() if request.word is None]
+
+    def _due(self, number):
+        return [request for trace, request in sorted(self.requests.items())
+                if request.batch == number and request.word == "approved" and request.message and request.kind in DEBIT + CREDIT]
+
+    def _sums(self, requests):
+        digits = ""
+        for side in (DEBIT, CREDIT):
+            amounts = [int(request.message[4]) for request in requests if request.kind in side]
+            digits += f"{sum(amounts):012d}{len(amounts):03d}"
+        return digits
+
+    def _differ(self, name, words, trace=None):
+        of_trace = [history.shown(event) for event in self.events if trace and trace in history.shown(event)]
+        latest = [history.shown(event) for event in self.events[-25:]]
+        self.differences.append(Difference(name, words, of_trace[-25:] + ["--- latest:"] + latest))
+
+
+def faults_of_form(message, part, names):
+    """In which ways a message of the desk is not what document 01 says of such a message."""
+    if part in ("request", "reversal"):
+        faults, wanted = _card_form(message, part)
+    elif part == "settlement":
+        faults, wanted = ([], SETTLEMENT_FIELDS)
+        if message.get(48, "")[30:] != "0" * 32:
+            faults.append("the digit of field 48 or what follows it is not zero")
+    else:
+        faults, wanted = ([], ITEM_FIELDS if part == "item" else END_FIELDS)
+    if set(message) != wanted:
+        faults.append(f"fields {sorted(set(message) ^ wanted)} are too many or missing")
+    if part not in ("request", "reversal"):
+        code = "202" if part == "end" else "201"
+        if iso.code_of(message) != code or part != "item" and iso.kind_of(message) != "00":
+            faults.append(f"field 60 is {message[60]}")
+    faults += [f"field {number} is {message[number]}" for number, value in names.items() if message.get(number, value) != value]
+    return faults
+
+
+def _card_form(message, part):
+    kind = iso.kind_of(message)
+    if kind not in WORDS:
+        return [f"kind {kind} is not listed"], set(message)
+    kind_type = "0100" if kind in ("10", "11") else "0220" if kind == "25" else "0200"
+    wanted = {3: "030000" if kind == "10" else "000000" if kind in DEBIT else "200000", 22: "012",
+              25: "06" if kind in ("10", "11", "20", "21") else "00", 0: "0400" if part == "reversal" else kind_type}
+    faults = [f"field {number} is {message.get(number)}" for number, value in wanted.items() if message.get(number) != value]
+    if iso.code_of(message) != "000":
+        faults.append(f"field 60 is {message[60]}")
+    if part == "reversal" and message.get(39) not in ("98", "A0"):
+        faults.append(f"the reason is {message.get(39)}")
+    if part == "request" and kind in ("11", "20", "25") and message.get(61, "")[:12] != "0" * 12:
+        faults.append("field 61 has a batch or a trace")
+    return faults, CARD_FIELDS | ({39} if part == "reversal" else EXTRA_FIELDS.get(kind, set()))
+
+
+def _fen(yuan):
+    return int(yuan.replace(".", ""))
+
+
+def _sums_of_words(words):
+    debit, debit_count, credit, credit_count = words
+    return f"{_fen(debit):012d}{int(debit_count):03d}{_fen(credit):012d}{int(credit_count):03d}"
+
+
+def _shown(text):
+    """A text of the centre as the desk shows it."""
+    return text.replace(" ", "_")

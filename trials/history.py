@@ -1,0 +1,86 @@
+"""What happens in a trial, in one order: a list of events, of the desk, of the centre and of whoever pulls the plug."""
+
+from typing import NamedTuple
+
+
+class Started(NamedTuple):
+    """The desk was started."""
+    batch: int
+    point: str
+
+
+class Command(NamedTuple):
+    """A command was given to the desk."""
+    text: str
+
+
+class Line(NamedTuple):
+    """The desk wrote a line on its standard output."""
+    text: str
+
+
+class Error(NamedTuple):
+    """The desk wrote a line on its standard error."""
+    text: str
+
+
+class Killed(NamedTuple):
+    """The desk was ended by SIGKILL; how is "random" or the name of a point."""
+    how: str
+
+
+class Ended(NamedTuple):
+    """The desk ended by itself."""
+    status: int
+    words: str
+
+
+class Received(NamedTuple):
+    """A message of the desk reached the centre."""
+    message: dict
+
+
+class Noise(NamedTuple):
+    """Bytes of the desk that are no packet or no message."""
+    words: str
+
+
+class Unread(NamedTuple):
+    """The centre closed a connection without reading it: what the desk sent there is lost."""
+
+
+class Answered(NamedTuple):
+    """An answer left the centre."""
+    answer: dict
+    mac_is_good: bool
+    manner: str
+
+
+class Held(NamedTuple):
+    """The centre's ledger took a request as approved."""
+    trace: str
+
+
+class Released(NamedTuple):
+    """The centre's ledger took a reversal: the request counts no longer."""
+    trace: str
+
+
+def masked(card):
+    """A card number: first six digits, stars, last four."""
+    return card[:6] + "*" * (len(card) - 10) + card[-4:]
+
+
+def shown(event):
+    """An event as a line of text, card numbers masked."""
+    name = type(event).__name__.lower()
+    parts = [_shown(part) for part in event]
+    return " ".join([name, *parts])
+
+
+def _shown(part):
+    if isinstance(part, dict):
+        fields = {number: masked(value) if number == 2 else value for number, value in sorted(part.items())}
+        return " ".join(f"{number}={value.hex() if isinstance(value, bytes) else value}" for number, value in fields.items())
+    words = str(part).split(" ")
+    return " ".join(masked(word) if word.isdecimal() and 13 <= len(word) <= 19 else word for word in words)
