@@ -10,7 +10,7 @@ use lib.Seq.{getD-take, getD-drop}
 use borrow.Author.Tests.{leb-true}
 use Rattle.digits.proofs.Lists.{all-at, getD-past}
 use Rattle.state.specs.declared.Phase.the-variants.{Resting}
-use Rattle.image_definitions.specs.Layout.{widths, bytesOf}
+use Rattle.image_definitions.specs.Layout.{widths, rows, bytesOf}
 use Rattle.image_definitions.specs.Image.{rowsFrom, settingsOf, countsOf, requestOf, reversalOf, phasesOf, stateOf}
 use Rattle.image_definitions.specs.Sized.{SizedSettings, SizedCounts, SizedRequest, SizedReversal, SizedPhase, Sized}
 use Rattle.image_definitions.proofs.Laid.{length-bytesOf, append-bytes, bytesOf-bytes}
@@ -81,8 +81,8 @@ sized-state v below =
 -- no row is wider than 64 bits
 pub width-small : (k : ℕ) → getD widths k 0 ≤ 8
 unfolding widths
-width-small k = go (decLt k 27)
+width-small k = go (decLt k rows)
   where
-    go : Dec (k < 27) → getD widths k 0 ≤ 8
-    go (yes h) = leb-true _ _ (all-at (λ i. leb (getD widths i 0) 8) 27 refl k h)
+    go : Dec (k < rows) → getD widths k 0 ≤ 8
+    go (yes h) = leb-true _ _ (all-at (λ i. leb (getD widths i 0) 8) rows refl k h)
     go (no h) = rw (getD-past widths k (omega arith)) (omega arith)

@@ -3,7 +3,7 @@ use mathlib.Core.Path.{refl}
 use Prim.Native.Nat.{_-_}
 use native.Mathlib.Omega.{arith}
 use borrow.Author.Needs.{needs}
-use Rattle.image_definitions.specs.Layout.{widths}
+use Rattle.image_definitions.specs.Layout.{widths, rows}
 use Rattle.image_definitions.specs.Image.{image}
 use Rattle.image_definitions.proofs.Laid.{WrittenTo, written-none, written-more, written-done, placed-within}
 use Rattle.image.proofs.image_of.Statement.{statement}
@@ -13,7 +13,7 @@ abbrev Inv-loop : tie.InvT-loop
 Inv-loop values ws out₀ at₀ k₀ out at k = WrittenTo ws values at k out
 
 abbrev μ-loop : tie.MeasureT-loop
-μ-loop values ws out₀ at₀ k₀ out at k = 27 - k
+μ-loop values ws out₀ at₀ k₀ out at k = rows - k
 
 values-of-requires : tie.Need-values-of-requires Inv-loop μ-loop
 values-of-requires c κs = tt

@@ -3,7 +3,7 @@ use mathlib.Core.Path.{refl}
 use Prim.Native.Nat.{_-_}
 use native.Mathlib.Omega.{arith}
 use borrow.Author.Needs.{needs}
-use Rattle.image_definitions.specs.Layout.{widths}
+use Rattle.image_definitions.specs.Layout.{widths, rows}
 use Rattle.image_definitions.proofs.Laid.{ReadTo, read-none, read-more, read-done, placed-within}
 use Rattle.image_definitions.proofs.Bounds.{width-small}
 use Rattle.image.proofs.numbers_in.Statement.{statement}
@@ -13,7 +13,7 @@ abbrev Inv-loop : tie.InvT-loop
 Inv-loop b ws numbers₀ at₀ k₀ numbers at k = ReadTo ws b at k numbers
 
 abbrev μ-loop : tie.MeasureT-loop
-μ-loop b ws numbers₀ at₀ k₀ numbers at k = 27 - k
+μ-loop b ws numbers₀ at₀ k₀ numbers at k = rows - k
 
 loop-holds : tie.Need-loop-holds Inv-loop μ-loop
 loop-holds c = read-none _ _ _ refl
