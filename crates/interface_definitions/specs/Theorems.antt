@@ -1,7 +1,7 @@
 -- What is proved of the calls on images, for every event and all bytes: what the number that is returned says of the memory that was lent.
 use mathlib.Core.Path.{_≡_}
 use mathlib.Core.List.{List}
-use Prim.Native.Nat.{ℕ, _≤_}
+use Prim.Native.Nat.{ℕ, _-_, _≤_}
 use Rattle.state.specs.declared.State.{State}
 use Rattle.state.specs.declared.Outcome.the-variants.{Refused}
 use Rattle.state.specs.Calls.{Lent}
@@ -10,15 +10,15 @@ use Rattle.image_definitions.specs.Sized.{Bytes, Sized}
 use Rattle.call_definitions.specs.Events.{Event, call}
 use Rattle.call_definitions.specs.Shapes.{EventShaped}
 use Rattle.call_theorems.specs.Facts.{Leaves}
-use Rattle.interface_definitions.specs.Interface.{done, sends, Given, given, onImage}
+use Rattle.interface_definitions.specs.Interface.{done, absent, sends, Given, given, onImage}
 
 -- a call on the image of a state gives what the call on the state gives
 abbrev pub OnStates : Type 0
 OnStates = (e : Event) (s : State) (lent : Lent) → Sized s → onImage e (image s) lent ≡ given (call e s lent)
 
--- the numbers of document 01 are 1 to 22
+-- the numbers from 1 to the one before `absent` are left to document 01
 abbrev pub last : ℕ
-last = 22
+last = absent - 1
 
 abbrev pub Numbered : ℕ → Type 0
 Numbered n = (1 ≤ n) × (n ≤ last)

@@ -16,7 +16,7 @@ use Rattle.state.specs.declared.Phase.the-variants.{Resting, Pending}
 use Rattle.state.specs.declared.Reason.the-variants.{Silence}
 use Rattle.call_definitions.specs.Events.{run, settles}
 use Rattle.worked.specs.Desk.{opened, keyed, approval, totals}
-use Rattle.worked.specs.Worked.{fieldsNamed, firstSent, sent, saleOnWire, fullest, afterF, afterG, afterH, afterK, firstSale, settlementOf}
+use Rattle.worked.specs.Worked.{countsF, fieldsNamed, firstSent, sent, saleOnWire, fullest, afterF, afterG, afterH, afterK, firstSale, settlementOf}
 use Rattle.worked.proofs.Machine.{machine}
 
 pub sent-bytes : sent ≡ saleOnWire
@@ -43,7 +43,7 @@ pub f : totals afterF ≡ record { debit = 12000; debits = 1; credit = 12000; cr
 unfolding machine
 f = refl
 
-pub f-counts : afterF .state .counts ≡ record { sent = 3; approved = 2; declined = 0; reversed = 1; «given_up» = 0; unanswered = 0 }
+pub f-counts : afterF .state .counts ≡ countsF
 unfolding machine
 f-counts = refl
 

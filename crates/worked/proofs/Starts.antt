@@ -24,6 +24,7 @@ use Rattle.effect_definitions.specs.StateEffects.{requested}
 use Rattle.desk.specs.declared.Desk.{Desk}
 use Rattle.call_theorems.proofs.Back.{fit-ready}
 use Rattle.worked.specs.Desk.{settings}
+use Rattle.worked.specs.Worked.{salesApproved}
 use Rattle.worked.proofs.Approvals.{asked}
 
 -- the terminal after n approved sales
@@ -35,7 +36,7 @@ at n =
       batch = record { 0 = 1 };
       next = record { 0 = suc n };
       entries = n;
-      counts = record { sent = n; approved = n; declined = 0; reversed = 0; «given_up» = 0; unanswered = 0 };
+      counts = salesApproved n;
       phase = Resting;
     }
 

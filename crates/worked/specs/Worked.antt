@@ -14,6 +14,7 @@ use Rattle.message.specs.Message.{largest}
 use Rattle.message.specs.Build.{Item, messageOf}
 use Rattle.message.specs.declared.Message.{Message}
 use Rattle.writing.specs.Writing.{writeMessage}
+use Rattle.state.specs.declared.Counts.{Counts}
 use Rattle.state.specs.declared.Request.{Request}
 use Rattle.state.specs.declared.Outcome.the-variants.{Send, Refused}
 use Rattle.state.specs.declared.Phase.the-variants.{Resting, Pending}
@@ -106,6 +107,14 @@ sales (suc n) r = run (sale 9999999999 ∷ approval 22 9999999999 (suc n) ∷ []
 abbrev pub hundred : Result
 hundred = sales 100 (opened 300)
 
+-- the counts after n approved sales
+abbrev pub salesApproved : ℕ → Counts
+salesApproved n = record { sent = n; approved = n; declined = 0; reversed = 0; «given_up» = 0; unanswered = 0 }
+
+-- sent 3, approved 2, reversed 1
+abbrev pub countsF : Counts
+countsF = record { sent = 3; approved = 2; declined = 0; reversed = 1; «given_up» = 0; unanswered = 0 }
+
 pub record Worked : Type 0 where
   -- sendings L, default 3; largest refund, default 100,000 fen
   pub defaults : usual 1 (replicate 8 0x31) (replicate 15 0x32) ≡ settings 1
@@ -127,7 +136,7 @@ pub record Worked : Type 0 where
   -- *f sale 12,000 approved, sale 8,000 silent, reversal answered 25, first sale voided:
   -- debit 12,000/1, credit 12,000/1; sent 3, approved 2, reversed 1
   pub f : totals afterF ≡ record { debit = 12000; debits = 1; credit = 12000; credits = 1 }
-  pub f-counts : afterF .state .counts ≡ record { sent = 3; approved = 2; declined = 0; reversed = 1; «given_up» = 0; unanswered = 0 }
+  pub f-counts : afterF .state .counts ≡ countsF
   -- and so the settlement says
   pub f-settles : run (settles ∷ []) afterF .outcome ≡ Send 80
   pub f-debit : partOf (settlementOf afterF) part.DebitAmount ≡ Is 12000
