@@ -24,7 +24,7 @@ use Rattle.state.specs.declared.Phase.the-variants.{Resting, Waiting, Pending, 
 use Rattle.state.specs.declared.Counts.{Counts}
 use Rattle.state.specs.declared.State.{State}
 use Rattle.state.specs.declared.Count.the-variants.{Declined, Reversed, GivenUp, Unanswered}
-use Rattle.state.specs.State.{plus, counted, inPhase, withCounts, withNext, inBatch, signed, closed}
+use Rattle.state.specs.State.{endedIn, plus, counted, inPhase, withCounts, withNext, inBatch, signed, closed}
 use Rattle.state.specs.Calls.{Lent}
 use Rattle.rules.specs.Rules.{inUpload, awaitedItem, phaseKept, due}
 use Rattle.state_rules.specs.StateRules.{requestInForm, reversalInForm, phaseInForm, waiting}
@@ -37,7 +37,7 @@ pub record Moves (p : Phase) (c : Counts) (s : State) (es : List Entry) : Type 0
   pub sent-same : c .sent ≡ s .counts .sent
   pub approved-same : c .approved ≡ s .counts .approved
   pub phase-form : phaseInForm p ≡ true
-  pub balance : c .sent ≡ c .approved + c .declined + c .reversed + c .«given_up» + c .unanswered + waiting p
+  pub balance : c .sent ≡ endedIn c + waiting p
   pub journal : JournalHolds (s .settings .sendings) (due p) (inUpload p) (awaitedItem p) es
   pub phase-kept : phaseKept (s .settings) (s .entries) es p ≡ true
 

@@ -1,8 +1,8 @@
 -- The terminal's counts and the journal's totals against those of the requests, as one request is sent, waits on or ends.
 use mathlib.Core.Path.{_≡_, refl, sym, ap, _∙_}
 use mathlib.Core.List.{List, [], _∷_}
-use mathlib.Core.Bool.{true, false}
-use Prim.Native.Nat.{ℕ}
+use mathlib.Core.Bool.{true, false, cond}
+use Prim.Native.Nat.{ℕ, _+_}
 use native.Mathlib.Nat.{zero-add, add-comm}
 use native.Mathlib.Numerals.{add-one, one-add}
 use native.Mathlib.Omega.{arith}
@@ -19,7 +19,7 @@ use Rattle.state.specs.State.{noCounts, plus}
 use Rattle.call_definitions.specs.Events.{Event}
 use Rattle.history.specs.Words.{kindIn, isDebit, isCredit}
 use Rattle.history.specs.History.{Ending, approved, declined, reversed, given-up, unanswered, Fate, deciding, pending, out, ended, Request, asked, becomes, approvedFor, count, amount, endedAs, isWaiting, approvedDebit, approvedCredit}
-use Rattle.history.specs.Demand.{countsOf}
+use Rattle.history.specs.Demand.{countsOf, waiting, Balanced}
 
 -- the totals of the approved requests
 abbrev pub requestSums : List Request → Totals
@@ -120,3 +120,20 @@ module _ (c : Counts) (t : Totals) (rs : List Request) where
     pub one-approved : (n : Entry) (x : ℕ) → n .kind ≡ kindIn (r .message) → n .amount ≡ x
         → Books (plus Approved c) (withEntry t n) (approvedFor x r ∷ rs)
     one-approved n x k e = rw (sym e) (record { counted = counted-ended approved; summed = summed-more n k })
+
+-- each request has one fate
+one-fate : (f : Fate)
+    → cond (endedAs approved f) 1 0 + cond (endedAs declined f) 1 0 + cond (endedAs reversed f) 1 0 + cond (endedAs given-up f) 1 0
+    + cond (endedAs unanswered f) 1 0 + cond (isWaiting f) 1 0 ≡ 1
+one-fate deciding = refl
+one-fate pending = refl
+one-fate (out v) = refl
+one-fate (ended approved) = refl
+one-fate (ended declined) = refl
+one-fate (ended reversed) = refl
+one-fate (ended given-up) = refl
+one-fate (ended unanswered) = refl
+
+pub balanced : (rs : List Request) → Balanced (countsOf rs) (waiting rs)
+balanced [] = refl
+balanced (r ∷ rs) = omega (arith, one-fate (r .fate), balanced rs)

@@ -1,11 +1,10 @@
--- Laws of the card requests of a batch: what has ended changes no more; each has one fate.
+-- Laws of the card requests of a batch: what has ended changes no more.
 use mathlib.Core.Path.{_≡_, refl}
 use mathlib.Core.List.{List, [], _∷_}
-use mathlib.Core.Bool.{Bool, false, cond, true≢false}
-use Prim.Native.Nat.{ℕ, _+_, _≤_}
-use native.Mathlib.Omega.{arith}
-use Rattle.history.specs.History.{approved, declined, reversed, given-up, unanswered, Fate, deciding, pending, out, ended, Request, whenSilent, whenHeard, byFate, endedAs, isWaiting, inReversal}
-use Rattle.history.specs.Demand.{EachRequest, countsOf, waiting, inReversals, Balanced}
+use mathlib.Core.Bool.{Bool, false, true≢false}
+use Prim.Native.Nat.{ℕ, _≤_}
+use Rattle.history.specs.History.{Fate, deciding, pending, out, ended, Request, whenSilent, whenHeard, byFate, isWaiting, inReversal}
+use Rattle.history.specs.Demand.{EachRequest, waiting, inReversals}
 
 -- a request that has ended, its reversal having been sent at most l times
 pub record Done (l : ℕ) (r : Request) : Type 0 where
@@ -60,20 +59,3 @@ none-reversing l (r ∷ rs) d = rw (not-reversing (r .fate) (d .0 .has-ended), n
 pub all-few : (l : ℕ) (rs : List Request) → AllDone l rs → EachRequest (λ q. q .sendings ≤ l) rs
 all-few l [] d = tt
 all-few l (r ∷ rs) d = (d .0 .few, all-few l rs (d .1))
-
--- each request has one fate
-one-fate : (f : Fate)
-    → cond (endedAs approved f) 1 0 + cond (endedAs declined f) 1 0 + cond (endedAs reversed f) 1 0 + cond (endedAs given-up f) 1 0
-    + cond (endedAs unanswered f) 1 0 + cond (isWaiting f) 1 0 ≡ 1
-one-fate deciding = refl
-one-fate pending = refl
-one-fate (out v) = refl
-one-fate (ended approved) = refl
-one-fate (ended declined) = refl
-one-fate (ended reversed) = refl
-one-fate (ended given-up) = refl
-one-fate (ended unanswered) = refl
-
-pub balanced : (rs : List Request) → Balanced (countsOf rs) (waiting rs)
-balanced [] = refl
-balanced (r ∷ rs) = omega (arith, one-fate (r .fate), balanced rs)

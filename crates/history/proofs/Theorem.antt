@@ -11,7 +11,7 @@ use Rattle.call_definitions.specs.Shapes.{SettingsShaped, EventShaped}
 use Rattle.history.specs.Words.{messageIn, isRequest, isReversal, isSettlement}
 use Rattle.history.specs.History.{Given, History, Request, Account, account, batchOf}
 use Rattle.history.specs.Demand.{Invocation, Run, recorded, runs, begun, InvocationsShaped, Each, EachSent, EachRequest, inReversals, Carries, Demand3For, Demand3}
-use Rattle.history.proofs.Requests.{balanced}
+use Rattle.history.proofs.Books.{balanced}
 use Rattle.history.proofs.Books.{no-books}
 use Rattle.history.proofs.Tied.{Tied, bounded}
 use Rattle.history.proofs.After.{LawfulMessage, Lawful}

@@ -26,6 +26,10 @@ countsOf s a d r g u = record { sent = s; approved = a; declined = d; reversed =
 abbrev pub noCounts : Counts
 noCounts = countsOf 0 0 0 0 0 0
 
+-- the card requests that have ended
+abbrev pub endedIn : Counts → ℕ
+endedIn c = c .approved + c .declined + c .reversed + c .«given_up» + c .unanswered
+
 -- one card request more
 abbrev pub plus : Count → Counts → Counts
 plus Sent c = countsOf (c .sent + 1) (c .approved) (c .declined) (c .reversed) (c .«given_up») (c .unanswered)

@@ -17,7 +17,7 @@ use Rattle.state.specs.declared.Request.{Request}
 use Rattle.state.specs.declared.Reversal.{Reversal}
 use Rattle.state.specs.declared.Settings.{Settings}
 use Rattle.state.specs.declared.State.{State}
-use Rattle.state.specs.State.{CountsBounded}
+use Rattle.state.specs.State.{CountsBounded, endedIn}
 use Rattle.state_rules.specs.StateRules.{settingsInForm, isCard, requestInForm, reversalInForm, phaseInForm, stateInForm, waiting, balanced, allOf, stateClauses, stateKept}
 
 -- settings in their ranges
@@ -113,7 +113,7 @@ pub record StateHolds (s : State) : Type 0 where
   pub sent-most : s .counts .sent ≤ mostRequests
   pub phase-form : phaseInForm (s .phase) ≡ true
   pub few : s .entries ≤ s .settings .limit
-  pub balance : s .counts .sent ≡ s .counts .approved + s .counts .declined + s .counts .reversed + s .counts .«given_up» + s .counts .unanswered + waiting (s .phase)
+  pub balance : s .counts .sent ≡ endedIn (s .counts) + waiting (s .phase)
   pub approvals : s .counts .approved ≡ s .entries
 
 -- the tests of a list, all true
@@ -135,7 +135,7 @@ state-holds s e =
     let r = and-eq-true-iff (within 1 (s .batch .0) lastNumber) (within 1 (s .next .0) lastNumber) .0 (q .0) in
     let b = within-bounds 1 (s .batch .0) lastNumber (r .0) in
     let n = within-bounds 1 (s .next .0) lastNumber (r .1) in
-    let whole = c .approved + c .declined + c .reversed + c .«given_up» + c .unanswered + waiting (s .phase) in
+    let whole = endedIn c + waiting (s .phase) in
     let u = and-eq-true-iff (eqb (c .sent) whole) (eqb (c .approved) (s .entries)) .0 (a .1 .1 .1 .0) in
     record {
       settings = settings-hold (s .settings) (a .0);

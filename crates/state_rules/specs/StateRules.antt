@@ -10,6 +10,7 @@ use Rattle.kinds.specs.Kinds.{isKind, sideOf, takesOriginal, isNeverReversed}
 use Rattle.kinds.specs.declared.Side.{Side}
 use Rattle.kinds.specs.declared.Side.the-variants.{Debit, Credit, Neither}
 use Rattle.kinds.specs.declared.Totals.{Totals}
+use Rattle.state.specs.State.{endedIn}
 use Rattle.state.specs.declared.Card.{Card}
 use Rattle.state.specs.declared.Request.{Request}
 use Rattle.state.specs.declared.Reversal.{Reversal}
@@ -88,7 +89,7 @@ waiting Uploading = 0
 -- the sum in demand 3, and approved is the number of entries
 unfoldable pub balanced : Counts → ℕ → ℕ → Bool
 balanced c undecided n =
-    eqb (c .sent) (c .approved + c .declined + c .reversed + c .«given_up» + c .unanswered + undecided)
+    eqb (c .sent) (endedIn c + undecided)
     && eqb (c .approved) n
 
 abbrev pub allOf : List Bool → Bool

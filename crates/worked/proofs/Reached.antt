@@ -16,11 +16,7 @@ reached =
       uploading = refl;
       item-out = refl;
       end-out = refl;
-      approved = refl;
-      declined = refl;
-      reversed = refl;
-      given-up = refl;
-      unanswered = refl;
+      endings = refl;
       closed = refl;
       closed-after-upload = refl;
     }

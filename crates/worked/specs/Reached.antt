@@ -67,12 +67,15 @@ pub record Reached : Type 0 where
   pub uploading : stageAfter unbalanced ≡ uploads-on
   pub item-out : stageAfter (unbalanced ++ (send-next-upload ∷ [])) ≡ waits-for-item
   pub end-out : stageAfter (unbalanced ++ (send-next-upload ∷ toUpload 1 0x30 0x30 ∷ send-next-upload ∷ [])) ≡ waits-for-end
-  -- each ending of a request
-  pub approved : after (sale 100 ∷ approval 22 100 1 ∷ []) .counts .approved ≡ 1
-  pub declined : after (sale 100 ∷ reply 0x0210 22 1 0x30 0x35 [] ∷ []) .counts .declined ≡ 1
-  pub reversed : after (sale 100 ∷ no-answer ∷ send-reversal ∷ toReversal 1 0x32 0x35 ∷ []) .counts .reversed ≡ 1
-  pub given-up : after (sale 100 ∷ no-answer ∷ send-reversal ∷ no-answer ∷ send-reversal ∷ no-answer ∷ send-reversal ∷ no-answer ∷ []) .counts .«given_up» ≡ 1
-  pub unanswered : after (keyed 25 100 0 ∷ no-answer ∷ []) .counts .unanswered ≡ 1
+  -- each ending of a request, by a course of events in which it is counted once
+  pub endings :
+      after (sale 100 ∷ approval 22 100 1 ∷ []) .counts .approved
+      ∷ after (sale 100 ∷ reply 0x0210 22 1 0x30 0x35 [] ∷ []) .counts .declined
+      ∷ after (sale 100 ∷ no-answer ∷ send-reversal ∷ toReversal 1 0x32 0x35 ∷ []) .counts .reversed
+      ∷ after (sale 100 ∷ no-answer ∷ send-reversal ∷ no-answer ∷ send-reversal ∷ no-answer ∷ send-reversal ∷ no-answer ∷ []) .counts .«given_up»
+      ∷ after (keyed 25 100 0 ∷ no-answer ∷ []) .counts .unanswered
+      ∷ []
+      ≡ 1 ∷ 1 ∷ 1 ∷ 1 ∷ 1 ∷ []
   -- both closings
   pub closed : after (sale 100 ∷ approval 22 100 1 ∷ settles ∷ reconciled 2 1 ∷ []) .batch .0 ≡ 2
   pub closed-after-upload : after (unbalanced ++ (send-next-upload ∷ toUpload 1 0x30 0x30 ∷ send-next-upload ∷ toUpload 3 0x30 0x30 ∷ [])) .batch .0 ≡ 2
