@@ -6,3 +6,4 @@ pub mod Starts
 pub mod Sales
 pub mod Worked
 pub mod Reached
+pub mod ForC

@@ -1,3 +1,4 @@
 pub mod Desk
 pub mod Worked
 pub mod Reached
+pub mod ForC

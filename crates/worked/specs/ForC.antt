@@ -1,0 +1,30 @@
+-- The functions for C on the worked cases: fields of the sale that leaves, and the totals and the batch after its approval.
+use mathlib.Core.Path.{_≡_}
+use mathlib.Core.List.{[], _∷_}
+use lib.ListN.{replicate}
+use Rattle.state.specs.Calls.{Result}
+use Rattle.call_definitions.specs.Events.{run, starts}
+use Rattle.image_definitions.specs.Image.{image}
+use Rattle.interface_definitions.specs.Interface.{deskOf, settingsOf, returned, held, fieldAt, numberAt, totalsOn}
+use Rattle.worked.specs.Desk.{settings, opened, sale, approval}
+use Rattle.worked.specs.Worked.{sent}
+
+-- a sale of 12,000 fen, approved
+abbrev pub sold : Result
+sold = run (sale 12000 ∷ approval 22 12000 1 ∷ []) (opened 1)
+
+pub record ForC : Type 0 where
+  -- what is keyed and what is set, in the order of C
+  pub keyed : starts (deskOf 22 12000 6222021234567894 16 0 11 15 (replicate 6 0x33) (replicate 12 0x34)) ≡ sale 12000
+  pub set : settingsOf 300 3 100000 (replicate 8 0x31) (replicate 15 0x32) ≡ settings 300
+  -- field 4 has 12 digits in six bytes, and bytes past them stay
+  pub amount : fieldAt sent 4 (held 0 (replicate 8 0xEE)) ≡ returned 0 (held 12 (0 ∷ 0 ∷ 0 ∷ 1 ∷ 0x20 ∷ 0 ∷ 0xEE ∷ 0xEE ∷ []))
+  -- just enough room; one byte less is too short
+  pub fits : fieldAt sent 4 (held 7 (replicate 6 0xEE)) ≡ returned 0 (held 12 (0 ∷ 0 ∷ 0 ∷ 1 ∷ 0x20 ∷ 0 ∷ []))
+  pub short : fieldAt sent 4 (held 7 (replicate 5 0xEE)) ≡ returned 1 (held 7 (replicate 5 0xEE))
+  -- a sale holds no field 39
+  pub not-held : fieldAt sent 39 (held 7 (replicate 2 0xEE)) ≡ returned 254 (held 7 (replicate 2 0xEE))
+  -- debit 12,000 in 1, credit 0 in 0
+  pub totals : totalsOn (image (sold .state)) (sold .lent .journal) [] ≡ returned 0 (12000 ∷ 1 ∷ 0 ∷ 0 ∷ [])
+  -- one request approved, by its row
+  pub approved : numberAt (image (sold .state)) 12 7 ≡ returned 0 1
