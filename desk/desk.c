@@ -3,9 +3,10 @@
 #include "desk.h"
 
 #include <inttypes.h>
-#include <stdlib.h>
+#include <stdio.h>
 #include <string.h>
 
+#include "input.h"
 #include "key_pad.h"
 #include "trial.h"
 #include "trouble.h"
@@ -18,16 +19,17 @@ enum { ENDS_MOST = 5, WORDS_MOST = 8, SECOND = 1000 };
 struct card_command {
     uint8_t kind;
     const char *data;   /* a amount, c card, t trace, u authorisation, r reference, d date */
+    bool takes_chip;    /* `chip` and field 55 may follow */
 };
 
 static const struct card_command card_commands[] = {
-    {WHISTLAUREL_SALE, "ac"},
-    {WHISTLAUREL_SALE_VOID, "t"},
-    {WHISTLAUREL_REFUND, "acrd"},
-    {WHISTLAUREL_AUTHORISATION, "ac"},
-    {WHISTLAUREL_AUTHORISATION_VOID, "acud"},
-    {WHISTLAUREL_COMPLETION, "acud"},
-    {WHISTLAUREL_COMPLETION_VOID, "t"},
+    {WHISTLAUREL_SALE, "ac", true},
+    {WHISTLAUREL_SALE_VOID, "t", false},
+    {WHISTLAUREL_REFUND, "acrd", false},
+    {WHISTLAUREL_AUTHORISATION, "ac", true},
+    {WHISTLAUREL_AUTHORISATION_VOID, "acud", false},
+    {WHISTLAUREL_COMPLETION, "acud", false},
+    {WHISTLAUREL_COMPLETION_VOID, "t", false},
 };
 
 /* A command without data. */
@@ -36,6 +38,8 @@ struct plain_command {
     void (*run)(struct desk *desk);
 };
 
+static void card_agrees(struct desk *desk);
+static void card_declines(struct desk *desk);
 static void settle(struct desk *desk);
 static void tell_counts(struct desk *desk);
 static void tell_totals(struct desk *desk);
@@ -45,8 +49,9 @@ static void tell_doubtful(struct desk *desk);
 static void tell_help(struct desk *desk);
 
 static const struct plain_command plain_commands[] = {
-    {"settle", settle},         {"counts", tell_counts},     {"totals", tell_totals}, {"state", tell_state},
-    {"journal", tell_journal},  {"doubtful", tell_doubtful}, {"help", tell_help},
+    {"card-agrees", card_agrees}, {"card-declines", card_declines}, {"settle", settle},
+    {"counts", tell_counts},      {"totals", tell_totals},          {"state", tell_state},
+    {"journal", tell_journal},    {"doubtful", tell_doubtful},      {"help", tell_help},
 };
 
 enum { CARD_COMMANDS = sizeof card_commands / sizeof card_commands[0], PLAIN_COMMANDS = sizeof plain_commands / sizeof plain_commands[0] };
@@ -54,13 +59,18 @@ enum { CARD_COMMANDS = sizeof card_commands / sizeof card_commands[0], PLAIN_COM
 static uint64_t number(const struct desk *desk, enum whistlaurel_row row);
 static uint8_t exchange(struct desk *desk, const struct call *call);
 static bool receive(struct desk *desk, uint8_t *bytes, size_t *size, int64_t deadline);
+static bool card_is_awaited(const struct desk *desk);
+static void end_by_card(struct desk *desk, enum call_name name);
+static bool next_line(struct desk *desk, struct input *input, char **line, size_t *length);
+static int64_t next_second(int64_t now, int64_t deadline);
+static void tell_waiting(const char *whom, int64_t deadline);
 static void sign_on(struct desk *desk, uint32_t batch);
 static void send_reversals(struct desk *desk);
 static void upload(struct desk *desk);
 static size_t split(char *line, char *words[WORDS_MOST]);
 static void carry_out(struct desk *desk, char *words[WORDS_MOST], size_t count);
 static void request(struct desk *desk, const struct card_command *command, char *words[WORDS_MOST], size_t count);
-static const char *read_keyed(const struct card_command *command, char *words[WORDS_MOST], struct keyed *keyed);
+static const char *read_keyed(const struct card_command *command, char *words[WORDS_MOST], size_t count, struct keyed *keyed);
 static const char *read_datum(char letter, const char *word, struct keyed *keyed);
 static const char *read_card(const char *word, struct keyed *keyed);
 static const char *read_date(const char *word, struct keyed *keyed);
@@ -90,17 +100,17 @@ void desk_begin(struct desk *desk, uint32_t batch)
     printf("ready, batch %06" PRIu64 "\n", number(desk, WHISTLAUREL_BATCH));
 }
 
-void desk_run(struct desk *desk, FILE *input)
+void desk_run(struct desk *desk, int file)
 {
-    char *line = NULL;
-    size_t size = 0;
-    ssize_t length;
+    struct input input = {.file = file};
+    char *line;
+    size_t length;
 
-    while (!ferror(stdout) && (length = getline(&line, &size, input)) >= 0) {
+    while (!ferror(stdout) && next_line(desk, &input, &line, &length)) {
         char *words[WORDS_MOST];
         size_t count;
 
-        if (strlen(line) != (size_t)length) {
+        if (strlen(line) != length) {
             printf("error: the line holds a zero byte\n");
             continue;
         }
@@ -112,7 +122,10 @@ void desk_run(struct desk *desk, FILE *input)
             carry_out(desk, words, count);
         }
     }
-    free(line);
+    input_close(&input);
+    if (!ferror(stdout) && card_is_awaited(desk)) {
+        end_by_card(desk, NO_ANSWER);
+    }
     if (ferror(stdout)) {
         end_with(STATUS_OUTPUT, "standard output cannot be written");
     }
@@ -161,17 +174,83 @@ static bool receive(struct desk *desk, uint8_t *bytes, size_t *size, int64_t dea
     int64_t now = line_clock();
 
     while (now < deadline) {
-        int64_t left = (deadline - now - 1) % SECOND + 1;
-
-        if (line_receive(&desk->line, bytes, size, now + left)) {
+        if (line_receive(&desk->line, bytes, size, next_second(now, deadline))) {
             return true;
         }
+        tell_waiting("the centre", deadline);
         now = line_clock();
-        if (now < deadline) {
-            fprintf(stderr, "waiting for the centre, at most %" PRId64 " s\n", (deadline - now + SECOND - 1) / SECOND);
-        }
     }
     return false;
+}
+
+/* The next moment at which whole seconds are left to a deadline. */
+static int64_t next_second(int64_t now, int64_t deadline)
+{
+    return now + (deadline - now - 1) % SECOND + 1;
+}
+
+static void tell_waiting(const char *whom, int64_t deadline)
+{
+    int64_t left = deadline - line_clock();
+
+    if (left > 0) {
+        fprintf(stderr, "waiting for %s, at most %" PRId64 " s\n", whom, (left + SECOND - 1) / SECOND);
+    }
+}
+
+static bool card_is_awaited(const struct desk *desk)
+{
+    return number(desk, WHISTLAUREL_CARD_AWAITED) == 1;
+}
+
+static void card_agrees(struct desk *desk)
+{
+    end_by_card(desk, CARD_AGREES);
+}
+
+static void card_declines(struct desk *desk)
+{
+    end_by_card(desk, CARD_DECLINES);
+}
+
+/* The card's word, or NO_ANSWER for its silence, ends a request, with its reversal where it needs one. */
+static void end_by_card(struct desk *desk, enum call_name name)
+{
+    const struct call word = {.name = name};
+    uint8_t result;
+
+    trial_point("before-call");
+    result = terminal_make(&desk->terminal, &word);
+    if (result != WHISTLAUREL_QUIET) {
+        tell_refusal(result);
+        return;
+    }
+    send_reversals(desk);
+    tell_request(&desk->terminal.last);
+    trial_point("after-told");
+}
+
+/* Waits for a line; false at the end of input. A card is silent where its time is out before. */
+static bool next_line(struct desk *desk, struct input *input, char **line, size_t *length)
+{
+    enum input_result result = INPUT_SILENT;
+
+    while (result == INPUT_SILENT && card_is_awaited(desk)) {
+        int64_t now = line_clock();
+
+        if (now >= desk->card_deadline) {
+            end_by_card(desk, NO_ANSWER);
+        } else {
+            result = input_line(input, line, length, next_second(now, desk->card_deadline));
+            if (result == INPUT_SILENT) {
+                tell_waiting("the card", desk->card_deadline);
+            }
+        }
+    }
+    if (result == INPUT_SILENT) {
+        result = input_line(input, line, length, INPUT_ANY_TIME);
+    }
+    return result == INPUT_LINE;
 }
 
 static void sign_on(struct desk *desk, uint32_t batch)
@@ -284,16 +363,13 @@ static void carry_out(struct desk *desk, char *words[WORDS_MOST], size_t count)
     printf("error: no such command; help lists them\n");
 }
 
-/* A card request, with its reversal where it needs one. */
+/* A card request, with its reversal where it needs one; with a chip that the centre approves, up to the wait for the card. */
 static void request(struct desk *desk, const struct card_command *command, char *words[WORDS_MOST], size_t count)
 {
     struct call start = {.name = START};
-    const char *error = "wrong number of words; help lists them";
+    const char *error = read_keyed(command, words, count, &start.keyed);
     uint8_t result;
 
-    if (count == 1 + strlen(command->data)) {
-        error = read_keyed(command, words, &start.keyed);
-    }
     if (error != NULL) {
         printf("error: %s\n", error);
         return;
@@ -303,19 +379,32 @@ static void request(struct desk *desk, const struct card_command *command, char 
         tell_refusal(result);
         return;
     }
-    send_reversals(desk);
-    tell_request(&desk->terminal.last);
+    if (card_is_awaited(desk)) {
+        desk->card_deadline = line_clock() + desk->card_time_out;
+        tell_card_awaited(&desk->terminal.last);
+    } else {
+        send_reversals(desk);
+        tell_request(&desk->terminal.last);
+    }
     trial_point("after-told");
 }
 
 /* Reads what is keyed after a command's word; gives back what is wrong, or NULL. */
-static const char *read_keyed(const struct card_command *command, char *words[WORDS_MOST], struct keyed *keyed)
+static const char *read_keyed(const struct card_command *command, char *words[WORDS_MOST], size_t count, struct keyed *keyed)
 {
+    size_t data = strlen(command->data);
     const char *error = NULL;
 
     keyed->kind = command->kind;
-    for (size_t i = 0; error == NULL && command->data[i] != '\0'; i++) {
+    keyed->has_chip = command->takes_chip && count == 3 + data && strcmp(words[1 + data], "chip") == 0;
+    if (count != 1 + data && !keyed->has_chip) {
+        return "wrong number of words; help lists them";
+    }
+    for (size_t i = 0; error == NULL && i < data; i++) {
         error = read_datum(command->data[i], words[1 + i], keyed);
+    }
+    if (error == NULL && keyed->has_chip && !read_bytes(words[2 + data], keyed->chip, sizeof keyed->chip, &keyed->chip_size)) {
+        error = "the chip's data are hexadecimal, at most 300 bytes";
     }
     return error;
 }
@@ -399,7 +488,7 @@ static void tell_state(struct desk *desk)
 {
     printf("state batch %06" PRIu64 " next-trace %06" PRIu64 " %s entries %" PRIu64 " %s\n", number(desk, WHISTLAUREL_BATCH),
            number(desk, WHISTLAUREL_NEXT_TRACE), number(desk, WHISTLAUREL_IS_SIGNED_ON) == 1 ? "signed-on" : "signed-off",
-           number(desk, WHISTLAUREL_ENTRIES), phase_word(number(desk, WHISTLAUREL_PHASE)));
+           number(desk, WHISTLAUREL_ENTRIES), phase_word(number(desk, WHISTLAUREL_PHASE), card_is_awaited(desk)));
 }
 
 static void tell_journal(struct desk *desk)
@@ -426,13 +515,13 @@ static void tell_help(struct desk *desk)
         for (const char *letter = card_commands[i].data; *letter != '\0'; letter++) {
             printf(" %s", datum_word(*letter));
         }
-        printf("\n");
+        printf("%s\n", card_commands[i].takes_chip ? " [chip HEX]" : "");
     }
     for (size_t i = 0; i < PLAIN_COMMANDS; i++) {
         printf("%s\n", plain_commands[i].word);
     }
     printf("quit\n");
-    printf("# amounts are in fen; in an authorisation or a reference _ stands for a space\n");
+    printf("# amounts are in fen; in an authorisation or a reference _ stands for a space; HEX is the chip's field 55\n");
 }
 
 static const char *datum_word(char letter)

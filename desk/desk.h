@@ -3,7 +3,6 @@
 #define DESK_DESK_H
 
 #include <stdint.h>
-#include <stdio.h>
 
 #include "line.h"
 #include "terminal.h"
@@ -11,8 +10,10 @@
 struct desk {
     struct terminal terminal;
     struct line line;
-    int64_t time_out;   /* milliseconds to wait for an answer */
-    uint64_t awaited;   /* the phase in which the last message was awaited */
+    int64_t time_out;        /* milliseconds to wait for an answer */
+    int64_t card_time_out;   /* milliseconds to wait for the card's word */
+    int64_t card_deadline;   /* until when it is awaited */
+    uint64_t awaited;        /* the phase in which the last message was awaited */
 };
 
 /*
@@ -21,7 +22,7 @@ struct desk {
  */
 void desk_begin(struct desk *desk, uint32_t batch);
 
-/* Carries out the commands until quit or the end of input. */
-void desk_run(struct desk *desk, FILE *input);
+/* Carries out the commands of a file until quit or its end. A card whose word is awaited then, or for too long, is silent. */
+void desk_run(struct desk *desk, int file);
 
 #endif

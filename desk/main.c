@@ -7,32 +7,40 @@
 #include <stdio.h>
 #include <stdlib.h>
 #include <string.h>
+#include <unistd.h>
 
 #include "desk.h"
 #include "trouble.h"
 #include "wording.h"
 
-enum option { STORE, CENTRE, BATCH, LIMIT, SENDINGS, REFUND, TERMINAL, MERCHANT, TIME_OUT, OPTIONS };
+enum option { STORE, CENTRE, BATCH, LIMIT, SENDINGS, REFUND, TERMINAL, MERCHANT, TIME_OUT, CARD_TIME_OUT, OPTIONS };
 
 static const char *const option_names[OPTIONS] = {
-    "--store", "--centre", "--batch", "--limit", "--sendings", "--refund", "--terminal", "--merchant", "--timeout",
+    "--store",    "--centre",   "--batch",   "--limit",        "--sendings", "--refund",
+    "--terminal", "--merchant", "--timeout", "--card-timeout",
 };
 
 static const char usage[] =
     "usage: desk --store FILE --centre HOST:PORT [--batch N] [--limit N] [--sendings N] [--refund FEN] [--terminal TEXT8] "
-    "[--merchant TEXT15] [--timeout SECONDS]";
+    "[--merchant TEXT15] [--timeout SECONDS] [--card-timeout SECONDS]";
 
 enum { TERMINAL_SIZE = 8, MERCHANT_SIZE = 15, BATCH_MOST = 999999, TIME_OUT_MOST = 3600 };
 
-/* The settings of a store that is made now. */
+/* The settings of a store that is made now, and the time-outs. */
 static const char *const defaults[OPTIONS] = {
-    [LIMIT] = "300", [SENDINGS] = "3", [REFUND] = "100000", [TERMINAL] = "LIB00001", [MERCHANT] = "WHISTLAUREL0001",
+    [LIMIT] = "300",
+    [SENDINGS] = "3",
+    [REFUND] = "100000",
+    [TERMINAL] = "LIB00001",
+    [MERCHANT] = "WHISTLAUREL0001",
+    [TIME_OUT] = "15",
+    [CARD_TIME_OUT] = "60",
 };
 
 static void read_options(int count, char *arguments[], const char *options[OPTIONS]);
 static uint64_t number_option(const char *const options[OPTIONS], enum option option, uint64_t most);
 static const char *text_option(const char *const options[OPTIONS], enum option option, size_t size);
-static int64_t time_option(const char *text);
+static int64_t time_option(const char *const options[OPTIONS], enum option option);
 static void check_settings(const char *const options[OPTIONS]);
 static void prepare_line(struct line *line, const char *centre);
 static void fresh_image(const char *const options[OPTIONS], uint8_t image[WHISTLAUREL_IMAGE_SIZE]);
@@ -51,7 +59,8 @@ int main(int count, char *arguments[])
     read_options(count, arguments, options);
     check_settings(options);
     batch = options[BATCH] == NULL ? 0 : number_option(options, BATCH, BATCH_MOST);
-    desk.time_out = time_option(options[TIME_OUT]);
+    desk.time_out = time_option(options, TIME_OUT);
+    desk.card_time_out = time_option(options, CARD_TIME_OUT);
     prepare_line(&desk.line, options[CENTRE]);
     store_open(&store, options[STORE]);
     desk.terminal.store = &store;
@@ -64,7 +73,7 @@ int main(int count, char *arguments[])
     store_load(&store, desk.terminal.image, desk.terminal.journal, &desk.terminal.last);
     compare_settings(options, &desk.terminal);
     desk_begin(&desk, (uint32_t)batch);
-    desk_run(&desk, stdin);
+    desk_run(&desk, STDIN_FILENO);
     store_close(&store);
     return EXIT_SUCCESS;
 }
@@ -119,13 +128,14 @@ static const char *text_option(const char *const options[OPTIONS], enum option o
 }
 
 /* Seconds with decimals as milliseconds. */
-static int64_t time_option(const char *text)
+static int64_t time_option(const char *const options[OPTIONS], enum option option)
 {
+    const char *text = options[option] == NULL ? defaults[option] : options[option];
     char *end = NULL;
-    double seconds = text == NULL ? 15 : strtod(text, &end);
+    double seconds = strtod(text, &end);
 
-    if (text != NULL && (end == text || *end != '\0' || !isfinite(seconds) || seconds < 0.001 || seconds > TIME_OUT_MOST)) {
-        end_with(STATUS_USAGE, "--timeout is a number of seconds from 0.001 to %d", TIME_OUT_MOST);
+    if (end == text || *end != '\0' || !isfinite(seconds) || seconds < 0.001 || seconds > TIME_OUT_MOST) {
+        end_with(STATUS_USAGE, "%s is a number of seconds from 0.001 to %d", option_names[option], TIME_OUT_MOST);
     }
     return (int64_t)(seconds * 1000);
 }

@@ -2,6 +2,7 @@
 #ifndef DESK_REQUEST_H
 #define DESK_REQUEST_H
 
+#include <stdbool.h>
 #include <stdint.h>
 
 enum ending { PENDING, APPROVED, DECLINED, REVERSED, GIVEN_UP, UNANSWERED };
@@ -13,6 +14,7 @@ struct request {
     uint32_t trace;
     uint64_t amount;         /* in fen */
     char card[20];           /* masked */
+    bool has_chip;
     char code[3];            /* of a decline */
     char reference[13];      /* of an approval */
     char authorisation[7];   /* of an approval */

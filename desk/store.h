@@ -2,7 +2,8 @@
  * The store: one SQLite file with image, journal, the last request and the requests in doubt. What belongs together is written in one
  * transaction. Any trouble ends the process with STATUS_STORE, so that nothing leaves that is not stored; what was stored last stands.
  *
- * Card numbers stand in image and journal: the file is readable by its owner alone, and has to be protected as the scheme's rules ask.
+ * Card numbers stand in image and journal, and a chip's field 55 in the image until its request has ended: the file is readable by its
+ * owner alone, and has to be protected as the scheme's rules ask.
  */
 #ifndef DESK_STORE_H
 #define DESK_STORE_H

@@ -21,6 +21,7 @@ static const struct {
     {WHISTLAUREL_GIVEN_UP, GIVEN_UP}, {WHISTLAUREL_UNANSWERED, UNANSWERED},
 };
 
+static bool is_decision(enum call_name name);
 static uint8_t make(struct terminal *terminal, const struct call *call);
 static uint8_t start(struct terminal *terminal, const struct keyed *keyed);
 static struct counts counts_of(const struct terminal *terminal);
@@ -34,7 +35,7 @@ static void note_end(struct terminal *terminal, const struct call *call, enum en
 uint8_t terminal_make(struct terminal *terminal, const struct call *call)
 {
     struct counts before = counts_of(terminal);
-    bool decides = call->name == ANSWER || call->name == NO_ANSWER;
+    bool decides = is_decision(call->name);
     uint8_t result;
     bool noted;
 
@@ -68,6 +69,11 @@ uint64_t terminal_number(const struct terminal *terminal, enum whistlaurel_row r
     return number;
 }
 
+static bool is_decision(enum call_name name)
+{
+    return name == ANSWER || name == NO_ANSWER || name == CARD_AGREES || name == CARD_DECLINES;
+}
+
 static uint8_t make(struct terminal *terminal, const struct call *call)
 {
     switch (call->name) {
@@ -81,6 +87,10 @@ static uint8_t make(struct terminal *terminal, const struct call *call)
         return whistlaurel_no_answer(LENT(terminal));
     case POWER_RETURNED:
         return whistlaurel_power_returned(LENT(terminal));
+    case CARD_AGREES:
+        return whistlaurel_card_agrees(LENT(terminal));
+    case CARD_DECLINES:
+        return whistlaurel_card_declines(LENT(terminal));
     case SEND_REVERSAL:
         return whistlaurel_send_reversal(LENT(terminal));
     case SETTLE:
@@ -94,7 +104,8 @@ static uint8_t make(struct terminal *terminal, const struct call *call)
 static uint8_t start(struct terminal *terminal, const struct keyed *keyed)
 {
     return whistlaurel_start(LENT(terminal), keyed->kind, keyed->amount, keyed->card_number, keyed->card_length, keyed->original,
-                             keyed->month, keyed->day, keyed->authorisation, keyed->reference);
+                             keyed->month, keyed->day, keyed->authorisation, keyed->reference, keyed->has_chip, keyed->chip,
+                             keyed->chip_size);
 }
 
 static struct counts counts_of(const struct terminal *terminal)
@@ -136,6 +147,7 @@ static void note_start(struct terminal *terminal)
     last->amount = terminal_number(terminal, WHISTLAUREL_REQUEST_AMOUNT);
     mask_card(terminal_number(terminal, WHISTLAUREL_REQUEST_CARD_NUMBER), terminal_number(terminal, WHISTLAUREL_REQUEST_CARD_LENGTH),
               last->card);
+    last->has_chip = terminal_number(terminal, WHISTLAUREL_CHIP_LENGTH) > 0;
 }
 
 /* The code of a decline stands in the answer, reference and authorisation of an approval in the newest entry. */

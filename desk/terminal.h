@@ -19,7 +19,21 @@ struct terminal {
     struct request last;   /* the last card request that left */
 };
 
-enum call_name { SIGNED_ON, START, ANSWER, NO_ANSWER, POWER_RETURNED, SEND_REVERSAL, SETTLE, SEND_NEXT_UPLOAD };
+enum call_name {
+    SIGNED_ON,
+    START,
+    ANSWER,
+    NO_ANSWER,
+    POWER_RETURNED,
+    CARD_AGREES,
+    CARD_DECLINES,
+    SEND_REVERSAL,
+    SETTLE,
+    SEND_NEXT_UPLOAD
+};
+
+/* The most bytes of a chip that can be keyed. The terminal takes WHISTLAUREL_MOST_CHIP_BYTES. */
+enum { KEYED_CHIP_MOST = 300 };
 
 /* What is keyed for a card request; zeros where a kind does not need it. */
 struct keyed {
@@ -32,6 +46,9 @@ struct keyed {
     uint8_t day;
     uint8_t authorisation[6];
     uint8_t reference[12];
+    bool has_chip;
+    uint8_t chip[KEYED_CHIP_MOST];   /* field 55 */
+    size_t chip_size;
 };
 
 /* A call with what it is handed: SIGNED_ON batch, START keyed, ANSWER bytes, size and mac_is_good. */

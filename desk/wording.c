@@ -22,6 +22,24 @@ bool read_number(const char *text, uint64_t *number)
     return true;
 }
 
+bool read_bytes(const char *text, uint8_t *bytes, size_t room, size_t *size)
+{
+    static const char digits[] = "0123456789abcdef0123456789ABCDEF";
+    size_t length = strcmp(text, "-") == 0 ? 0 : strlen(text);
+
+    if (length % 2 != 0 || length / 2 > room || strspn(text, digits) < length) {
+        return false;
+    }
+    for (size_t i = 0; i < length / 2; i++) {
+        size_t high = (size_t)(strchr(digits, text[2 * i]) - digits) % 16;
+        size_t low = (size_t)(strchr(digits, text[2 * i + 1]) - digits) % 16;
+
+        bytes[i] = (uint8_t)(16 * high + low);
+    }
+    *size = length / 2;
+    return true;
+}
+
 uint64_t packed_number(const uint8_t *packed, size_t digits)
 {
     uint64_t number = 0;
@@ -73,7 +91,7 @@ const char *kind_word(uint8_t kind)
     }
 }
 
-const char *phase_word(uint64_t phase)
+const char *phase_word(uint64_t phase, bool card_is_awaited)
 {
     static const char *const words[] = {
         [WHISTLAUREL_RESTING] = "resting",
@@ -87,7 +105,7 @@ const char *phase_word(uint64_t phase)
         [WHISTLAUREL_UPLOADING] = "uploading",
     };
 
-    return words[phase];
+    return card_is_awaited ? "card-awaited" : words[phase];
 }
 
 const char *refusal_words(uint8_t number)
@@ -103,7 +121,7 @@ const char *refusal_words(uint8_t number)
         [WHISTLAUREL_NOT_PRINTABLE] = "the message has a byte that is not printable",
         [WHISTLAUREL_BYTES_FOLLOW] = "bytes follow the message",
         [WHISTLAUREL_SIGNED_OFF] = "signed off",
-        [WHISTLAUREL_AWAITED] = "an answer is awaited",
+        [WHISTLAUREL_AWAITED] = "an answer or the card's word is awaited",
         [WHISTLAUREL_REVERSAL_PENDING] = "a reversal is pending",
         [WHISTLAUREL_BATCH_CLOSING] = "the batch is settling or uploading; settle first",
         [WHISTLAUREL_NOTHING_TO_DO] = "nothing is awaited, pending or to be uploaded",
@@ -115,6 +133,7 @@ const char *refusal_words(uint8_t number)
         [WHISTLAUREL_VOIDED_ALREADY] = "it is voided already",
         [WHISTLAUREL_TOTAL_TOO_LARGE] = "the total would pass 9999999999.99 yuan; settle first",
         [WHISTLAUREL_ANSWER_NOT_MATCHING] = "the answer does not match",
+        [WHISTLAUREL_CHIP_OUT_OF_FORM] = "the chip's data are out of form",
     };
 
     return number < sizeof words / sizeof words[0] && words[number] != NULL ? words[number] : "not known";
@@ -137,13 +156,20 @@ void tell_request(const struct request *request)
         printf("(%s) ", request->code);
     }
     tell_amount(request->amount);
-    printf(", card %s", request->card);
+    printf(", card %s%s", request->card, request->has_chip ? ", chip" : "");
     if (request->ending == APPROVED) {
         printf(", reference %s, authorisation %s", request->reference, request->authorisation);
     } else if (request->ending == GIVEN_UP || request->ending == UNANSWERED) {
         printf("; ask the centre");
     }
     printf("\n");
+}
+
+void tell_card_awaited(const struct request *request)
+{
+    printf("%s %06" PRIu32 ": the centre approves ", kind_word(request->kind), request->trace);
+    tell_amount(request->amount);
+    printf(", card %s, chip; card-agrees or card-declines\n", request->card);
 }
 
 void tell_entry(const uint8_t *entry)

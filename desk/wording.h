@@ -11,6 +11,9 @@
 /* Reads a text of 1 to 19 decimal digits. */
 bool read_number(const char *text, uint64_t *number);
 
+/* Reads a text of hexadecimal digits, two a byte, or `-` for no bytes. False where it is none, or of more bytes than there is room for. */
+bool read_bytes(const char *text, uint8_t *bytes, size_t room, size_t *size);
+
 /* The number that packed digits say, two a byte, from the first on; at most 19. */
 uint64_t packed_number(const uint8_t *packed, size_t digits);
 
@@ -23,7 +26,8 @@ void copy_centre_text(char *text, const uint8_t *bytes, size_t size);
 /* The word of a kind of card request, as it is keyed and told. */
 const char *kind_word(uint8_t kind);
 
-const char *phase_word(uint64_t phase);
+/* The word of a phase; the card's word is awaited or not. */
+const char *phase_word(uint64_t phase, bool card_is_awaited);
 
 /* What a refusal number means. */
 const char *refusal_words(uint8_t number);
@@ -31,6 +35,7 @@ const char *refusal_words(uint8_t number);
 /* These write to standard output. */
 void tell_amount(uint64_t fen);
 void tell_request(const struct request *request);
+void tell_card_awaited(const struct request *request);
 void tell_entry(const uint8_t *entry);
 
 #endif

@@ -29,14 +29,17 @@ extern "C" {
 #endif
 
 /* Bytes of an image, of a message buffer and of a journal entry. */
-#define WHISTLAUREL_IMAGE_SIZE 106
-#define WHISTLAUREL_MESSAGE_SIZE 248
+#define WHISTLAUREL_IMAGE_SIZE 383
+#define WHISTLAUREL_MESSAGE_SIZE 505
 #define WHISTLAUREL_ENTRY_SIZE 48
 
 /* The largest settings: entry limit, sendings of a reversal, largest refund in fen. The smallest of each is 1. */
 #define WHISTLAUREL_MOST_ENTRIES 300
 #define WHISTLAUREL_MOST_SENDINGS 9
 #define WHISTLAUREL_LARGEST_REFUND 9999999999
+
+/* The most bytes of field 55. */
+#define WHISTLAUREL_MOST_CHIP_BYTES 255
 
 /*
  * What a function returns. WHISTLAUREL_QUIET: done, and nothing is to be sent. WHISTLAUREL_SENDS: the first *length bytes of message are
@@ -55,10 +58,10 @@ enum whistlaurel_result {
     WHISTLAUREL_NOT_PRINTABLE = 8,
     WHISTLAUREL_BYTES_FOLLOW = 9,
     WHISTLAUREL_SIGNED_OFF = 10,
-    WHISTLAUREL_AWAITED = 11,              /* an answer is awaited */
+    WHISTLAUREL_AWAITED = 11,              /* an answer or the card's word is awaited */
     WHISTLAUREL_REVERSAL_PENDING = 12,
     WHISTLAUREL_BATCH_CLOSING = 13,        /* the batch is settling or uploading */
-    WHISTLAUREL_NOTHING_TO_DO = 14,        /* nothing is awaited, pending or to be uploaded */
+    WHISTLAUREL_NOTHING_TO_DO = 14,        /* nothing of the call's kind is awaited, pending or to be uploaded */
     WHISTLAUREL_AMOUNT = 15,
     WHISTLAUREL_DESK_OUT_OF_FORM = 16,     /* kind, card, month, day, desk text or batch number */
     WHISTLAUREL_REFUND_TOO_LARGE = 17,
@@ -67,6 +70,7 @@ enum whistlaurel_result {
     WHISTLAUREL_VOIDED_ALREADY = 20,
     WHISTLAUREL_TOTAL_TOO_LARGE = 21,
     WHISTLAUREL_ANSWER_NOT_MATCHING = 22,
+    WHISTLAUREL_CHIP_OUT_OF_FORM = 23,     /* field 55: an element that is cut off, a length that is not allowed, a tag twice */
     WHISTLAUREL_ABSENT = 254,              /* whistlaurel_field: the message does not hold the field */
     WHISTLAUREL_SENDS = 255
 };
@@ -82,7 +86,7 @@ enum whistlaurel_kind {
     WHISTLAUREL_REFUND = 25
 };
 
-/* The numbers that whistlaurel_number gives. Those after WHISTLAUREL_PHASE belong to the phase, and are 0 where it has none. */
+/* The numbers that whistlaurel_number gives. Those after WHISTLAUREL_PHASE belong to the phase, and are 0 where it has none of them. */
 enum whistlaurel_row {
     WHISTLAUREL_VERSION,                   /* of the image's format */
     WHISTLAUREL_ENTRY_LIMIT,
@@ -108,15 +112,17 @@ enum whistlaurel_row {
     WHISTLAUREL_REQUEST_CARD_LENGTH,
     WHISTLAUREL_REQUEST_TRACE,
     WHISTLAUREL_REQUEST_ORIGINAL,          /* trace of the entry that it voids */
-    WHISTLAUREL_REVERSAL_REASON,           /* 0 silence, 1 a bad MAC */
+    WHISTLAUREL_REVERSAL_REASON,           /* 0 silence, 1 a bad MAC, 2 the card has declined */
     WHISTLAUREL_REVERSAL_SENDINGS,         /* how often the reversal has left */
     WHISTLAUREL_OTHER,                     /* trace of a settlement or of an upload's end; place of an upload item */
+    WHISTLAUREL_CHIP_LENGTH,               /* bytes of field 55 of the request that is awaited or reversed, 0 without a chip */
+    WHISTLAUREL_CARD_AWAITED,              /* 1 where the centre has approved and the card's word is awaited, else 0 */
     WHISTLAUREL_ROWS
 };
 
 enum whistlaurel_phase {
     WHISTLAUREL_RESTING = 0,
-    WHISTLAUREL_REQUEST_AWAITED = 1,
+    WHISTLAUREL_REQUEST_AWAITED = 1,       /* the centre's answer or, where WHISTLAUREL_CARD_AWAITED is 1, the card's word */
     WHISTLAUREL_REVERSAL_AWAITED = 2,
     WHISTLAUREL_SETTLEMENT_AWAITED = 3,
     WHISTLAUREL_ITEM_AWAITED = 4,
@@ -164,23 +170,34 @@ uint8_t whistlaurel_signed_on(uint8_t *image, size_t image_size, uint8_t *journa
 
 /*
  * A card request leaves. card_number is the card's digits as a number and card_length how many they are; original is the trace of the
- * entry that a void is for. What a kind does not send is not judged: lend zeros.
+ * entry that a void is for. has_chip: the card is read by its chip, whose field 55 is the chip_size bytes at chip, 1 to
+ * WHISTLAUREL_MOST_CHIP_BYTES; a sale or a pre-authorisation sends it, and its approval is followed by the card's word. What a kind does
+ * not send is not judged: lend zeros, and for a chip false and any byte with size 0.
  */
 uint8_t whistlaurel_start(uint8_t *image, size_t image_size, uint8_t *journal, size_t journal_size, uint8_t *message, size_t message_size,
                           size_t *length, uint8_t kind, uint64_t amount, uint64_t card_number, uint8_t card_length, uint32_t original,
-                          uint8_t month, uint8_t day, const uint8_t authorisation[6], const uint8_t reference[12]);
+                          uint8_t month, uint8_t day, const uint8_t authorisation[6], const uint8_t reference[12], bool has_chip,
+                          const uint8_t *chip, size_t chip_size);
 
 /* The centre's bytes, and the key pad's word on their MAC. */
 uint8_t whistlaurel_answer(uint8_t *image, size_t image_size, uint8_t *journal, size_t journal_size, uint8_t *message, size_t message_size,
                            size_t *length, const uint8_t *bytes, size_t bytes_size, bool mac_is_good);
 
-/* The line has fallen silent: what is awaited counts as not answered. */
+/* The line or the card has fallen silent: what is awaited counts as not answered, and a card whose word is awaited as declining. */
 uint8_t whistlaurel_no_answer(uint8_t *image, size_t image_size, uint8_t *journal, size_t journal_size, uint8_t *message, size_t message_size,
                               size_t *length);
 
-/* Power has returned: what is awaited counts as not answered, and the terminal is signed off. */
+/* Power has returned: what is awaited counts as not answered, as above, and the terminal is signed off. */
 uint8_t whistlaurel_power_returned(uint8_t *image, size_t image_size, uint8_t *journal, size_t journal_size, uint8_t *message,
                                    size_t message_size, size_t *length);
+
+/* After the centre's approval of a request with a chip the card agrees: the request is approved, and its entry written. */
+uint8_t whistlaurel_card_agrees(uint8_t *image, size_t image_size, uint8_t *journal, size_t journal_size, uint8_t *message,
+                                size_t message_size, size_t *length);
+
+/* Instead the card declines: a reversal is pending. */
+uint8_t whistlaurel_card_declines(uint8_t *image, size_t image_size, uint8_t *journal, size_t journal_size, uint8_t *message,
+                                  size_t message_size, size_t *length);
 
 /* The pending reversal leaves. */
 uint8_t whistlaurel_send_reversal(uint8_t *image, size_t image_size, uint8_t *journal, size_t journal_size, uint8_t *message,
@@ -200,13 +217,13 @@ uint8_t whistlaurel_number(const uint8_t *image, size_t image_size, size_t row, 
 /* Sets totals to debit amount, debit count, credit amount and credit count of the journal's entries. Returns 0, or 2 for no image. */
 uint8_t whistlaurel_totals(const uint8_t *image, size_t image_size, const uint8_t *journal, size_t journal_size, uint64_t totals[4]);
 
-/* Whether bytes are a well-formed message: 0, or the number 3 to 9 by which they are refused. */
+/* Whether bytes are a well-formed message: 0, or the number 3 to 9 or 23 by which they are refused. */
 uint8_t whistlaurel_read(const uint8_t *bytes, size_t bytes_size);
 
 /*
  * Puts field n of a message to the front of out, as it stands on the wire without its length (digits packed two a byte), and sets *count to
- * its digits or bytes. Returns 0; 3 to 9 where the bytes are no message; WHISTLAUREL_ABSENT where it does not hold the field; 1 where out
- * is too short. Field 64 is the last eight bytes of a message that holds it.
+ * its digits or bytes. Returns 0; 3 to 9 or 23 where the bytes are no message; WHISTLAUREL_ABSENT where it does not hold the field; 1 where
+ * out is too short. Field 64 is the last eight bytes of a message that holds it.
  */
 uint8_t whistlaurel_field(const uint8_t *bytes, size_t bytes_size, uint8_t n, uint8_t *out, size_t out_size, size_t *count);
 

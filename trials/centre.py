@@ -265,13 +265,20 @@ class Centre:
             answer.update({13: entry.date, 37: entry.reference})
             if entry.authorisation:
                 answer[38] = entry.authorisation
+            if 55 in message and self.generator.random() < 0.5:
+                answer[55] = iso.element("91", self.generator.randbytes(10)) + iso.element("9F36", bytes(2))
         if fault == "unfit" and entry.is_held:
-            number = self.generator.choice((4, 13, 37))
-            if number == 4:
-                answer[4] = f"{int(answer[4]) + 1:012d}"
-            else:
-                del answer[number]
+            self._spoil(answer, self.generator.choice((4, 13, 37, 55)))
         return answer
+
+    def _spoil(self, answer, number):
+        """Makes an approval unfit: another amount, a field 55 out of form, or a field left out."""
+        if number == 4:
+            answer[4] = f"{int(answer[4]) + 1:012d}"
+        elif number == 55:
+            answer[55] = self.generator.choice((b"\x91", b"\x91\x0A\x00", iso.element("91", b"") * 2, b"\x9F\x36\x81\x02\x00\x00"))
+        else:
+            del answer[number]
 
     def _reversal_answer(self, message, fault):
         code = "96" if fault == "code 96, kept" else self.ledger.reverse(message)

@@ -1,6 +1,7 @@
-"""Compares what the desk says with what reached and left the centre, event by event, against document 01.
+"""Compares what the desk says with what reached and left the centre, event by event, against documents 01 and 02.
 
-The desk's word on a request is its result line. The centre's word is its ledger. A difference is a sentence that both cannot fulfil.
+The desk's word on a request is its result line, the centre's word its ledger, the card's word a command. A difference is a sentence that these
+cannot fulfil together.
 """
 
 import collections
@@ -13,11 +14,14 @@ from centre import CREDIT, DEBIT, following, part_of
 
 KINDS = {"authorise": "10", "authorise-void": "11", "complete": "20", "complete-void": "21", "sale": "22", "sale-void": "23", "refund": "25"}
 WORDS = {kind: word for word, kind in KINDS.items()}
+CHIP_KINDS = ("10", "22")
+CARD_WORDS = ("card-agrees", "card-declines")
 DOUBTFUL = ("given up", "unanswered")
 
 _WORD = "(" + "|".join(sorted(KINDS, key=len, reverse=True)) + ")"
 _YUAN = r"(\d+\.\d\d) yuan"
-RESULT = re.compile(rf"{_WORD} (\d{{6}}): (approved|declined|reversed|given up|unanswered)(?: \((..)\))? {_YUAN}, card (\d{{6}}\*+\d{{4}})(.*)")
+RESULT = re.compile(rf"{_WORD} (\d{{6}}): (approved|declined|reversed|given up|unanswered)(?: \((..)\))? {_YUAN}, card (\d{{6}}\*+\d{{4}})(, chip)?(.*)")
+ASKED = re.compile(rf"{_WORD} (\d{{6}}): the centre approves {_YUAN}, card (\d{{6}}\*+\d{{4}}), chip; card-agrees or card-declines")
 APPROVED_TAIL = re.compile(r", reference (.{12}), authorisation (.{6})")
 SETTLED = re.compile(rf"settled batch (\d{{6}}): debit {_YUAN} in (\d+), credit {_YUAN} in (\d+)")
 READY = re.compile(r"ready, batch (\d{6})")
@@ -29,7 +33,7 @@ JOURNAL_ENTRY = re.compile(rf"{_WORD} (\d{{6}}): {_YUAN}, card (\d{{6}}\*+\d{{4}
 JOURNAL_END = re.compile(r"journal (\d+) entries")
 DOUBTFUL_HEAD = re.compile(r"doubtful: (\d+)")
 REFUSED = re.compile(r"refused \((\d+)\): .+")
-PLAIN_CARD = re.compile(r"(?<!\d)\d{13,19}(?!\d)")
+PLAIN_CARD = re.compile(r"(?<!\d)\d{13,19}(?!\d)|[0-9A-Fa-f]{20,}")
 
 CARD_FIELDS = {0, 2, 3, 4, 11, 22, 25, 41, 42, 49, 60, 64}
 EXTRA_FIELDS = {"11": {38, 61}, "20": {38, 61}, "21": {37, 38, 61}, "23": {37, 38, 61}, "25": {37, 61}}
@@ -58,12 +62,18 @@ class Request:
         self.reversals = 0
         self.reversal_ended = False     # an answer that ends the reversal left
         self.is_held = False
+        self.is_asked = False           # the desk said that the centre approves and the card has the last word
+        self.card_word = None           # the card's word that was given then
         self.word = None
         self.line = None
 
     @property
     def kind(self):
         return iso.kind_of(self.message)
+
+    @property
+    def has_chip(self):
+        return 55 in (self.message or self.reversal or {})
 
 
 class Batch:
@@ -97,6 +107,9 @@ class Comparer:
         self.settle_asked = False       # in this batch
         self.losses = 0                 # kills and unread connections
         self.losses_before = 0          # the same, before the latest card command
+        self.asked = None               # the request whose card has the last word now
+        self.card_words = 0             # card's words given in this life and not refused
+        self.late_word = None           # trace of a request that ended otherwise than its card's word, given last
         self.listing = None             # lines of a journal or doubtful list under way
         self.listing_left = 0
         self.figures = collections.Counter()
@@ -133,9 +146,13 @@ class Comparer:
     def _take_started(self, _event):
         self.command = None
         self.listing = None
+        self.asked = self.late_word = None
+        self.card_words = 0
 
     def _take_killed(self, _event):
         self.figures["kills"] += 1
+        if self.asked:
+            self.figures["kills in the wait for a card"] += 1
         self._note_loss()
 
     def _take_ended(self, event):
@@ -154,8 +171,12 @@ class Comparer:
         self.listing = [] if self.command[0] in ("journal", "doubtful") else None
         if self.command[0] in KINDS:
             self.losses_before = self.losses
-        if self.command[0] == "settle":
+        if self.command[0] == "settle" and not self.asked:
             self.settle_asked = True
+        if self.command[0] in CARD_WORDS:
+            self.card_words += 1
+            if self.asked:
+                self.asked.card_word = self.asked.card_word or self.command[0]
 
     def _note_loss(self):
         self.losses += 1
@@ -187,7 +208,7 @@ class Comparer:
     def _note_card_answer(self, request, answer, mac_is_good):
         if answer[39] != "00":
             request.codes.add(answer[39])
-        elif answer[4] == request.message[4] and 13 in answer and 37 in answer:
+        elif answer[4] == request.message[4] and 13 in answer and 37 in answer and not iso.chip_fault(answer.get(55, b"")):
             if mac_is_good:
                 request.approval = answer
             else:
@@ -226,7 +247,9 @@ class Comparer:
             self._differ("request while settling", f"card request {trace} left after the settlement of its batch", trace)
         self._compare_with_command(message)
         if self._refusals():
-            self._differ("not refused", f"card request {trace} left, and the command breaks rule {min(self._refusals())}", trace)
+            self._differ("not refused", f"card request {trace} left, and the command breaks rule {self._refusals()[0]}", trace)
+        if 55 in message:
+            self.figures["chip requests"] += 1
         if trace not in self.requests:
             self.requests[trace] = Request(trace, self.batch, message)
         if iso.kind_of(message) in ("21", "23"):
@@ -310,7 +333,7 @@ class Comparer:
         if kind in ("21", "23"):
             given = {61: message[61][:6] + command[1].zfill(6) + message[61][12:]}
         else:
-            given = {4: command[1].zfill(12), 2: command[2]}
+            given = {4: command[1].zfill(12), 2: command[2], 55: keyed_chip(command)}
             given.update(zip({"25": (37, 61), "11": (38, 61), "20": (38, 61)}.get(kind, ()), command[3:]))
             if 61 in given:
                 given[61] = "0" * 12 + given[61]
@@ -343,6 +366,10 @@ class Comparer:
             self._differ("reversal", f"a refund is reversed: {request.trace}", request.trace)
         if message[39] == "A0" and not request.wrong_mac_left:
             self._differ("reversal", f"reason A0 for {request.trace}, and no approval with a wrong MAC had left", request.trace)
+        if message[39] == "06" and not (request.has_chip and request.approval):
+            self._differ("reason 06", f"reason 06 for {request.trace}, and no approval of a request with a chip had left", request.trace)
+        if message[39] != "06" and request.is_asked:
+            self._differ("reason 06", f"reason {message[39]} for {request.trace}, and the card had the last word", request.trace)
 
     def _compare_settlement(self, message):
         number, sums = iso.batch_of(message), message[48][:30]
@@ -387,12 +414,15 @@ class Comparer:
     def _take_line(self, event):
         text = event.text
         self._look_for_card(text)
+        if self.late_word and not text.startswith("refused (14)"):
+            self._differ("consent lost", f"the card agreed, and {self.late_word} ended otherwise", self.late_word)
+        self.late_word = None
         if text.startswith("last request: "):
             self._compare_last(text)
         if self.listing is not None:
             self._take_listed(text)
             return
-        for pattern, method in ((RESULT, self._take_result), (SETTLED, self._take_settled), (READY, self._take_ready),
+        for pattern, method in ((RESULT, self._take_result), (ASKED, self._take_asked), (SETTLED, self._take_settled), (READY, self._take_ready),
                                 (COUNTS, self._take_counts), (TOTALS, self._take_totals), (STATE, self._take_state),
                                 (REFUSED, self._take_refused)):
             match = pattern.fullmatch(text.removeprefix("last request: "))
@@ -407,7 +437,7 @@ class Comparer:
 
     def _look_for_card(self, text):
         if PLAIN_CARD.search(text):
-            self._differ("card shown", "a line shows a run of 13 to 19 digits")
+            self._differ("card shown", "a line shows a run of 13 to 19 digits, or a chip's data")
 
     def _compare_last(self, text):
         match = RESULT.fullmatch(text.removeprefix("last request: "))
@@ -415,8 +445,25 @@ class Comparer:
         if latest > (match.group(2) if match else "000000"):
             self._differ("last request", f"the latest request is {latest}, and the desk says {text!r}", latest)
 
+    def _take_asked(self, match):
+        """The centre approves, and the card has the last word."""
+        word_of_kind, trace, yuan, card = match.groups()
+        request = self.requests.setdefault(trace, Request(trace, self.batch))
+        self.figures["cards asked"] += 1
+        if not request.has_chip or request.approval is None:
+            self._differ("asked", f"the card of {trace} is asked, and no approval of a request with a chip left", trace)
+        if request.word or request.reversals or request.is_asked:
+            self._differ("asked", f"the card of {trace} is asked again, or after its reversal or end", trace)
+        if request.message and (word_of_kind, _fen(yuan), card) != self._as_told(request.message):
+            self._differ("result line", f"kind, amount or card of the line is not that of request {trace}: {match.group(0)}", trace)
+        request.is_asked = True
+        self.asked = request
+
+    def _as_told(self, message):
+        return WORDS[iso.kind_of(message)], int(message[4]), history.masked(message[2])
+
     def _take_result(self, match):
-        word_of_kind, trace, word, code, yuan, card, tail = match.groups()
+        word_of_kind, trace, word, code, yuan, card, chip, tail = match.groups()
         line = match.group(0)
         request = self.requests.setdefault(trace, Request(trace, self.batch))
         if request.line not in (None, line):
@@ -426,9 +473,22 @@ class Comparer:
         request.word, request.line = word, line
         self.figures[word] += 1
         known = request.message or request.reversal
-        if known and (word_of_kind != WORDS[iso.kind_of(known)] or _fen(yuan) != int(known[4]) or card != history.masked(known[2])):
-            self._differ("result line", f"kind, amount or card of the line is not that of request {trace}: {line}", trace)
+        if known and ((word_of_kind, _fen(yuan), card) != self._as_told(known) or bool(chip) != request.has_chip):
+            self._differ("result line", f"kind, amount, card or chip of the line is not that of request {trace}: {line}", trace)
         self._compare_result(request, word, code, tail)
+        self._compare_consent(request, word)
+
+    def _compare_consent(self, request, word):
+        """What a chip's card has agreed to is approved, and nothing else."""
+        if word == "approved" and request.has_chip and request.card_word != "card-agrees":
+            self._differ("consent", f"{request.trace} is called approved, and the card did not agree", request.trace)
+        if word == "declined" and request.is_asked:
+            self._differ("consent", f"{request.trace} is called declined, and the centre had approved it", request.trace)
+        if self.asked is request:
+            self.figures["cards agreed" if word == "approved" else "cards declined" if request.card_word else "cards silent"] += 1
+            self.asked = None
+            if word != "approved" and request.card_word == "card-agrees":
+                self.late_word = request.trace
 
     def _compare_result(self, request, word, code, tail):
         trace = request.trace
@@ -485,33 +545,46 @@ class Comparer:
 
     def _take_state(self, match):
         number, next_trace, signed, entries, phase = match.groups()
+        phases = ("card-awaited",) if self.asked else ("resting", "settling", "uploading")
         if (number != self.batch or int(next_trace) <= self.last_trace or int(entries) != len(self.entries()) or signed != "signed-on"
-                or phase not in ("resting", "settling", "uploading")):
+                or phase not in phases):
             self._differ("state", f"the desk says {match.group(0)!r}; batch {self.batch}, latest trace {self.last_trace}, "
                          f"{len(self.entries())} entries")
 
     def _take_refused(self, match):
         self.figures["refusals"] += 1
-        may_settle = {13} if self.settle_asked else set()
-        if int(match.group(1)) not in may_settle | {min(self._refusals(), default=0)}:
-            self._differ("refused", f"the command {self.command} breaks rules {sorted(self._refusals())}, and the desk says: {match.group(0)}")
+        number = int(match.group(1))
+        if number == 14:
+            self.card_words -= 1
+            if self.asked or self.card_words < 0:
+                self._differ("refused", f"a card's word is refused, and one is awaited or none was given: {match.group(0)}")
+            return
+        first = (self._refusals() or [0])[0]
+        if first != 23 and self.asked:
+            first = 11
+        if number != first and not (number == 13 and self.settle_asked and first not in (11, 23)):
+            command = history.shown(history.Command(" ".join(self.command or [])))
+            self._differ("refused", f"the {command} breaks rules {self._refusals()}, and the desk says: {match.group(0)}")
         if self.command_has_sent:
             self._differ("refused", f"a refused command had sent a message: {match.group(0)}")
 
     def _refusals(self):
-        """Numbers of the rules that the card command under way breaks, as far as a trial breaks any; 13 aside."""
+        """Numbers of the rules that the card command under way breaks, first checked first, as far as a trial breaks any; 11 to 14 aside."""
         word, *data = self.command or [""]
-        numbers = set()
+        numbers = []
+        chip = keyed_chip(self.command or [])
+        if chip is not None and (not 1 <= len(chip) <= 255 or iso.chip_fault(chip)):
+            numbers.append(23)
         if word == "refund" and int(data[0]) > self.refund:
-            numbers.add(17)
+            numbers.append(17)
         if word in KINDS and len(self.entries()) >= self.limit:
-            numbers.add(18)
+            numbers.append(18)
         if word in ("sale-void", "complete-void"):
             original = next((entry for entry in self.entries() if entry.trace == data[0].zfill(6)), None)
             if original is None or original.kind != {"sale-void": "22", "complete-void": "20"}[word]:
-                numbers.add(19)
+                numbers.append(19)
             elif original.trace in self.voided():
-                numbers.add(20)
+                numbers.append(20)
         return numbers
 
     def _take_listed(self, text):
@@ -589,8 +662,15 @@ class Comparer:
         self.differences.append(Difference(name, words, of_trace[-25:] + ["--- latest:"] + latest))
 
 
+def keyed_chip(command):
+    """The field 55 that a command's words hold, None for none."""
+    if command[3:4] != ["chip"]:
+        return None
+    return b"" if command[4] == "-" else bytes.fromhex(command[4])
+
+
 def faults_of_form(message, part, names):
-    """In which ways a message of the desk is not what document 01 says of such a message."""
+    """In which ways a message of the desk is not what the documents say of such a message."""
     if part in ("request", "reversal"):
         faults, wanted = _card_form(message, part)
     elif part == "settlement":
@@ -614,16 +694,19 @@ def _card_form(message, part):
     if kind not in WORDS:
         return [f"kind {kind} is not listed"], set(message)
     kind_type = "0100" if kind in ("10", "11") else "0220" if kind == "25" else "0200"
-    wanted = {3: "030000" if kind == "10" else "000000" if kind in DEBIT else "200000", 22: "012",
+    has_chip = 55 in message
+    wanted = {3: "030000" if kind == "10" else "000000" if kind in DEBIT else "200000", 22: "052" if has_chip else "012",
               25: "06" if kind in ("10", "11", "20", "21") else "00", 0: "0400" if part == "reversal" else kind_type}
     faults = [f"field {number} is {message.get(number)}" for number, value in wanted.items() if message.get(number) != value]
     if iso.code_of(message) != "000":
         faults.append(f"field 60 is {message[60]}")
-    if part == "reversal" and message.get(39) not in ("98", "A0"):
+    if part == "reversal" and message.get(39) not in ("98", "A0", "06"):
         faults.append(f"the reason is {message.get(39)}")
+    if has_chip and kind not in CHIP_KINDS:
+        faults.append(f"field 55 stands in kind {kind}")
     if part == "request" and kind in ("11", "20", "25") and message.get(61, "")[:12] != "0" * 12:
         faults.append("field 61 has a batch or a trace")
-    return faults, CARD_FIELDS | ({39} if part == "reversal" else EXTRA_FIELDS.get(kind, set()))
+    return faults, CARD_FIELDS | ({55} if has_chip else set()) | ({39} if part == "reversal" else EXTRA_FIELDS.get(kind, set()))
 
 
 def _fen(yuan):

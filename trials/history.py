@@ -72,7 +72,7 @@ def masked(card):
 
 
 def shown(event):
-    """An event as a line of text, card numbers masked."""
+    """An event as a line of text, card numbers masked and a chip's data left out."""
     name = type(event).__name__.lower()
     parts = [_shown(part) for part in event]
     return " ".join([name, *parts])
@@ -80,7 +80,17 @@ def shown(event):
 
 def _shown(part):
     if isinstance(part, dict):
-        fields = {number: masked(value) if number == 2 else value for number, value in sorted(part.items())}
-        return " ".join(f"{number}={value.hex() if isinstance(value, bytes) else value}" for number, value in fields.items())
+        return " ".join(f"{number}={_shown_field(number, value)}" for number, value in sorted(part.items()))
     words = str(part).split(" ")
+    if "chip" in words[:-1]:
+        place = words.index("chip") + 1
+        words[place] = f"({len(words[place])} characters)" if len(words[place]) > 20 else words[place]
     return " ".join(masked(word) if word.isdecimal() and 13 <= len(word) <= 19 else word for word in words)
+
+
+def _shown_field(number, value):
+    if number == 2:
+        return masked(value)
+    if number == 55:
+        return f"({len(value)} bytes)"
+    return value.hex() if isinstance(value, bytes) else value

@@ -1,4 +1,4 @@
-"""Messages of document 01 as bytes and as {number: value}, and how they stand on the line.
+"""Messages of documents 01 and 02 as bytes and as {number: value}, and how they stand on the line.
 
 A message is a dict: key 0 is its type, every other key the number of a field. Digits and printable text are str, other contents bytes.
 """
@@ -34,8 +34,8 @@ FIELDS = {
     12: _fixed("digits", 6), 13: _fixed("digits", 4), 14: _fixed("digits", 4), 15: _fixed("digits", 4),
     22: _fixed("digits", 3), 25: _fixed("digits", 2), 32: Field("digits", 1, 11, 1), 37: _fixed("text", 12),
     38: _fixed("text", 6), 39: _fixed("text", 2), 41: _fixed("text", 8), 42: _fixed("text", 15),
-    44: Field("bytes", 0, 25, 1), 48: Field("digits", 62, 62, 2), 49: _fixed("text", 3), 60: Field("digits", 11, 11, 2),
-    61: Field("digits", 16, 16, 2), 63: Field("bytes", 3, 63, 2), 64: _fixed("bytes", 8),
+    44: Field("bytes", 0, 25, 1), 48: Field("digits", 62, 62, 2), 49: _fixed("text", 3), 55: Field("bytes", 1, 255, 2),
+    60: Field("digits", 11, 11, 2), 61: Field("digits", 16, 16, 2), 63: Field("bytes", 3, 63, 2), 64: _fixed("bytes", 8),
 }
 
 
@@ -56,11 +56,31 @@ def read(data):
         message[number], place = _read_field(data, place, number)
     if place != len(data):
         raise MessageError(f"{len(data) - place} bytes follow the last field")
+    if 55 in message and chip_fault(message[55]):
+        raise MessageError(f"field 55: {chip_fault(message[55])}")
     return message
 
 
+def chip_fault(data):
+    """What is wrong with the elements of a field 55 (rule 23); "" where nothing is."""
+    rest, tags = bytes(data), []
+    while rest:
+        tag = rest[:2] if rest[0] % 32 == 31 else rest[:1]
+        length, value = _length_of_value(rest[len(tag):])
+        if length is None or length > len(value):
+            return "it ends inside an element, or a length is not allowed"
+        tags.append(tag)
+        rest = value[length:]
+    return "a tag stands twice" if len(set(tags)) < len(tags) else ""
+
+
+def element(tag, value):
+    """An element of field 55: a tag in hexadecimal, length and value."""
+    return bytes.fromhex(tag) + (b"\x81" if len(value) > 127 else b"") + bytes([len(value)]) + value
+
+
 def write(message):
-    """The bytes of a message."""
+    """The bytes of a message. The elements of field 55 are not looked at."""
     numbers = sorted(number for number in message if number)
     bitmap = sum(1 << (64 - number) for number in numbers)
     if message[0] not in TYPES:
@@ -116,6 +136,13 @@ def batch_of(message):
 def code_of(message):
     """60.3 of a message."""
     return message[60][8:]
+
+
+def _length_of_value(data):
+    """(length, bytes after it) of what stands after a tag: 00 to 7F, or 81 and 80 to FF; None for any other length."""
+    if data[:1] == b"\x81":
+        return (data[1], data[2:]) if data[1:2] >= b"\x80" else (None, b"")
+    return (data[0], data[1:]) if data and data[0] <= 0x7F else (None, b"")
 
 
 def _read_field(data, place, number):

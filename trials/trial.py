@@ -20,17 +20,26 @@ import time
 sys.dont_write_bytecode = True
 
 import history
+import iso
 import planted
 from centre import Centre
-from comparer import KINDS, Comparer
+from comparer import ASKED, KINDS, RESULT, Comparer
 
 POINTS = ("before-call", "before-store", "during-store", "after-store", "after-send", "after-answer", "before-answer-store",
           "after-answer-store", "after-told", "after-power")
+# The passages that fall about the card's word where the first command of a life is a sale with a chip.
+CARD_POINTS = ("before-call:2", "before-answer-store:2", "during-store:5", "after-answer-store:2", "after-told:1", "after-told:2")
+CARD_ROUNDS = 0.25          # of the rounds that end at a point
 ROUNDS_A_STORE = 25
 COMMANDS_A_ROUND = 14
 LINES = (0.3, 1, 1, 2.5)    # a good line, the usual one, a bad one: multiples of the share of faults
 HANGS_AFTER = 15.0
 MERCHANT = "WHISTLAUREL0001"
+CHIP_SHARE = 0.4            # of sales and pre-authorisations
+# What is given while the card's word is awaited; a void of a trace that never was leaves nothing, whenever it is read. () is silence.
+AGREES, DECLINES = ("card-agrees",), ("card-declines",)
+CARD_TURNS = (AGREES,) * 10 + (DECLINES,) * 4 + (("state", *AGREES), ("sale-void 999999", *AGREES), ("counts", *DECLINES),
+                                                ("sale-void 999999", *DECLINES), ("state",), ())
 
 
 class Hung(Exception):
@@ -172,7 +181,8 @@ class Store:
     def _round(self):
         """A life of the desk."""
         manner = self.generator.choices(("point", "random", "quit"), (60, 32, 8))[0]
-        point = self._point() if manner == "point" else ""
+        is_aimed = manner == "point" and not self.comparer.is_busy() and self.generator.random() < CARD_ROUNDS
+        point = self.generator.choice(CARD_POINTS) if is_aimed else self._point() if manner == "point" else ""
         kill_at = self._kill_time() if manner == "random" and self.generator.random() < 0.2 else None
         self.centre.faults = self.options.faults * self.generator.choice(LINES)
         self._start(point)
@@ -182,6 +192,8 @@ class Store:
             for place in range(count):
                 is_last = manner == "random" and place == count - 1
                 text = self._settle_command() if is_last and self.generator.random() < 0.15 else self._some_command()
+                if is_aimed and place == 0:
+                    text = self._chip_sale()
                 if not self._command(text, self._kill_time() if is_last else None):
                     break
         if manner == "quit" and not self.desk.is_ended:
@@ -210,7 +222,8 @@ class Store:
         batch = self.centre.batch_to_sign_on(self.first_batch)
         arguments = [self.options.desk, "--store", self.file, "--centre", f"127.0.0.1:{self.centre.port}", "--batch", str(batch),
                      "--limit", str(self.limit), "--sendings", str(self.sendings), "--refund", str(self.refund),
-                     "--terminal", "LIB00001", "--merchant", MERCHANT, "--timeout", str(self.options.timeout)]
+                     "--terminal", "LIB00001", "--merchant", MERCHANT, "--timeout", str(self.options.timeout),
+                     "--card-timeout", str(2 * self.options.timeout)]
         self.comparer.take(history.Started(batch, point))
         if self.desk:
             self.desk.close()
@@ -232,18 +245,38 @@ class Store:
             return False
         self.desk.give(text)
         left = None
-        while True:
+        while left != 0:
             line = self.desk.line(kill_at)
             if line is None:
                 self.desk.kill()
                 return False
             left = _lines_left(text, line, left)
-            if left == 0:
-                break
+        if ASKED.fullmatch(line) and not self._await_card(kill_at):
+            return False
         if kill_at is not None:
             self.desk.line(kill_at)
             self.desk.kill()
             return False
+        return True
+
+    def _await_card(self, kill_at):
+        """Gives the card's word, after other commands or not at all, and waits until the request has ended; whether the desk lives then. Its
+        time may be out before a command is read: then the end is told first."""
+        is_silent = kill_at is not None and self.generator.random() < 0.5
+        turn = collections.deque(() if is_silent else self.generator.choice(CARD_TURNS))
+        given, has_ended = None, False
+        while turn or given or not has_ended:
+            if turn and not given:
+                given = turn.popleft()
+                self.desk.give(given)
+            line = self.desk.line(kill_at)
+            if line is None:
+                self.desk.kill()
+                return False
+            is_end = RESULT.fullmatch(line) is not None
+            has_ended = has_ended or is_end
+            if not is_end or given and given.startswith("card-"):
+                given = None
         return True
 
     def _count_kill(self):
@@ -272,13 +305,17 @@ class Store:
         if self.comparer.is_settling:
             return self.generator.choice(("settle", "settle", "settle", "sale 100 6222021234561234", "journal"))
         weights = {"sale": 45, "authorise": 8, "sale-void": 14, "refund": 9, "complete": 8, "complete-void": 5, "authorise-void": 3, "settle": 5,
-                   "counts": 2, "totals": 2, "state": 2, "journal": 3, "doubtful": 2}
+                   "counts": 2, "totals": 2, "state": 2, "journal": 3, "doubtful": 2, "card-agrees": 1, "card-declines": 1}
         word = self.generator.choices(list(weights), list(weights.values()))[0]
         if len(self.comparer.entries()) >= self.limit and self.generator.random() < 0.6:
             word = "settle"
         if word == "settle":
             return self._settle_command()
         return " ".join([word, *self._words_of(word)]) if word in KINDS else word
+
+    def _chip_sale(self):
+        card = self.generator.choice(self.cards)
+        return f"sale {self._amount()} {card} chip {self._chip(card)}"
 
     def _settle_command(self):
         """The journal is shown, and compared, before each settlement."""
@@ -287,7 +324,8 @@ class Store:
 
     def _words_of(self, word):
         if word in ("sale", "authorise"):
-            return [str(self._amount()), self.generator.choice(self.cards)]
+            card = self.generator.choice(self.cards)
+            return [str(self._amount()), card, *(["chip", self._chip(card)] if self.generator.random() < CHIP_SHARE else [])]
         if word in ("sale-void", "complete-void"):
             return [self._original({"sale-void": "22", "complete-void": "20"}[word])]
         request = self._earlier("22" if word == "refund" else "10")
@@ -315,6 +353,18 @@ class Store:
     def _amount(self):
         return self.generator.choice((1, 12000, 9999999999, self.generator.randint(1, 300000), self.generator.randint(1, 300000)))
 
+    def _chip(self, card):
+        """A field 55 in hexadecimal, with the card in it; now and then one that is out of form."""
+        number = bytes.fromhex(card + "F" * (len(card) % 2))
+        cryptogram = self.generator.randbytes(8)
+        parts = [iso.element("5A", number), iso.element("57", number + b"\xD2\x61\x22"), iso.element("9F26", cryptogram), iso.element("95", bytes(5)),
+                 iso.element("9F10", self.generator.randbytes(self.generator.choice((0, 7, 32, 127, 128, 170)))), iso.element("9A", b"\x26\x11\x16")]
+        self.generator.shuffle(parts)
+        chip = b"".join(parts)
+        if self.generator.random() < 0.06:
+            chip = self.generator.choice((b"", chip + parts[0], chip[:-len(parts[-1])] + b"\x9F", chip + b"\x8E\x81\x03" + bytes(3), bytes(300)))
+        return chip.hex().upper() or "-"
+
     def _card(self):
         length = self.generator.choice((13, 16, 16, 16, 19, 19))
         return "62" + "".join(self.generator.choice("0123456789") for _ in range(length - 2))
@@ -323,6 +373,8 @@ class Store:
 def _lines_left(command, line, left):
     """How many lines a command's answer has still to come after this one; None while that is not known."""
     word = command.split()[0]
+    if line.startswith("refused (14)") and not word.startswith("card-"):
+        return left     # of a card's word that came too late
     if word == "journal":
         return 0 if line.startswith("journal ") or line.startswith("error") else None
     if word == "doubtful":
@@ -340,7 +392,8 @@ def show_difference(store, difference):
 def show_figures(figures, differences, seconds):
     names = ("rounds", "random kills", "kills at points", "messages", "card requests", "approved", "declined", "reversed", "given up",
              "unanswered", "reversals", "settlements", "closings", "upload items", "upload ends", "refusals", "journals compared",
-             "doubtful lists compared")
+             "doubtful lists compared", "chip requests", "cards asked", "cards agreed", "cards declined", "cards silent",
+             "kills in the wait for a card")
     for name in names:
         print(f"{name}: {figures[name]}")
     print("kills at each point: " + ", ".join(f"{point} {figures[f'at {point}']}" for point in POINTS))
@@ -367,7 +420,8 @@ def run(options):
                 kills = figures["random kills"] + figures["kills at points"]
                 print(f"{figures['rounds']} of {options.rounds} rounds, {kills} kills, {differences} differences", file=sys.stderr, flush=True)
     show_figures(figures, differences, time.monotonic() - began)
-    untried = [name for name in ("random kills", "kills at points", "approved", "reversed", "closings") if not figures[name]]
+    untried = [name for name in ("random kills", "kills at points", "approved", "reversed", "closings", "cards agreed", "cards declined")
+               if not figures[name]]
     if untried and options.rounds >= 50:
         print(f"nothing was tried of: {', '.join(untried)}")
         return 1

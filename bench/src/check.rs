@@ -8,17 +8,19 @@ use crate::terminals::{self, Order};
 
 const RANDOM_MESSAGES: usize = 20_000;
 const SALES: usize = 1_000;
+const REFUSALS: [usize; 8] = [3, 4, 5, 6, 7, 8, 9, 23];
 
 /// How many messages were read, by the number that both gave (0 for a well-formed one).
 #[derive(Default)]
-struct Readings([usize; 10]);
+struct Readings([usize; 24]);
 
 /// Compares; says what agreed, or the first difference.
 pub fn run() -> Result<String, String> {
     same(|| "sizes".to_string(), library::sizes(), [IMAGE_SIZE, MESSAGE_SIZE, ENTRY_SIZE])?;
     let mut readings = Readings::default();
-    for message in [messages::sale(), messages::approval(1, messages::SALE.amount), messages::largest()] {
-        compare_neighbours(&message, &mut readings)?;
+    let sales = [messages::sale(&[]), messages::sale(messages::READER)];
+    for message in [messages::approval(1, messages::SALE.amount), messages::largest()].iter().chain(&sales) {
+        compare_neighbours(message, &mut readings)?;
     }
     let mut random = Random::new();
     for _ in 0..RANDOM_MESSAGES {
@@ -44,10 +46,10 @@ impl Readings {
     }
 
     fn summary(&self) -> Result<String, String> {
-        if let Some(number) = (3..10).find(|&number| self.0[number] == 0) {
+        if let Some(number) = REFUSALS.iter().find(|&&number| self.0[number] == 0) {
             return Err(format!("no message was refused by {number}"));
         }
-        let refused: Vec<String> = (3..10).map(|number| format!("{} by {number}", self.0[number])).collect();
+        let refused: Vec<String> = REFUSALS.iter().map(|&number| format!("{} by {number}", self.0[number])).collect();
         Ok(format!(
             "Codec and library agree on {} messages: {} well-formed; refused {}.",
             self.0.iter().sum::<usize>(),
@@ -101,7 +103,7 @@ fn compare_fields(bytes: &[u8]) -> Result<(), String> {
     Ok(())
 }
 
-/// Sales of many amounts and cards, as start writes them and as the codec does.
+/// Sales of many amounts, cards and chips, half of them without one, as start writes them and as the codec does.
 fn compare_sales(random: &mut Random) -> Result<(), String> {
     for _ in 0..SALES {
         let card_length = 13 + random.below(7) as u8;
@@ -110,13 +112,26 @@ fn compare_sales(random: &mut Random) -> Result<(), String> {
             card_number: random.below(10usize.pow(u32::from(card_length))) as u64,
             card_length,
         };
-        let mut terminal = terminals::empty(1);
-        same(|| format!("{sale:?} leaves"), terminal.start(&sale), SENDS)?;
-        let mut out = [0; LARGEST];
-        let length = messages::write_sale(&sale, 1, &mut out).map_err(|number| format!("{sale:?} is refused by {number}"))?;
-        same(|| format!("the message of {sale:?}"), terminal.sent(), &out[..length])?;
+        let mut chip = match random.below(2) {
+            0 => Vec::new(),
+            _ => messages::chip(2 + random.below(254), &mut |_| random.below(256)),
+        };
+        if random.below(4) == 0 && !chip.is_empty() {
+            let place = random.below(chip.len());
+            chip[place] = random.below(256) as u8;
+        }
+        compare_sale(&sale, &chip)?;
     }
     Ok(())
+}
+
+fn compare_sale(sale: &Sale, chip: &[u8]) -> Result<(), String> {
+    let mut terminal = terminals::empty(1);
+    let mut out = [0; LARGEST];
+    let written = messages::write_sale(sale, chip, 1, &mut out);
+    let what = || format!("{sale:?} with chip {}", hexadecimal(chip));
+    same(what, terminal.start(sale, chip), written.err().unwrap_or(SENDS))?;
+    same(what, terminal.sent(), &out[..written.unwrap_or(0)])
 }
 
 /// The totals of a full journal, as the library has them and as the plain pass does.
@@ -149,7 +164,7 @@ fn altered(message: Vec<u8>, random: &mut Random) -> Vec<u8> {
 
 /// Any bytes behind a type and a bitmap that are listed.
 fn noise(random: &mut Random) -> Vec<u8> {
-    let mut bytes: Vec<u8> = (0..10 + random.below(300)).map(|_| random.below(256) as u8).collect();
+    let mut bytes: Vec<u8> = (0..10 + random.below(600)).map(|_| random.below(256) as u8).collect();
     bytes[..2].copy_from_slice(&TYPES[random.below(TYPES.len())].to_be_bytes());
     put_bitmap(&mut bytes, random);
     bytes

@@ -1,5 +1,6 @@
 //! A hand-written codec without copies: a message read is the type, the bitmap and where the contents of each field stand in the bytes.
-//! Refusals have the numbers of the library: 3 to 9 at reading; 1 and 4 to 8 at writing.
+//! Refusals have the numbers of the library: 3 to 9 and 23 at reading; 1, 4 to 8 and 23 at writing.
+use crate::elements;
 
 #[derive(Clone, Copy, PartialEq)]
 pub enum Class {
@@ -39,10 +40,13 @@ pub struct View {
     spans: [Span; ROWS],
 }
 
-const ROWS: usize = 23;
+const ROWS: usize = 24;
 
 /// The smallest buffer that a message is written to: the longest message.
-pub const LARGEST: usize = 248;
+pub const LARGEST: usize = 505;
+
+/// The field whose elements are judged after all else.
+pub const CHIP: u8 = 55;
 
 pub const TYPES: [u16; 12] =
     [0x0100, 0x0110, 0x0200, 0x0210, 0x0220, 0x0230, 0x0320, 0x0330, 0x0400, 0x0410, 0x0500, 0x0510];
@@ -67,6 +71,7 @@ pub const FORMATS: [Format; ROWS] = [
     row(44, Bytes, 1, 0, 25),
     row(48, Digits, 2, 62, 62),
     row(49, Printable, 0, 3, 3),
+    row(CHIP, Bytes, 2, 1, 255),
     row(60, Digits, 2, 11, 11),
     row(61, Digits, 2, 16, 16),
     row(63, Bytes, 2, 3, 63),
@@ -100,6 +105,9 @@ pub fn read(bytes: &[u8]) -> Result<View, u8> {
     if at < bytes.len() {
         return Err(9);
     }
+    if view.field(CHIP, bytes).is_some_and(|field| !elements::in_form(field.contents)) {
+        return Err(23);
+    }
     Ok(view)
 }
 
@@ -124,6 +132,7 @@ pub fn write(message_type: u16, fields: &[Field], out: &mut [u8]) -> Result<usiz
 
 impl View {
     /// A field of the message that was read from these bytes.
+    #[inline]
     pub fn field<'a>(&self, number: u8, bytes: &'a [u8]) -> Option<Field<'a>> {
         if number == 0 || number > 64 || self.bitmap & bit(number) == 0 {
             return None;
@@ -267,6 +276,9 @@ fn judge_all(message_type: u16, fields: &[Field]) -> Result<u64, u8> {
         }
         judge(format.class, field.count, field.contents)?;
     }
+    if fields.iter().any(|field| field.number == CHIP && !elements::in_form(field.contents)) {
+        return Err(23);
+    }
     Ok(bitmap)
 }
 
@@ -304,7 +316,7 @@ mod tests {
     }
 
     #[test]
-    fn the_table_makes_248_bytes() {
+    fn the_table_makes_505_bytes() {
         let fields: usize = FORMATS.iter().map(|f| usize::from(f.prefix) + size(f.class, usize::from(f.most))).sum();
         assert_eq!(10 + fields, LARGEST);
         assert!(TYPES.iter().all(|&x| is_listed(x)));
@@ -343,6 +355,21 @@ mod tests {
         assert_eq!(refusal(&one(39, b"0\x7F")), 8);
         assert_eq!(refusal(&one(39, b" ~")), 0);
         assert_eq!(refusal(&one(64, &[0xFF; 8])), 0);
+    }
+
+    #[test]
+    fn chips() {
+        assert_eq!(refusal(&one(CHIP, &[0x00, 0x00])), 7);
+        assert_eq!(refusal(&one(CHIP, &[0x02, 0x56])), 7);
+        assert_eq!(refusal(&one(CHIP, &[0x00, 0x02, 0x82])), 3);
+        assert_eq!(refusal(&one(CHIP, &[0x00, 0x01, 0x82])), 23);
+        assert_eq!(refusal(&one(CHIP, &[0x00, 0x01, 0x82, 0x00])), 9);
+        assert_eq!(refusal(&one(CHIP, &[0x00, 0x02, 0x82, 0x00])), 0);
+        let cut = Field { number: CHIP, count: 1, contents: &[0x82] };
+        let printable = Field { number: 39, count: 2, contents: b"0\n" };
+        assert_eq!(write(0x0200, &[cut], &mut [0; LARGEST]), Err(23));
+        assert_eq!(write(0x0200, &[printable, cut], &mut [0; LARGEST]), Err(8));
+        assert_eq!(write(0x0200, &[Field { count: 0, contents: &[], ..cut }], &mut [0; LARGEST]), Err(7));
     }
 
     #[test]

@@ -1,7 +1,7 @@
 //! The C interface, include/whistlaurel.h, as far as it is measured.
 
-pub const IMAGE_SIZE: usize = 106;
-pub const MESSAGE_SIZE: usize = 248;
+pub const IMAGE_SIZE: usize = 383;
+pub const MESSAGE_SIZE: usize = 505;
 pub const ENTRY_SIZE: usize = 48;
 pub const MOST_ENTRIES: usize = 300;
 
@@ -56,7 +56,8 @@ impl Terminal {
         }
     }
 
-    pub fn start(&mut self, sale: &Sale) -> u8 {
+    /// A sale leaves; with a chip where its bytes are not empty.
+    pub fn start(&mut self, sale: &Sale, chip: &[u8]) -> u8 {
         let (image, journal, message) = self.lent();
         let (authorisation, reference) = ([0u8; 6], [0u8; 12]);
         unsafe {
@@ -77,6 +78,9 @@ impl Terminal {
                 0,
                 authorisation.as_ptr(),
                 reference.as_ptr(),
+                !chip.is_empty(),
+                chip.as_ptr(),
+                chip.len(),
             )
         }
     }
@@ -190,6 +194,9 @@ extern "C" {
         day: u8,
         authorisation: *const u8,
         reference: *const u8,
+        has_chip: bool,
+        chip: *const u8,
+        chip_size: usize,
     ) -> u8;
     fn whistlaurel_answer(
         image: *mut u8,

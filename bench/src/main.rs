@@ -1,6 +1,7 @@
 //! Measures the library beside hand-written Rust; see README.md.
 mod check;
 mod codec;
+mod elements;
 mod library;
 mod messages;
 mod passes;

@@ -1,5 +1,5 @@
 //! The messages that are read and written.
-use crate::codec::{self, Class, Field, Format, FORMATS, LARGEST};
+use crate::codec::{self, Class, Field, Format, CHIP, FORMATS, LARGEST};
 use crate::library::Sale;
 use crate::random::Random;
 
@@ -8,8 +8,13 @@ pub const MERCHANT: &[u8; 15] = b"WHISTLAUREL0001";
 pub const BATCH: u32 = 1;
 pub const SALE: Sale = Sale { amount: 12_000, card_number: 4_111_111_111_111_111, card_length: 16 };
 
-/// Writes a sale from the numbers that the desk and the terminal hold, and gives its length.
-pub fn write_sale(sale: &Sale, trace: u32, out: &mut [u8]) -> Result<usize, u8> {
+/// What a reader brings for a sale: cryptogram and its data, issuer's data, a random number, counters and results, amount, date, currency.
+pub const READER: &[u8] = b"\x9F\x26\x08CRYPTOGR\x9F\x27\x01\x80\x9F\x10\x07\x07\x01\x01\x03\xA0\x20\x02\x9F\x37\x04RAND\x9F\x36\x02\x00\x2A\
+\x95\x05\x00\x00\x00\x08\x00\x9A\x03\x26\x11\x16\x9C\x01\x00\x9F\x02\x06\x00\x00\x00\x01\x20\x00\x5F\x2A\x02\x01\x56\x82\x02\x7C\x00\x9F\x1A\x02\x01\x56\
+\x9F\x03\x06\x00\x00\x00\x00\x00\x00\x9F\x33\x03\xE0\xF9\xC8\x84\x08\xA0\x00\x00\x03\x33\x01\x01\x01";
+
+/// Writes a sale from the numbers that the desk and the terminal hold, and gives its length; without a chip where its bytes are empty.
+pub fn write_sale(sale: &Sale, chip: &[u8], trace: u32, out: &mut [u8]) -> Result<usize, u8> {
     let digits = usize::from(sale.card_length);
     let card = packed_card(sale);
     let (mut amount, mut trace_number, mut batch) = ([0; 6], [0; 3], [0; 3]);
@@ -18,26 +23,32 @@ pub fn write_sale(sale: &Sale, trace: u32, out: &mut [u8]) -> Result<usize, u8> 
     pack(BATCH.into(), &mut batch);
     let field60 = [0x22, batch[0], batch[1], batch[2], 0x00, 0x00];
     let field = |number, count, contents| Field { number, count, contents };
-    let fields = [
+    let mode = if chip.is_empty() { &[0x01, 0x20] } else { &[0x05, 0x20] };
+    let mut fields = [
         field(2, digits, &card[..digits.div_ceil(2)]),
         field(3, 6, &[0; 3]),
         field(4, 12, &amount),
         field(11, 6, &trace_number),
-        field(22, 3, &[0x01, 0x20]),
+        field(22, 3, mode),
         field(25, 2, &[0]),
         field(41, 8, TERMINAL),
         field(42, 15, MERCHANT),
         field(49, 3, b"156"),
+        field(CHIP, chip.len(), chip),
         field(60, 11, &field60),
         field(64, 8, &[0; 8]),
     ];
+    if chip.is_empty() {
+        fields.copy_within(10.., 9);
+        return codec::write(0x0200, &fields[..11], out);
+    }
     codec::write(0x0200, &fields, out)
 }
 
-/// The sale of trace 1.
-pub fn sale() -> Vec<u8> {
+/// The sale of trace 1; without a chip where its bytes are empty.
+pub fn sale(chip: &[u8]) -> Vec<u8> {
     let mut out = [0; LARGEST];
-    let length = write_sale(&SALE, 1, &mut out).expect("a sale is written");
+    let length = write_sale(&SALE, chip, 1, &mut out).expect("a sale is written");
     out[..length].to_vec()
 }
 
@@ -116,8 +127,33 @@ fn packed_card(sale: &Sale) -> [u8; 10] {
     card
 }
 
+/// Elements in form, so many bytes in all, two at least, by numbers for their places. Every third tag has two bytes.
+pub fn chip(count: usize, number: &mut dyn FnMut(usize) -> usize) -> Vec<u8> {
+    let mut out = Vec::new();
+    while out.len() < count {
+        let (place, left) = (out.len(), count - out.len());
+        let first = place / 2 + place / 62;
+        let tag: &[u8] = if place % 3 == 0 && left > 2 { &[0x9F, place as u8] } else { &[first as u8] };
+        let room = left - tag.len() - 1;
+        let long = room > 0x80 && number(place) % 2 == 0;
+        let most = if long { room - 1 } else { room.min(0x7F) };
+        let mut value = if long { most } else { number(place) % (most + 1) };
+        if room - usize::from(long) - value == 1 {
+            value = if value < most { value + 1 } else { value - 1 };
+        }
+        out.extend_from_slice(tag);
+        out.extend_from_slice(if value > 0x7F { &[0x81] } else { &[] });
+        out.push(value as u8);
+        out.extend((0..value).map(|at| number(at) as u8));
+    }
+    out
+}
+
 /// The text of a field, as its class allows, by numbers for its places.
 fn filled(format: &Format, count: usize, number: &mut dyn FnMut(usize) -> usize) -> Vec<u8> {
+    if format.number == CHIP {
+        return chip(count.max(2), number);
+    }
     let symbol = |x: usize| match format.class {
         Class::Digits => b'0' + (x % 10) as u8,
         Class::Printable => b' ' + (x % 95) as u8,
@@ -148,10 +184,11 @@ fn packed(digits: &[u8]) -> Vec<u8> {
 #[cfg(test)]
 mod tests {
     use super::*;
+    use crate::elements;
 
     #[test]
     fn a_sale_is_that_of_document_01() {
-        let sale = sale();
+        let sale = sale(&[]);
         assert_eq!(sale.len(), 76);
         assert_eq!(sale[..10], [0x02, 0x00, 0x70, 0x20, 0x04, 0x80, 0x00, 0xC0, 0x80, 0x11]);
         assert_eq!(sale[22..28], [0x00, 0x00, 0x00, 0x01, 0x20, 0x00]);
@@ -163,7 +200,11 @@ mod tests {
     fn samples_read() {
         let mut random = Random::new();
         assert_eq!(largest().len(), LARGEST);
-        assert!([sale(), approval(7, 12_000), difference(8), largest()].iter().all(|m| codec::read(m).is_ok()));
+        assert!([sale(&[]), sale(READER), approval(7, 12_000), difference(8), largest()].iter().all(|m| codec::read(m).is_ok()));
         assert!((0..1_000).all(|_| codec::read(&any(&mut random)).is_ok()));
+        for count in 2..=255 {
+            let made = chip(count, &mut |_| random.below(256));
+            assert_eq!((made.len(), elements::in_form(&made)), (count, true), "{made:02X?}");
+        }
     }
 }

@@ -1,7 +1,7 @@
 //! Measures, and prints the tables in Markdown.
 use crate::codec::{self, LARGEST};
 use crate::library::{self, Terminal, MOST_ENTRIES, QUIET, SENDS};
-use crate::messages::{self, SALE};
+use crate::messages::{self, READER, SALE};
 use crate::passes;
 use crate::random::Random;
 use crate::terminals::{self, Order};
@@ -20,7 +20,8 @@ fn print_reading() {
     println!("\n| reading | bytes | library, ns | codec, ns | library / codec |\n|---|---|---|---|---|");
     let mut random = Random::new();
     let sets = [
-        ("sale", vec![messages::sale()]),
+        ("sale", vec![messages::sale(&[])]),
+        ("sale with a chip", vec![messages::sale(READER)]),
         ("answer to a sale", vec![messages::approval(1, SALE.amount)]),
         ("largest message", vec![messages::largest()]),
         ("64 mixed messages, mean", (0..MIXED_MESSAGES).map(|_| messages::any(&mut random)).collect()),
@@ -43,18 +44,20 @@ fn print_reading() {
 /// A start on an empty journal beside the codec's writing of the same bytes and a pass over the image.
 fn print_writing() {
     println!("\n| writing | bytes | start, ns | codec and pass over the image, ns | start / codec and pass |\n|---|---|---|---|---|");
-    let terminal = terminals::empty(1);
-    let image = terminal.image;
-    let mut out = [0; LARGEST];
-    let times = medians(vec![
-        repeated(terminal, SENDS, |terminal| terminal.start(black_box(&SALE))),
-        runs(move || {
-            let sum = passes::over_image(black_box(&image));
-            (sum, messages::write_sale(black_box(&SALE), black_box(1), black_box(&mut out)))
-        }),
-    ]);
-    let bytes = messages::sale().len();
-    println!("| sale, empty journal | {bytes} | {:.1} | {:.1} | {:.2} |", times[0], times[1], times[0] / times[1]);
+    for (name, chip) in [("sale", &[][..]), ("sale with a chip", READER)] {
+        let terminal = terminals::empty(1);
+        let image = terminal.image;
+        let mut out = [0; LARGEST];
+        let times = medians(vec![
+            repeated(terminal, SENDS, move |terminal| terminal.start(black_box(&SALE), black_box(chip))),
+            runs(move || {
+                let sum = passes::over_image(black_box(&image));
+                (sum, messages::write_sale(black_box(&SALE), black_box(chip), black_box(1), black_box(&mut out)))
+            }),
+        ]);
+        let bytes = messages::sale(chip).len();
+        println!("| {name}, empty journal | {bytes} | {:.1} | {:.1} | {:.2} |", times[0], times[1], times[0] / times[1]);
+    }
 }
 
 fn print_calls() {
@@ -82,7 +85,7 @@ fn calls(entries: usize, order: Order) -> Vec<Runs<'static>> {
     let (awaiting, approval) = terminals::awaiting(with_place, order);
     vec![
         runs(move || passes::over_journal(black_box(&journal), entries)),
-        repeated(terminals::resting(with_place, order), SENDS, |terminal| terminal.start(black_box(&SALE))),
+        repeated(terminals::resting(with_place, order), SENDS, |terminal| terminal.start(black_box(&SALE), &[])),
         repeated(awaiting.clone(), QUIET, move |terminal| terminal.answer(black_box(&approval))),
         repeated(awaiting, QUIET, Terminal::no_answer),
         repeated(resting, SENDS, Terminal::settle),

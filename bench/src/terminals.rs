@@ -22,7 +22,7 @@ pub fn resting(entries: usize, order: Order) -> Terminal {
     let mut terminal = empty(MOST_ENTRIES);
     for trace in 1..=entries as u32 {
         let sale = Sale { amount: SALE.amount + u64::from(trace), ..SALE };
-        assert_eq!(terminal.start(&sale), SENDS);
+        assert_eq!(terminal.start(&sale, &[]), SENDS);
         assert_eq!(terminal.answer(&approval(trace, sale.amount)), QUIET);
     }
     if order == Order::Random {
@@ -37,7 +37,7 @@ pub fn resting(entries: usize, order: Order) -> Terminal {
 /// The same, with one more sale awaiting its answer; and the approval of it.
 pub fn awaiting(entries: usize, order: Order) -> (Terminal, Vec<u8>) {
     let mut terminal = resting(entries, order);
-    assert_eq!(terminal.start(&SALE), SENDS);
+    assert_eq!(terminal.start(&SALE, &[]), SENDS);
     (terminal, approval(entries as u32 + 1, SALE.amount))
 }
 

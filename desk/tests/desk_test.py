@@ -19,6 +19,10 @@ import unittest
 HERE = os.path.dirname(os.path.abspath(__file__))
 CARD = "6222021234561234"
 MASKED = "622202******1234"
+# Field 55 with the card in tags 5A and 57, a cryptogram and a value of 128 bytes.
+CHIP = "5A08" + CARD + "5713" + CARD + "D2612201123456789F" + "0F9F2608A1B2C3D4E5F60718" + "9F108180" + "5C" * 128
+WITH_CHIP = "sale 12000 %s chip %s" % (CARD, CHIP)
+PROMPT = "sale 000001: the centre approves 120.00 yuan, card %s, chip; card-agrees or card-declines" % MASKED
 # Seconds: where the centre answers everything, and where it is silent.
 LONG, SHORT = "20", "0.6"
 SENT_FRONT = bytes.fromhex("6000030000603200320001")
@@ -28,7 +32,7 @@ PROGRAMS = {}
 # Field: digits or bytes, bytes of its length, count where it is fixed.
 FIELDS = {2: ("d", 1, 0), 3: ("d", 0, 6), 4: ("d", 0, 12), 11: ("d", 0, 6), 13: ("d", 0, 4), 22: ("d", 0, 3), 25: ("d", 0, 2),
           37: ("b", 0, 12), 38: ("b", 0, 6), 39: ("b", 0, 2), 41: ("b", 0, 8), 42: ("b", 0, 15), 48: ("d", 2, 0), 49: ("b", 0, 3),
-          60: ("d", 2, 0), 61: ("d", 2, 0), 64: ("b", 0, 8)}
+          55: ("b", 2, 0), 60: ("d", 2, 0), 61: ("d", 2, 0), 64: ("b", 0, 8)}
 
 
 def read_message(data):
@@ -177,15 +181,20 @@ class DeskTest(unittest.TestCase):
         return [PROGRAMS[program], "--store", self.store, "--centre", address, "--timeout", self.time_out, *options]
 
     def desk(self, centre, *commands, options=(), kill=None, status=0, file_size=None):
-        """Runs the desk with commands; its lines. No output of any run may show the card."""
+        """Runs the desk with commands; its lines. No output of any run may show the card or the chip."""
         environment = dict(os.environ, **({"DESK_KILL": kill} if kill else {}))
         limit = (lambda: resource.setrlimit(resource.RLIMIT_FSIZE, (file_size, file_size))) if file_size else None
         ran = subprocess.run(self.arguments(centre, *options, program="trial" if kill else "desk"), text=True, capture_output=True,
                              input="".join(c + "\n" for c in commands), env=environment, preexec_fn=limit, timeout=60)
         self.assertEqual(ran.returncode, status, ran.stdout + ran.stderr)
-        self.assertNotIn(CARD, ran.stdout + ran.stderr)
+        self.shows_no_card(ran.stdout + ran.stderr)
         self.error = ran.stderr
         return ran.stdout.splitlines()
+
+    def shows_no_card(self, text):
+        self.assertNotIn(CARD, text)
+        for at in range(0, len(CHIP) - 16, 2):
+            self.assertNotIn(CHIP[at:at + 16], text.upper())
 
     def test_sale_approved(self):
         centre = self.centre()
@@ -236,6 +245,152 @@ class DeskTest(unittest.TestCase):
         self.assertEqual(lines[2], "sale 000001: reversed 120.00 yuan, card " + MASKED)
         self.assertEqual(centre.types(), ["0200", "0400", "0400", "0400"])
         self.assertEqual(centre.asked[1][39], b"A0")
+
+    def test_chip_agrees(self):
+        centre = self.centre()
+        lines = self.desk(centre, "card-agrees", WITH_CHIP, "state", "counts", "card-agrees", "card-agrees", "state", "counts", "journal",
+                          "authorise 500 %s chip %s" % (CARD, CHIP.lower()), "card-agrees")
+        approved = "sale 000001: approved 120.00 yuan, card %s, chip, reference 000000000001, authorisation A00001" % MASKED
+        self.assertEqual(lines[2:], [
+            "refused (14): nothing is awaited, pending or to be uploaded", PROMPT,
+            "state batch 000001 next-trace 000002 signed-on entries 0 card-awaited",
+            "counts sent 1 approved 0 declined 0 reversed 0 given-up 0 unanswered 0", approved,
+            "refused (14): nothing is awaited, pending or to be uploaded",
+            "state batch 000001 next-trace 000002 signed-on entries 1 resting",
+            "counts sent 1 approved 1 declined 0 reversed 0 given-up 0 unanswered 0",
+            "sale 000001: 120.00 yuan, card %s, date 1116, reference 000000000001, authorisation A00001" % MASKED, "journal 1 entries",
+            "authorise 000002: the centre approves 5.00 yuan, card %s, chip; card-agrees or card-declines" % MASKED,
+            "authorise 000002: approved 5.00 yuan, card %s, chip, reference 000000000002, authorisation A00002" % MASKED])
+        self.assertEqual([(asked["type"], asked[22], asked[55]) for asked in centre.asked],
+                         [("0200", "052", bytes.fromhex(CHIP)), ("0100", "052", bytes.fromhex(CHIP))])
+        self.assertEqual(self.desk(centre)[0], "last request: " + lines[-1])
+
+    def reversed_by_the_card(self, centre, lines):
+        """The request is reversed with reason 06, its fields as they were sent."""
+        self.assertEqual(lines, ["sale 000001: reversed 120.00 yuan, card %s, chip" % MASKED])
+        sent, back = centre.asked[:2]
+        self.assertEqual((sent["type"], back["type"], back[39], back[22]), ("0200", "0400", b"06", "052"))
+        self.assertEqual({n: back[n] for n in back if n not in ("type", 39, 64)}, {n: sent[n] for n in sent if n not in ("type", 64)})
+
+    def test_chip_declines(self):
+        centre = self.centre("good", "silent", "good")
+        self.time_out = SHORT
+        lines = self.desk(centre, WITH_CHIP, "card-declines", "card-declines", "counts", "totals")
+        self.reversed_by_the_card(centre, lines[3:4])
+        self.assertEqual((lines[2], lines[4]), (PROMPT, "refused (14): nothing is awaited, pending or to be uploaded"))
+        self.assertEqual(lines[5:], ["counts sent 1 approved 0 declined 0 reversed 1 given-up 0 unanswered 0",
+                                     "totals debit 0.00 yuan in 0 credit 0.00 yuan in 0"])
+        self.assertEqual(centre.types(), ["0200", "0400", "0400"])
+
+    def test_chip_declined_by_the_centre_or_not_answered(self):
+        self.time_out = SHORT
+        centre = self.centre("code 51", "silent", "good", "bad-mac", *["silent"] * 3)
+        lines = self.desk(centre, *[WITH_CHIP] * 3, "doubtful")
+        doubtful = "sale 000003: given up 120.00 yuan, card %s, chip; ask the centre" % MASKED
+        self.assertEqual(lines[2:], ["sale 000001: declined (51) 120.00 yuan, card %s, chip" % MASKED,
+                                     "sale 000002: reversed 120.00 yuan, card %s, chip" % MASKED, doubtful, "doubtful: 1", doubtful])
+        self.assertEqual([asked.get(39) for asked in centre.asked], [None, None, b"98", None, b"A0", b"A0", b"A0"])
+        self.assertTrue(all(asked[55] == bytes.fromhex(CHIP) for asked in centre.asked))
+
+    def test_chip_and_other_commands_while_its_word_is_awaited(self):
+        centre = self.centre()
+        refused = "refused (11): an answer or the card's word is awaited"
+        lines = self.desk(centre, WITH_CHIP, "sale 100 " + CARD, WITH_CHIP, "sale-void 1", "settle", "what", "", "# a comment", "card-agrees",
+                          "settle")
+        self.assertEqual(lines[3:7] + [lines[7][:5]], [refused] * 4 + ["error"])
+        self.assertIn(": approved 120.00 yuan", lines[8])
+        self.assertEqual(lines[9], "settled batch 000001: debit 120.00 yuan in 1, credit 0.00 yuan in 0")
+        self.assertEqual(centre.types(), ["0200", "0500"])
+
+    def test_silent_card(self):
+        """At the end of input, at quit and when its time is out; the desk goes on then."""
+        for last in ((), ("quit",)):
+            with self.subTest(last):
+                self.store = os.path.join(self.folder, "silent %d" % len(last))
+                centre = self.centre()
+                lines = self.desk(centre, WITH_CHIP, *last)
+                self.assertEqual(lines[2], PROMPT)
+                self.reversed_by_the_card(centre, lines[3:])
+        self.store = os.path.join(self.folder, "silent")
+        centre = self.centre()
+        with subprocess.Popen(self.arguments(centre, "--card-timeout", "1.5"), stdin=subprocess.PIPE, stdout=subprocess.PIPE,
+                              stderr=subprocess.PIPE, text=True) as desk:
+            desk.stdin.write(WITH_CHIP + "\ncard-a")
+            desk.stdin.flush()
+            lines = [desk.stdout.readline().rstrip("\n") for _ in range(4)]
+            out, error = desk.communicate("grees\nsale 100 %s\n" % CARD)
+        self.assertEqual(lines[2], PROMPT)
+        self.reversed_by_the_card(centre, lines[3:])
+        self.assertEqual(error, "waiting for the card, at most 1 s\nreversal, sending 1 of 3\n")
+        self.assertEqual(out.splitlines()[0], "refused (14): nothing is awaited, pending or to be uploaded")
+        self.assertIn("sale 000002: approved 1.00 yuan", out)
+
+    def test_card_in_time(self):
+        """Its word comes in pieces and after other lines, within its time."""
+        with subprocess.Popen(self.arguments(self.centre(), "--card-timeout", "20"), stdin=subprocess.PIPE, stdout=subprocess.PIPE,
+                              text=True) as desk:
+            for piece in (WITH_CHIP[:50], WITH_CHIP[50:] + "\nst", "ate\n\ncard-", "agrees"):
+                desk.stdin.write(piece)
+                desk.stdin.flush()
+                time.sleep(0.2)
+            out, _ = desk.communicate()
+        self.assertEqual([line.split(":")[0] for line in out.splitlines()[2:]],
+                         ["sale 000001", "state batch 000001 next-trace 000002 signed-on entries 0 card-awaited", "sale 000001"])
+        self.assertIn(": approved 120.00 yuan", out.splitlines()[4])
+
+    def test_killed_while_the_card_is_awaited(self):
+        """The next start makes the reversal with reason 06; before the approval is stored, with 98."""
+        for point, words, reason in (
+                ("before-answer-store:1", (), b"98"), ("during-store:4", (), b"98"), ("after-answer-store:1", (), b"06"),
+                ("after-told:1", (), b"06"), ("before-call:2", ("card-agrees",), b"06"), ("before-answer-store:2", ("card-agrees",), b"06"),
+                ("during-store:5", ("card-agrees",), b"06"), ("before-answer-store:2", ("card-declines",), b"06"),
+                ("after-answer-store:2", ("card-declines",), b"06"), ("after-answer-store:2", ("card-agrees",), None)):
+            with self.subTest((point, words)):
+                self.store = os.path.join(self.folder, "-".join((point, *words)))
+                centre = self.centre()
+                self.desk(centre, WITH_CHIP, *words, kill=point, status=-signal.SIGKILL)
+                lines = self.desk(centre, "counts")
+                if reason:
+                    centre.wait_for(2)
+                    self.assertEqual([(a["type"], a.get(39), a[22], a[55]) for a in sorted(centre.asked, key=lambda a: a["type"])],
+                                     [("0200", None, "052", bytes.fromhex(CHIP)), ("0400", reason, "052", bytes.fromhex(CHIP))])
+                    self.assertEqual(lines[0], "last request: sale 000001: reversed 120.00 yuan, card %s, chip" % MASKED)
+                else:
+                    self.assertEqual(centre.types(), ["0200"])
+                    self.assertIn(": approved 120.00 yuan, card %s, chip, reference" % MASKED, lines[0])
+
+    def test_chip_does_not_outlast_its_request(self):
+        """Field 55 stands in the store while its request is out, and in none of its files once that has ended."""
+        secret = bytes.fromhex(CHIP)[:30]
+        for word, stands in (("card-agrees", False), ("card-declines", False), (None, True)):
+            with self.subTest(word):
+                self.store = os.path.join(self.folder, str(word))
+                centre = self.centre()
+                if word:
+                    self.desk(centre, WITH_CHIP, word)
+                else:
+                    self.desk(centre, WITH_CHIP, kill="after-told:1", status=-signal.SIGKILL)
+                data = b""
+                for name in os.listdir(self.folder):
+                    if name.startswith(str(word)):
+                        with open(os.path.join(self.folder, name), "rb") as file:
+                            data += file.read()
+                self.assertEqual(secret in data, stands)
+
+    def test_bad_chip(self):
+        centre = self.centre()
+        front = "sale 100 %s chip " % CARD
+        not_hexadecimal = [front + word for word in ("5A0", "5g", "0x5A", "--", "5A 00", "00" * 301, "5A-")]
+        out_of_form = [front + word for word in ("-", "5A", "9F", "8201", "8180", "82817F" + "00" * 127, "82008200", "00" * 300, CHIP + "5A00")]
+        counts = ["sale 100 %s chip" % CARD, "sale 100 %s chop 8200" % CARD, "refund 1 %s 000000000005 1116 chip 8200" % CARD,
+                  "sale-void 1 chip 8200", "sale 100 chip 8200"]
+        lines = self.desk(centre, *not_hexadecimal, *out_of_form, *counts)
+        self.assertEqual(lines[2:2 + len(not_hexadecimal)].count("error: the chip's data are hexadecimal, at most 300 bytes"),
+                         len(not_hexadecimal) - 1)
+        self.assertEqual(lines[2 + len(not_hexadecimal):-len(counts)],
+                         ["refused (23): the chip's data are out of form"] * len(out_of_form))
+        self.assertTrue(all(line.startswith("error: ") for line in lines[-len(counts):]), lines)
+        self.assertEqual(centre.asked, [])
 
     def test_noise_and_answers_to_something_else(self):
         centre = self.centre("noise", "foreign", "twice 00")
@@ -337,7 +492,7 @@ class DeskTest(unittest.TestCase):
         self.desk(centre, "sale 300 " + CARD, "sale 0 " + CARD, "sale-void 2", "sale-void 2")
         self.assertEqual(self.change("SELECT what FROM written"),
                          [("image",), ("image",), ("image",), ("image",), (2,), ("image",), ("image",), (1,), (3,)])
-        self.assertEqual(self.change("SELECT version FROM format"), [(1,)])
+        self.assertEqual(self.change("SELECT version FROM format"), [(2,)])
         self.assertEqual(os.stat(self.store).st_mode & 0o077, 0)
 
     def change(self, sql, *values):
@@ -374,7 +529,7 @@ class DeskTest(unittest.TestCase):
                 ("lost entry", lambda: self.change("DELETE FROM journal"), "have changed since they were stored"),
                 ("gap", lambda: self.change("UPDATE journal SET place = 5"), "its journal has gaps"),
                 ("no image", lambda: self.change("DELETE FROM state"), "it holds no image"),
-                ("format", lambda: self.change("UPDATE format SET version = 2"), "another format"),
+                ("format", lambda: self.change("UPDATE format SET version = 1"), "another format"),
                 ("other file", lambda: self.change("DROP TABLE format"), "no store of a desk")):
             with self.subTest(name):
                 self.store = os.path.join(self.folder, name)
@@ -424,7 +579,8 @@ class DeskTest(unittest.TestCase):
                           ["--store", ":memory:", "--centre", "127.0.0.1:1"],
                           ["--store", self.store, "--centre", "127.0.0.1"], ["--store", self.store, "--centre", "127.0.0.1:0"],
                           ["--store", self.store, "--centre", "127.0.0.1:9", "--timeout", "0"],
-                          ["--store", self.store, "--centre", "127.0.0.1:9", "--timeout", "nan"]):
+                          ["--store", self.store, "--centre", "127.0.0.1:9", "--timeout", "nan"],
+                          ["--store", self.store, "--centre", "127.0.0.1:9", "--card-timeout", "0"]):
             with self.subTest(arguments):
                 ran = subprocess.run([PROGRAMS["desk"], *arguments], text=True, capture_output=True, input="")
                 self.assertEqual((ran.returncode, ran.stdout), (2, ""))
@@ -445,8 +601,8 @@ class DeskTest(unittest.TestCase):
 
     def test_help_names_every_command(self):
         words = [line.split()[0] for line in self.desk(None, "help")[2:]]
-        self.assertEqual(words, ["sale", "sale-void", "refund", "authorise", "authorise-void", "complete", "complete-void", "settle",
-                                 "counts", "totals", "state", "journal", "doubtful", "help", "quit", "#"])
+        self.assertEqual(words, ["sale", "sale-void", "refund", "authorise", "authorise-void", "complete", "complete-void",
+                                 "card-agrees", "card-declines", "settle", "counts", "totals", "state", "journal", "doubtful", "help", "quit", "#"])
 
     def test_progress_while_it_waits(self):
         self.time_out = "1.5"

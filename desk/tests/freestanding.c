@@ -1,4 +1,4 @@
-/* Links the library with nothing but memcpy and memset, and makes a sale leave. Ends with status 0 where it does. */
+/* Links the library with nothing but memcpy and memset, and makes a sale with a chip leave. Ends with status 0 where it does. */
 #include "whistlaurel.h"
 
 void *memcpy(void *restrict to, const void *restrict from, size_t size);
@@ -36,7 +36,7 @@ static _Noreturn void end(long status)
 
 __attribute__((force_align_arg_pointer)) _Noreturn void _start(void)
 {
-    static const uint8_t terminal[8] = "LIB00001", merchant[15] = "WHISTLAUREL0001", none[12];
+    static const uint8_t terminal[8] = "LIB00001", merchant[15] = "WHISTLAUREL0001", none[12], chip[2] = {0x95, 0x00};
     static uint8_t image[WHISTLAUREL_IMAGE_SIZE], journal[WHISTLAUREL_ENTRY_SIZE], message[WHISTLAUREL_MESSAGE_SIZE];
     size_t length = 0;
     uint8_t result;
@@ -44,6 +44,6 @@ __attribute__((force_align_arg_pointer)) _Noreturn void _start(void)
     whistlaurel_fresh(image, sizeof image, 1, 3, 100000, terminal, merchant);
     whistlaurel_signed_on(image, sizeof image, journal, sizeof journal, message, sizeof message, &length, 1);
     result = whistlaurel_start(image, sizeof image, journal, sizeof journal, message, sizeof message, &length, WHISTLAUREL_SALE, 12000,
-                               6222021234567894, 16, 0, 0, 0, none, none);
-    end(result == WHISTLAUREL_SENDS && length == 76 ? 0 : 1);
+                               6222021234567894, 16, 0, 0, 0, none, none, true, chip, sizeof chip);
+    end(result == WHISTLAUREL_SENDS && length == 80 ? 0 : 1);
 }

@@ -29,12 +29,15 @@ static const uint8_t field_41[8] = {'L', 'I', 'B', '0', '0', '0', '0', '1'};
 static const uint8_t field_42[15] = {'W', 'H', 'I', 'S', 'T', 'L', 'A', 'U', 'R', 'E', 'L', '0', '0', '0', '1'};
 static const uint8_t authorisation[6] = {'B', '0', '0', '0', '0', '1'};
 static const uint8_t reference[12] = {'0', '0', '0', '0', '0', '0', '0', '0', '0', '0', '7', '7'};
+/* Field 55: two elements. */
+static const uint8_t field_55[8] = {0x9F, 0x26, 0x02, 0xA1, 0xB2, 0x95, 0x01, 0x00};
 static unsigned failures;
 
 static void sizes(void);
 static void settings(void);
 static void first_rows(void);
 static void reversal_phases(void);
+static void card_phases(void);
 static void closing_phases(void);
 static void kinds(void);
 static void entries(void);
@@ -42,6 +45,7 @@ static void refusals_of_memory(void);
 static void refusals_of_messages(void);
 static void refusals_of_phase(void);
 static void refusals_of_requests(void);
+static void refusals_of_chips(void);
 static void refusal_of_totals(void);
 
 int main(void)
@@ -50,6 +54,7 @@ int main(void)
     settings();
     first_rows();
     reversal_phases();
+    card_phases();
     closing_phases();
     kinds();
     entries();
@@ -57,6 +62,7 @@ int main(void)
     refusals_of_messages();
     refusals_of_phase();
     refusals_of_requests();
+    refusals_of_chips();
     refusal_of_totals();
     printf("header_test: %s\n", failures == 0 ? "every constant holds" : "failed");
     return failures == 0 ? 0 : 1;
@@ -93,7 +99,14 @@ static struct terminal terminal_of(uint32_t limit, uint8_t sendings)
 
 static uint8_t start(struct terminal *t, enum whistlaurel_kind kind, uint64_t amount, uint32_t original)
 {
-    return whistlaurel_start(LENT(t), (uint8_t)kind, amount, CARD, CARD_LENGTH, original, 11, 16, authorisation, reference);
+    return whistlaurel_start(LENT(t), (uint8_t)kind, amount, CARD, CARD_LENGTH, original, 11, 16, authorisation, reference, false, field_55,
+                             0);
+}
+
+/* A request of 100 fen whose card is read by its chip. */
+static uint8_t start_chip(struct terminal *t, enum whistlaurel_kind kind, const uint8_t *chip, size_t size)
+{
+    return whistlaurel_start(LENT(t), (uint8_t)kind, 100, CARD, CARD_LENGTH, 0, 11, 16, authorisation, reference, true, chip, size);
 }
 
 /* Appends a field and names it in the bitmap. */
@@ -224,7 +237,7 @@ static void first_rows(void)
     struct terminal t = terminal_of(10, 2);
     uint64_t n;
 
-    HOLDS(number(&t, WHISTLAUREL_VERSION) == 1 && word_of(t.image, 2) == 1);
+    HOLDS(number(&t, WHISTLAUREL_VERSION) == 2 && word_of(t.image, 2) == 2);
     HOLDS(number(&t, WHISTLAUREL_ENTRY_LIMIT) == 10);
     HOLDS(number(&t, WHISTLAUREL_SENDINGS) == 2);
     HOLDS(number(&t, WHISTLAUREL_REFUND_LIMIT) == 100000);
@@ -277,6 +290,58 @@ static void reversal_phases(void)
     HOLDS(start(&t, WHISTLAUREL_SALE, 500, 0) == WHISTLAUREL_SENDS);
     HOLDS(reply(&t, "51", 0, true) == WHISTLAUREL_QUIET);
     counts_are(&t, (uint64_t[]){5, 1, 1, 1, 1, 1});
+}
+
+/* The message that left holds this field 55, and says in field 22 that the chip was read; with reason, for a reversal. */
+static void chip_left(const struct terminal *t, const char *reason)
+{
+    uint8_t field[WHISTLAUREL_MOST_CHIP_BYTES];
+    size_t count = 0;
+
+    HOLDS(whistlaurel_field(t->message, t->length, 55, field, sizeof field, &count) == 0);
+    HOLDS(count == sizeof field_55 && memcmp(field, field_55, sizeof field_55) == 0);
+    HOLDS(whistlaurel_field(t->message, t->length, 22, field, sizeof field, &count) == 0 && memcmp(field, "\x05\x20", 2) == 0);
+    if (reason != NULL) {
+        HOLDS(whistlaurel_field(t->message, t->length, 39, field, sizeof field, &count) == 0 && memcmp(field, reason, 2) == 0);
+    }
+}
+
+/* A request with a chip up to the card's word: agreed, declined, silent. */
+static void card_phases(void)
+{
+    struct terminal t = terminal_of(10, 1);
+    uint64_t rows[WHISTLAUREL_ROWS] = {
+        [WHISTLAUREL_REQUEST_KIND] = WHISTLAUREL_SALE,   [WHISTLAUREL_REQUEST_AMOUNT] = 100,
+        [WHISTLAUREL_REQUEST_CARD_NUMBER] = CARD,        [WHISTLAUREL_REQUEST_CARD_LENGTH] = CARD_LENGTH,
+        [WHISTLAUREL_REQUEST_TRACE] = 1,                 [WHISTLAUREL_CHIP_LENGTH] = sizeof field_55,
+    };
+
+    HOLDS(start_chip(&t, WHISTLAUREL_SALE, field_55, sizeof field_55) == WHISTLAUREL_SENDS);
+    chip_left(&t, NULL);
+    phase_is(&t, WHISTLAUREL_REQUEST_AWAITED, rows);
+    HOLDS(reply(&t, "00", 0, true) == WHISTLAUREL_QUIET);
+    rows[WHISTLAUREL_CARD_AWAITED] = 1;
+    phase_is(&t, WHISTLAUREL_REQUEST_AWAITED, rows);
+    counts_are(&t, (uint64_t[]){1, 0, 0, 0, 0, 0});
+    HOLDS(whistlaurel_card_agrees(LENT(&t)) == WHISTLAUREL_QUIET);
+    phase_is(&t, WHISTLAUREL_RESTING, (uint64_t[WHISTLAUREL_ROWS]){0});
+    counts_are(&t, (uint64_t[]){1, 1, 0, 0, 0, 0});
+    HOLDS(start_chip(&t, WHISTLAUREL_SALE, field_55, sizeof field_55) == WHISTLAUREL_SENDS);
+    HOLDS(reply(&t, "00", 0, true) == WHISTLAUREL_QUIET);
+    HOLDS(whistlaurel_card_declines(LENT(&t)) == WHISTLAUREL_QUIET);
+    rows[WHISTLAUREL_REQUEST_TRACE] = 2;
+    rows[WHISTLAUREL_REVERSAL_REASON] = 2;
+    rows[WHISTLAUREL_CARD_AWAITED] = 0;
+    phase_is(&t, WHISTLAUREL_PENDING, rows);
+    HOLDS(whistlaurel_send_reversal(LENT(&t)) == WHISTLAUREL_SENDS);
+    chip_left(&t, "06");
+    HOLDS(reply(&t, "00", 0, true) == WHISTLAUREL_QUIET);
+    phase_is(&t, WHISTLAUREL_RESTING, (uint64_t[WHISTLAUREL_ROWS]){0});
+    HOLDS(start_chip(&t, WHISTLAUREL_AUTHORISATION, field_55, sizeof field_55) == WHISTLAUREL_SENDS);
+    HOLDS(reply(&t, "00", 0, true) == WHISTLAUREL_QUIET);
+    HOLDS(whistlaurel_no_answer(LENT(&t)) == WHISTLAUREL_QUIET);
+    HOLDS(number(&t, WHISTLAUREL_PHASE) == WHISTLAUREL_PENDING && number(&t, WHISTLAUREL_REVERSAL_REASON) == 2);
+    counts_are(&t, (uint64_t[]){3, 1, 0, 1, 0, 0});
 }
 
 /* Settlement and upload, and the marks of an entry on the way. */
@@ -415,6 +480,8 @@ static void refusals_of_messages(void)
     refused_message(&t, 2, "\x12", 1, WHISTLAUREL_LENGTH_NOT_ALLOWED);
     refused_message(&t, 39, "0\x1F", 2, WHISTLAUREL_NOT_PRINTABLE);
     refused_message(&t, 39, "000", 3, WHISTLAUREL_BYTES_FOLLOW);
+    refused_message(&t, 55, "\x00\x00", 2, WHISTLAUREL_LENGTH_NOT_ALLOWED);
+    refused_message(&t, 55, "\x00\x02\x95\x01", 4, WHISTLAUREL_CHIP_OUT_OF_FORM);
 }
 
 static void refusals_of_phase(void)
@@ -457,6 +524,33 @@ static void refusals_of_requests(void)
     HOLDS(start(&t, WHISTLAUREL_SALE_VOID, 0, 1) == WHISTLAUREL_VOIDED_ALREADY);
     approve(&t, WHISTLAUREL_REFUND, 100000, 0);
     HOLDS(start(&t, WHISTLAUREL_SALE, 100, 0) == WHISTLAUREL_JOURNAL_FULL);
+}
+
+static void refusals_of_chips(void)
+{
+    struct terminal t = terminal_of(10, 3);
+    uint8_t chip[WHISTLAUREL_MOST_CHIP_BYTES + 1] = {0x9F, 0x10, 0x81, WHISTLAUREL_MOST_CHIP_BYTES - 4};
+    uint8_t image[WHISTLAUREL_IMAGE_SIZE];
+    struct answer late;
+
+    memcpy(image, t.image, sizeof image);
+    HOLDS(start_chip(&t, WHISTLAUREL_SALE, field_55, 0) == WHISTLAUREL_CHIP_OUT_OF_FORM);
+    HOLDS(start_chip(&t, WHISTLAUREL_SALE, field_55, sizeof field_55 - 1) == WHISTLAUREL_CHIP_OUT_OF_FORM);
+    chip[3]++;
+    HOLDS(start_chip(&t, WHISTLAUREL_SALE, chip, sizeof chip) == WHISTLAUREL_CHIP_OUT_OF_FORM);
+    HOLDS(memcmp(image, t.image, sizeof image) == 0 && t.length == 0);
+    HOLDS(start_chip(&t, WHISTLAUREL_REFUND, field_55, 0) == WHISTLAUREL_SENDS);
+    HOLDS(number(&t, WHISTLAUREL_CHIP_LENGTH) == 0);
+    HOLDS(whistlaurel_no_answer(LENT(&t)) == WHISTLAUREL_QUIET);
+    chip[3]--;
+    HOLDS(start_chip(&t, WHISTLAUREL_SALE, chip, WHISTLAUREL_MOST_CHIP_BYTES) == WHISTLAUREL_SENDS);
+    late = answer_to(&t, "00", 0);
+    HOLDS(whistlaurel_card_agrees(LENT(&t)) == WHISTLAUREL_NOTHING_TO_DO);
+    HOLDS(whistlaurel_answer(LENT(&t), late.bytes, late.size, true) == WHISTLAUREL_QUIET);
+    HOLDS(whistlaurel_answer(LENT(&t), late.bytes, late.size, true) == WHISTLAUREL_NOTHING_TO_DO);
+    HOLDS(start(&t, WHISTLAUREL_SALE, 100, 0) == WHISTLAUREL_AWAITED);
+    HOLDS(whistlaurel_card_agrees(LENT(&t)) == WHISTLAUREL_QUIET);
+    HOLDS(whistlaurel_card_declines(LENT(&t)) == WHISTLAUREL_NOTHING_TO_DO);
 }
 
 static void refusal_of_totals(void)

@@ -19,6 +19,8 @@ int main()
                                   WHISTLAUREL_LARGEST_REFUND, terminal.data(), merchant.data()) == WHISTLAUREL_QUIET;
     good = good && whistlaurel_signed_on(image.data(), image.size(), journal.data(), journal.size(), message.data(), message.size(),
                                          &length, 1) == WHISTLAUREL_QUIET;
+    good = good && whistlaurel_card_agrees(image.data(), image.size(), journal.data(), journal.size(), message.data(), message.size(),
+                                           &length) == WHISTLAUREL_NOTHING_TO_DO;
     good = good && whistlaurel_settle(image.data(), image.size(), journal.data(), journal.size(), message.data(), message.size(),
                                       &length) == WHISTLAUREL_SENDS;
     good = good && whistlaurel_read(message.data(), length) == WHISTLAUREL_QUIET;

@@ -14,7 +14,7 @@ use Rattle.numbers.specs.Numbers.{within}
 use Rattle.digits.specs.Digits.{half, bytesFor, unpack, packedByte, pack, halfAllowed, isPacked, allDigits, packable}
 use Rattle.digits.specs.Numbers.{digitsOf}
 use Rattle.digits.proofs.Lists.{getD-past, all-true}
-use Rattle.digits.proofs.Packing.{length-pack, length-unpack, getD-pack, getD-unpack, digit-at, digits-all, half-pack, packed-pack}
+use Rattle.digits.proofs.Packing.{length-pack, length-unpack, getD-pack, getD-unpack, digit-at, digits-all, half-pack, packed-pack, packed-length}
 use Rattle.digits.proofs.Numbers.{length-digitsOf, digitsOf-digits, value-digitsOf}
 use Rattle.digits.specs.Packed.{packedNumber}
 use Rattle.digits.proofs.Packed.{number-value}
@@ -24,14 +24,15 @@ use Rattle.kinds.specs.Kinds.{isKind}
 use Rattle.message.specs.Message.{fieldOf}
 use Rattle.message.specs.declared.Message.{Message}
 use Rattle.parts.specs.Parts.{copies}
-use Rattle.entry.specs.declared.Entry.{Entry}
 use Rattle.entry.specs.Entry.{allZero}
 use Rattle.entry.specs.Form.{cardInForm, inForm}
 use Rattle.entry.specs.Theorems.{Shaped}
 use Rattle.entry.proofs.Form.{isNought}
+use Rattle.state.specs.declared.Approval.{Approval}
 use Rattle.state.specs.declared.Card.{Card}
 use Rattle.state.specs.declared.Request.{Request}
-use Rattle.approval.specs.Approval.{fieldOr, zeroFilled, approvedEntry}
+use Rattle.state_rules.proofs.Holds.{ApprovalHolds}
+use Rattle.approval.specs.Approval.{fieldOr, zeroFilled, approvalOf, approvedEntry}
 
 -- each place holds a zero
 abbrev Zeros : List ℕ → Type 0
@@ -126,29 +127,14 @@ filled c {e} old h d q =
     (drop (c .length) z) (zeros-drop (c .length) z (zeros-replicate 275)) (omega (arith, length-drop (c .length) z))) in
     q ∙ rw (s, filled-packable c)
 
--- the parts of an entry, made one by one
-pub entry-is : (q : Request) (m : Message) {card date authorisation reference : List ℕ} → card ≡ zeroFilled (q .card)
+-- the parts of an approval, made one by one
+pub approval-is : (m : Message) {date authorisation reference : List ℕ}
     → date ≡ cond (copies m 13 2) (fieldOf m 13 .bytes) (replicate 2 0)
     → authorisation ≡ cond (copies m 38 6) (fieldOf m 38 .bytes) (replicate 6 0x20)
     → reference ≡ cond (copies m 37 12) (fieldOf m 37 .bytes) (replicate 12 0)
-    → _≡_ {A = Entry}
-    (record {
-      kind = q .kind;
-      voided = 0;
-      mark = 0;
-      resends = 0;
-      trace = q .trace;
-      amount = q .amount;
-      digits = q .card .length;
-      card = card;
-      date = date;
-      authorisation = authorisation;
-      reference = reference;
-      reserved = replicate 4 0;
-    })
-    (approvedEntry q m)
-unfolding approvedEntry fieldOr
-entry-is q m c d a r = rw (c, d, a, r)
+    → _≡_ {A = Approval} (record { date = date; authorisation = authorisation; reference = reference }) (approvalOf m)
+unfolding approvalOf fieldOr
+approval-is m d a r = rw (d, a, r)
 
 module _ (c : Card) where
   pub length-card : length (zeroFilled c) ≡ 10
@@ -228,17 +214,6 @@ module _ (m : Message) (n k : ℕ) (b : List ℕ) where
       go true false h = e
       go false s h = e
 
-pub shaped : (q : Request) (m : Message) → Shaped (approvedEntry q m)
-unfolding approvedEntry
-shaped q m =
-    record {
-      card-length = length-card (q .card);
-      date-length = field-length m 13 2 (replicate 2 0) refl;
-      authorisation-length = field-length m 38 6 (replicate 6 0x20) refl;
-      reference-length = field-length m 37 12 (replicate 12 0) refl;
-      reserved-length = refl;
-    }
-
 -- what stands for a field is in form
 no-date : isPacked 4 (replicate 2 0) ≡ true
 unfolding isPacked halfAllowed half
@@ -248,15 +223,38 @@ spaces : allPrintable (replicate 6 0x20) ≡ true
 unfolding allPrintable
 spaces = refl
 
--- the entry of a request in form and an answer that was read is in form
-pub in-form : (q : Request) (m : Message) → isKind (q .kind) ≡ true → 1 ≤ q .trace .0 → q .trace .0 ≤ lastNumber
-    → 1 ≤ q .amount → q .amount ≤ largestAmount → 13 ≤ q .card .length → q .card .length ≤ 19
-    → (names (m .bitmap) 13 ≡ true → isPacked 4 (fieldOf m 13 .bytes) ≡ true)
+-- what an answer that was read and holds field 37 says is in form
+pub answer-holds : (m : Message) → (names (m .bitmap) 13 ≡ true → isPacked 4 (fieldOf m 13 .bytes) ≡ true)
     → names (m .bitmap) 37 ≡ true → length (fieldOf m 37 .bytes) ≡ 12 → allPrintable (fieldOf m 37 .bytes) ≡ true
     → (names (m .bitmap) 38 ≡ true → allPrintable (fieldOf m 38 .bytes) ≡ true)
-    → inForm (approvedEntry q m) ≡ true
+    → ApprovalHolds (approvalOf m)
+unfolding approvalOf
+answer-holds m date named size reference authorisation =
+    record {
+      date-packed = field-exceeds m 13 2 (replicate 2 0) (isPacked 4) no-date date;
+      authorisation-length = field-length m 38 6 (replicate 6 0x20) refl;
+      authorisation-printable = field-exceeds m 38 6 (replicate 6 0x20) allPrintable spaces authorisation;
+      reference-length = field-length m 37 12 (replicate 12 0) refl;
+      reference-printable = rw (field-there m 37 12 (replicate 12 0) named size) reference;
+    }
+
+pub shaped : (q : Request) (a : Approval) → ApprovalHolds a → Shaped (approvedEntry q a)
+unfolding approvedEntry
+shaped q a h =
+    record {
+      card-length = length-card (q .card);
+      date-length = packed-length 4 (a .date) (h .date-packed);
+      authorisation-length = h .authorisation-length;
+      reference-length = h .reference-length;
+      reserved-length = refl;
+    }
+
+-- the entry of a request in form and such an approval is in form
+pub in-form : (q : Request) (a : Approval) → isKind (q .kind) ≡ true → 1 ≤ q .trace .0 → q .trace .0 ≤ lastNumber
+    → 1 ≤ q .amount → q .amount ≤ largestAmount → 13 ≤ q .card .length → q .card .length ≤ 19 → ApprovalHolds a
+    → inForm (approvedEntry q a) ≡ true
 unfolding approvedEntry inForm within allZero
-in-form q m kind t₁ t₂ a₁ a₂ c₁ c₂ date named size reference authorisation =
+in-form q a kind t₁ t₂ a₁ a₂ c₁ c₂ h =
     rw (
       kind,
       le-leb 1 (q .trace .0) t₁,
@@ -264,8 +262,7 @@ in-form q m kind t₁ t₂ a₁ a₂ c₁ c₂ date named size reference authori
       le-leb 1 (q .amount) a₁,
       le-leb (q .amount) largestAmount a₂,
       card-in-form (q .card) c₁ c₂,
-      field-exceeds m 13 2 (replicate 2 0) (isPacked 4) no-date date,
-      field-exceeds m 38 6 (replicate 6 0x20) allPrintable spaces authorisation,
-      field-there m 37 12 (replicate 12 0) named size,
-      reference,
+      h .date-packed,
+      h .authorisation-printable,
+      h .reference-printable,
     )

@@ -9,6 +9,7 @@ use Rattle.message.specs.Message.{fieldOf}
 use Rattle.message.specs.declared.Message.{Message}
 use Rattle.parts.specs.Parts.{copies}
 use Rattle.entry.specs.declared.Entry.{Entry}
+use Rattle.state.specs.declared.Approval.{Approval}
 use Rattle.state.specs.declared.Card.{Card}
 use Rattle.state.specs.declared.Request.{Request}
 
@@ -21,12 +22,18 @@ unfoldable pub zeroFilled : Card → List ℕ
 zeroFilled c = pack (take 20 (digitsOf (c .length) (c .number) ++ replicate 20 0))
 
 -- its date the answer's field 13; without field 38 it gives six spaces
-unfoldable pub approvedEntry : Request → Message → Entry
-approvedEntry q m =
+unfoldable pub approvalOf : Message → Approval
+approvalOf m =
+    record {
+      date = fieldOr 13 2 (replicate 2 0) m;
+      authorisation = fieldOr 38 6 (replicate 6 0x20) m;
+      reference = fieldOr 37 12 (replicate 12 0) m }
+
+-- the entry of a request that is approved
+unfoldable pub approvedEntry : Request → Approval → Entry
+approvedEntry q a =
     record {
       kind = q .kind; voided = 0; mark = 0; resends = 0; trace = q .trace; amount = q .amount;
       digits = q .card .length; card = zeroFilled (q .card);
-      date = fieldOr 13 2 (replicate 2 0) m;
-      authorisation = fieldOr 38 6 (replicate 6 0x20) m;
-      reference = fieldOr 37 12 (replicate 12 0) m;
+      date = a .date; authorisation = a .authorisation; reference = a .reference;
       reserved = replicate 4 0 }

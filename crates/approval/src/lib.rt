@@ -1,24 +1,39 @@
 // The entry of an approval, and the card of an entry (document 01, "State and journal" and "Calls").
 use entry::Entry;
 use message::Message;
+use state::Approval;
 use state::Card;
 use state::Request;
 ghost use mathlib.Core.Path.{_≡_};
 ghost use Rattle.approval.specs.Cards.{cardOf};
-ghost use Rattle.approval.specs.Approval.{zeroFilled, fieldOr, approvedEntry};
+ghost use Rattle.approval.specs.Approval.{zeroFilled, approvalOf, approvedEntry};
 
-// The entry that a good answer to a request makes.
-pub fn approved_entry(q: Request, m: Message) -> Entry
-    ensures { λ r. ⌜ r ≡ approvedEntry q m ⌝ }
+// What an entry takes from the answer that approves its request.
+pub fn approval_of(m: Message) -> Approval
+    ensures { λ r. ⌜ r ≡ approvalOf m ⌝ }
 {
-    let card = q.card;
-    let trace = q.trace;
     let mut date = [0u8; 2];
     let mut authorisation = [0x20u8; 6];
     let mut reference = [0u8; 12];
     parts::field_into(m, 13, &mut date);
     parts::field_into(m, 38, &mut authorisation);
     parts::field_into(m, 37, &mut reference);
+    Approval {
+        date: date,
+        authorisation: authorisation,
+        reference: reference,
+    }
+}
+
+// The entry that an approval of a request makes.
+pub fn approved_entry(q: Request, a: Approval) -> Entry
+    ensures { λ r. ⌜ r ≡ approvedEntry q a ⌝ }
+{
+    let card = q.card;
+    let trace = q.trace;
+    let date = a.date;
+    let authorisation = a.authorisation;
+    let reference = a.reference;
     Entry {
         kind: q.kind,
         voided: 0,

@@ -93,6 +93,10 @@ fn answer_in(s: State, m: Message, good: bool, journal: &mut [u8]) -> Called
     let Phase::Waiting(a) = phase else {
         return Called::refused(s, 14);
     };
+    let chip = s.chip;
+    if chip.approved {
+        return Called::refused(s, 14);
+    }
     let settings = s.settings;
     let trace = trace_sent(a, s.entries, journal);
     if answer_match::is_answer(settings, batch_sent(s), trace, a, m) {

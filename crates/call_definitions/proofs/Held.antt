@@ -25,7 +25,8 @@ use Rattle.state_rules.proofs.Holds.{card-holds, room-for-one}
 use Rattle.outgoing.specs.Held.{OriginalHeld}
 use Rattle.desk.specs.declared.Desk.{Desk}
 use Rattle.call_definitions.specs.Start.{originalOf, entryOf, namedBy}
-use Rattle.desk.specs.DeskRules.{deskInForm, requestOf}
+use Rattle.desk.specs.DeskRules.{chipFrom, deskInForm, requestOf}
+use Rattle.desk.proofs.Chips.{chip-sent-form}
 use Rattle.approval.specs.Cards.{cardOf}
 use Rattle.call_definitions.specs.Sending.{MaySend}
 use Rattle.call_definitions.proofs.Refusals.{Unbroken}
@@ -107,10 +108,10 @@ module _ (d : Desk) (e : Entry) (k : Keyed d) (f : takesOriginal (d .kind) ≡ t
           }
 
 -- a request that no rule refuses may send
-module _ (d : Desk) (s : State) (lent : Lent) (terminal : length (s .settings .terminal) ≡ 8) (merchant : length (s .settings .merchant) ≡ 15)
+module _ (d : Desk) (b : List ℕ) (s : State) (lent : Lent) (terminal : length (s .settings .terminal) ≡ 8) (merchant : length (s .settings .merchant) ≡ 15)
     (reference : length (d .reference) ≡ 12) (authorisation : length (d .authorisation) ≡ 6) where
-  pub may-send : (trace : ℕ) → Unbroken d s (entriesOf (s .entries) (lent .journal)) lent
-      → MaySend s (requestOf d (entryOf (originalOf d (entriesOf (s .entries) (lent .journal))) (entriesOf (s .entries) (lent .journal))) trace)
+  pub may-send : (trace : ℕ) → Unbroken d b s (entriesOf (s .entries) (lent .journal)) lent
+      → MaySend s (chipFrom d b) (requestOf d (entryOf (originalOf d (entriesOf (s .entries) (lent .journal))) (entriesOf (s .entries) (lent .journal))) trace)
       (namedBy d (s .batch) (entryOf (originalOf d (entriesOf (s .entries) (lent .journal))) (entriesOf (s .entries) (lent .journal)))) (lent .message)
   may-send trace u =
       let es = entriesOf (s .entries) (lent .journal) in
@@ -127,6 +128,7 @@ module _ (d : Desk) (s : State) (lent : Lent) (terminal : length (s .settings .t
           merchant-length = merchant;
           terminal-printable = x .terminal-printable;
           merchant-printable = x .merchant-printable;
+          chip-form = chip-sent-form d b (u .chip);
         };
         original = texts-held d e k f (s .batch) (entry-of-shaped (originalOf d es) (s .entries) (lent .journal)) reference authorisation;
         room = u .fits .message-room;

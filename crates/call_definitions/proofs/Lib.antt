@@ -2,3 +2,4 @@
 pub mod Theorems
 pub mod Refusals
 pub mod Held
+pub mod Quietly

@@ -1,23 +1,48 @@
 -- The statements of specs/Theorems.antt.
-use mathlib.Core.Path.{_≡_, ap}
+use mathlib.Core.Path.{_≡_, refl, ap, sym}
+use mathlib.Core.Bool.{true, false, not, or-true}
 use Prim.Native.Nat.{ℕ}
+use native.Mathlib.Omega.{arith}
 use Rattle.checks.specs.Checks.{firstBroken}
-use Rattle.effect_definitions.specs.JournalEffects.{silent}
+use Rattle.checks.proofs.Choices.{last-broken, last-kept}
+use Rattle.rules.specs.Rules.{rules12}
+use Rattle.effect_definitions.specs.JournalEffects.{silent, approved, agreed}
 use Rattle.effect_definitions.specs.StateEffects.{pendingOrUnanswered}
 use Rattle.state.specs.Calls.{Lent, Result, judged}
+use Rattle.state.specs.State.{isWaiting}
 use Rattle.state.specs.declared.State.{State}
-use Rattle.call_definitions.specs.Answer.{answer, powerReturned}
+use Rattle.call_definitions.specs.Answer.{answer, powerReturned, awaitsCard, cardRules, cardAgrees, cardDeclines}
 use Rattle.call_definitions.specs.SendReversal.{sendReversal}
 use Rattle.call_definitions.specs.Start.{start}
-use Rattle.call_definitions.specs.Theorems.{LateAnswerRefused, PowerMakesReversal, PowerSignsOff, StartTakesTrace, ReversalOfRequest}
+use Rattle.call_definitions.specs.Theorems.{LateAnswerRefused, AnswerToCardRefused, LateCardRefused, ConsentAddsEntry, PowerMakesReversal, PowerSignsOff, StartTakesTrace, ReversalOfRequest}
 
 pub late-answer-refused : LateAnswerRefused
 unfolding answer judged firstBroken
 late-answer-refused b good s lent h r w = rw (h, r, w)
 
+pub answer-to-card-refused : AnswerToCardRefused
+unfolding answer judged firstBroken
+answer-to-card-refused b good s lent h r w = rw (h, r, w, or-true (not (isWaiting s)))
+
+-- the rules of the card's word, once 1 and 2 pass
+module _ (s : State) (lent : Lent) (h : firstBroken (rules12 s lent) ≡ 0) where
+  card-refused : awaitsCard s ≡ false → firstBroken (cardRules s lent) ≡ 14
+  card-refused w = sym (last-broken (rules12 s lent) (firstBroken (rules12 s lent)) refl refl h 14 (not (awaitsCard s)) (rw w))
+
+  card-heard : awaitsCard s ≡ true → firstBroken (cardRules s lent) ≡ 0
+  card-heard w = sym (last-kept (rules12 s lent) (firstBroken (rules12 s lent)) refl refl h 14 (not (awaitsCard s)) (rw w))
+
+pub late-card-refused : LateCardRefused
+unfolding cardAgrees cardDeclines judged
+late-card-refused d b s lent h w = (rw (card-refused s lent h w), rw (card-refused s lent h w))
+
+pub consent-adds-entry : ConsentAddsEntry
+unfolding cardAgrees judged agreed approved
+consent-adds-entry q s lent h w p = (rw (card-heard s lent h w, p) (omega arith), rw (card-heard s lent h w, p))
+
 pub power-makes-reversal : PowerMakesReversal
 unfolding powerReturned judged silent pendingOrUnanswered
-power-makes-reversal q s lent h p n = rw (h, p, n)
+power-makes-reversal q s lent h p w n = rw (h, p, w, n)
 
 pub power-signs-off : PowerSignsOff
 unfolding powerReturned judged
@@ -30,7 +55,7 @@ done n s lent r h = rw h
 
 pub start-takes-trace : StartTakesTrace
 unfolding start
-start-takes-trace d s lent h = ap (λ r. r .state .next .0) (done _ s lent _ h)
+start-takes-trace d b s lent h = ap (λ r. r .state .next .0) (done _ s lent _ h)
 
 pub reversal-of-request : ReversalOfRequest
 unfolding sendReversal judged

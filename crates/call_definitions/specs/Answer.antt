@@ -1,6 +1,6 @@
--- Document 01, "Calls": answer (bytes, MAC good or bad); no answer; power returned.
+-- Document 01, "Calls": answer (bytes, MAC good or bad); no answer; power returned. Document 02, request 1: card agrees; card declines.
 use mathlib.Core.List.{List, [], _∷_, _++_}
-use mathlib.Core.Bool.{Bool, false, not}
+use mathlib.Core.Bool.{Bool, false, not, _||_}
 use Prim.Native.Nat.{ℕ}
 use Rattle.message.specs.declared.Message.{Message}
 use Rattle.reading.specs.Reading.{readMessage}
@@ -20,7 +20,7 @@ use Rattle.checks.specs.Checks.{Rule, rule, firstBroken}
 use Rattle.state.specs.Calls.{Lent, withJournal, Result, judged, refused, quiet}
 use Rattle.rules.specs.Rules.{rules12}
 use Rattle.answer_match.specs.Match.{isAnswer}
-use Rattle.effect_definitions.specs.JournalEffects.{Changed, changed, silentIn, answered}
+use Rattle.effect_definitions.specs.JournalEffects.{Changed, changed, silentIn, answered, agreedIn}
 
 abbrev pub quietly : Changed → Lent → Result
 quietly c lent = quiet (c .state) (withJournal (c .journal) lent)
@@ -37,6 +37,20 @@ withoutPower c lent = quiet (signed false (c .state)) (withJournal (c .journal) 
 
 unfoldable pub powerReturned : State → Lent → Result
 powerReturned s lent = judged (firstBroken (rules12 s lent)) s lent (withoutPower (silentIn (s .phase) s (lent .journal)) lent)
+
+-- the card's word is awaited, and nothing from the centre
+abbrev pub awaitsCard : State → Bool
+awaitsCard s = s .chip .approved
+
+abbrev pub cardRules : State → Lent → List Rule
+cardRules s lent = rules12 s lent ++ (rule 14 (not (awaitsCard s)) ∷ [])
+
+unfoldable pub cardAgrees : State → Lent → Result
+cardAgrees s lent = judged (firstBroken (cardRules s lent)) s lent (quietly (agreedIn (s .phase) s (lent .journal)) lent)
+
+-- a card that declines acts as one that is silent
+unfoldable pub cardDeclines : State → Lent → Result
+cardDeclines s lent = judged (firstBroken (cardRules s lent)) s lent (quietly (silentIn (s .phase) s (lent .journal)) lent)
 
 -- the trace that was sent; reversals and upload items reuse the original's
 abbrev pub traceSent : List Entry → Awaited → Trace
@@ -68,7 +82,7 @@ answeredIn Uploading good a s j = changed s j
 -- 14 and 22, for a message that reads
 abbrev pub answerRules : Message → State → List ℕ → List Rule
 answerRules a s j =
-    rule 14 (not (isWaiting s)) ∷ rule 22 (not (answersIn (s .phase) (entriesOf (s .entries) j) s a)) ∷ []
+    rule 14 (not (isWaiting s) || awaitsCard s) ∷ rule 22 (not (answersIn (s .phase) (entriesOf (s .entries) j) s a)) ∷ []
 
 abbrev pub answerIn : Bool → Message → State → Lent → Result
 answerIn good a s lent =

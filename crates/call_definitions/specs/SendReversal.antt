@@ -19,7 +19,7 @@ sendReversalRules s lent = idleRules s lent ++ (rule 14 (not (isPending s)) ∷ 
 
 abbrev pub sendsReversal : Reversal → State → Lent → Result
 sendsReversal v s lent =
-    sends (messageBytes (reversalMessage (s .settings) (s .batch) v)) (inPhase (Waiting (awaited.Reversal v)) s) lent
+    sends (messageBytes (reversalMessage (s .settings) (s .batch) (s .chip) v)) (inPhase (Waiting (awaited.Reversal v)) s) lent
 
 -- the pending reversal leaves; the rules let no other phase pass
 abbrev pub sendFrom : Phase → State → Lent → Result

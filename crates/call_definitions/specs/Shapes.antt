@@ -3,7 +3,7 @@ use mathlib.Core.Path.{_≡_}
 use Prim.Native.Nat.{ℕ}
 use lib.ListN.{length}
 use Rattle.state.specs.declared.Settings.{Settings}
-use Rattle.call_definitions.specs.Events.{Event, signed-on, starts, answers, no-answer, power-returned, send-reversal, settles, send-next-upload}
+use Rattle.call_definitions.specs.Events.{Event, signed-on, starts, answers, no-answer, power-returned, card-agrees, card-declines, send-reversal, settles, send-next-upload}
 
 pub record SettingsShaped (x : Settings) : Type 0 where
   pub terminal-length : length (x .terminal) ≡ 8
@@ -11,10 +11,12 @@ pub record SettingsShaped (x : Settings) : Type 0 where
 
 abbrev pub EventShaped : Event → Type 0
 EventShaped (signed-on batch) = Unit {0}
-EventShaped (starts d) = (length (d .authorisation) ≡ 6) × (length (d .reference) ≡ 12)
+EventShaped (starts d b) = (length (d .authorisation) ≡ 6) × (length (d .reference) ≡ 12)
 EventShaped (answers b good) = Unit {0}
 EventShaped no-answer = Unit {0}
 EventShaped power-returned = Unit {0}
+EventShaped card-agrees = Unit {0}
+EventShaped card-declines = Unit {0}
 EventShaped send-reversal = Unit {0}
 EventShaped settles = Unit {0}
 EventShaped send-next-upload = Unit {0}

@@ -1,7 +1,7 @@
--- Document 01, "Calls": start (kind and desk data): the request leaves.
+-- Document 01, "Calls": start (kind and desk data): the request leaves. Document 02, request 1: with the desk's field 55.
 use mathlib.Core.List.{List, _++_}
 use mathlib.Core.Bool.{cond}
-use Prim.Native.Nat.{_+_, _*_}
+use Prim.Native.Nat.{ℕ, _+_, _*_}
 use Rattle.digits.specs.Packed.{packedNumber}
 use Rattle.writing.specs.Writing.{messageBytes}
 use Rattle.numbers.specs.declared.Batch.{Batch}
@@ -18,7 +18,7 @@ use Rattle.rules.specs.Rules.{rules12}
 use Rattle.outgoing.specs.Outgoing.{requestMessage}
 use Rattle.outgoing.specs.declared.Original.{Original}
 use Rattle.desk.specs.declared.Desk.{Desk}
-use Rattle.desk.specs.DeskRules.{requestOf, restRules, deskRules, journalRules}
+use Rattle.desk.specs.DeskRules.{chipFrom, requestOf, chipRules, restRules, deskRules, journalRules}
 use Rattle.effect_definitions.specs.StateEffects.{requested}
 
 -- the entry that a void is for, by the trace that the desk gives; no other kind has one
@@ -41,17 +41,19 @@ namedBy d batch e =
         authorisation = d .authorisation; reference = d .reference })
 
 -- the rules of start, in their order
-abbrev pub startRules : Desk → State → List Entry → Entry → Lent → List Rule
-startRules d s es e lent =
-    rules12 s lent ++ (restRules s ++ (deskRules d (s .settings .refund) ++ journalRules d s (totalsOf es) (originalOf d es) e))
+abbrev pub startRules : Desk → List ℕ → State → List Entry → Entry → Lent → List Rule
+startRules d b s es e lent =
+    rules12 s lent ++ (chipRules d b ++ (restRules s ++ (deskRules d (s .settings .refund) ++ journalRules d s (totalsOf es) (originalOf d es) e)))
 
-abbrev started : Desk → State → List Entry → Entry → Lent → Result
-started d s es e lent =
-    judged (firstBroken (startRules d s es e lent)) s lent
-      (sends (messageBytes (requestMessage (s .settings) (s .batch) (requestOf d e (taken es (s .next .0))) (namedBy d (s .batch) e)))
-        (requested s (requestOf d e (taken es (s .next .0)))) lent)
+abbrev started : Desk → List ℕ → State → List Entry → Entry → Lent → Result
+started d b s es e lent =
+    judged (firstBroken (startRules d b s es e lent)) s lent
+      (sends
+        (messageBytes
+          (requestMessage (s .settings) (s .batch) (chipFrom d b) (requestOf d e (taken es (s .next .0))) (namedBy d (s .batch) e)))
+        (requested s (chipFrom d b) (requestOf d e (taken es (s .next .0)))) lent)
 
-unfoldable pub start : Desk → State → Lent → Result
-start d s lent =
-    started d s (entriesOf (s .entries) (lent .journal))
+unfoldable pub start : Desk → List ℕ → State → Lent → Result
+start d b s lent =
+    started d b s (entriesOf (s .entries) (lent .journal))
       (entryOf (originalOf d (entriesOf (s .entries) (lent .journal))) (entriesOf (s .entries) (lent .journal))) lent

@@ -1,7 +1,7 @@
 -- Laws of the rules of send reversal, and of the reversal that leaves.
 use mathlib.Core.Path.{_≡_, refl, sym, ap, _∙_}
 use mathlib.Core.List.{List, [], _∷_}
-use mathlib.Core.Bool.{true, false, not}
+use mathlib.Core.Bool.{true, false, not, and-eq-true-iff}
 use Prim.Native.Nat.{ℕ, _≤_, _<_}
 use native.Mathlib.Omega.{arith}
 use lib.ListN.{length}
@@ -73,7 +73,7 @@ module _ (s : State) (lent : Lent) (n : ℕ) (e : n ≡ firstBroken (idleRules s
       omega arith
 
   pub held : (v a : Reversal) → n ≡ 0 → s .phase ≡ Pending v → a ≡ again v → length (s .settings .terminal) ≡ 8
-      → length (s .settings .merchant) ≡ 15 → CardHeld (s .settings) (a .request)
+      → length (s .settings .merchant) ≡ 15 → CardHeld (s .settings) (s .chip) (a .request)
   held v a z f q lt lm =
       let o = fits z .order .state in
       let k : phaseInForm (s .phase) ≡ true = o .phase-form in
@@ -85,18 +85,19 @@ module _ (s : State) (lent : Lent) (n : ℕ) (e : n ≡ firstBroken (idleRules s
         merchant-length = lm;
         terminal-printable = o .settings .terminal-printable;
         merchant-printable = o .settings .merchant-printable;
+        chip-form = λ y. (simp and-eq-true-iff at (o .chip .sent y)) .1;
       })
 
 -- the message, its length and the bytes in the buffer are those of the reversal
 pub left : (s t : State) (v : Reversal) (lent : Lent) (b : Message) (k : ℕ) (o : List ℕ)
-    → CardHeld (s .settings) (v .request) → largest ≤ length (lent .message)
-    → b ≡ withAll (reversalFields (s .settings) (s .batch) v) (messageOf 0x0400 [])
+    → CardHeld (s .settings) (s .chip) (v .request) → largest ≤ length (lent .message)
+    → b ≡ withAll (reversalFields (s .settings) (s .batch) (s .chip) v) (messageOf 0x0400 [])
     → k ≡ lengthOf (writeMessage b (lent .message) .outcome) → o ≡ writeMessage b (lent .message) .buffer
     → t ≡ inPhase (Waiting (awaited.Reversal v)) s
     → resultOf (record { outcome = Send k; state = t }) (withMessage o lent) ≡ sendsReversal v s lent
 unfolding reversalMessage
 left s t v lent b k o h r p q w u =
-    let fs = reversalFields (s .settings) (s .batch) v in
-    let is = p ∙ reversal-is (s .settings) (s .batch) v h in
-    let wr = ap (λ (x : Message). writeMessage x (lent .message)) is ∙ written-is 0x0400 fs (lent .message) reversal-listed (reversal-held (s .settings) (s .batch) v h) r in
+    let fs = reversalFields (s .settings) (s .batch) (s .chip) v in
+    let is = p ∙ reversal-is (s .settings) (s .batch) (s .chip) v h in
+    let wr = ap (λ (x : Message). writeMessage x (lent .message)) is ∙ written-is 0x0400 fs (lent .message) reversal-listed (reversal-held (s .settings) (s .batch) (s .chip) v h) r in
     rw (q, w, u, wr)

@@ -29,12 +29,13 @@ pub fn send_reversal(s: State, journal: &mut [u8], message: &mut [u8]) -> Called
 
 // A reversal leaves and is awaited.
 fn send(s: State, v: Reversal, journal: &[u8], message: &mut [u8]) -> Called
-    requires { ⌜ CardHeld (s .settings) (v .request) × (largest ≤ length (now message)) ⌝ }
+    requires { ⌜ CardHeld (s .settings) (s .chip) (v .request) × (largest ≤ length (now message)) ⌝ }
     ensures { λ r. ⌜ resultOf r (lend (now (journal .entry)) (now (message .exit))) ≡ sendsReversal v s (lend (now (journal .entry)) (now (message .entry))) ⌝ }
 {
     let settings = s.settings;
     let batch = s.batch;
-    let m = outgoing::reversal_message(settings, batch, v);
+    let chip = s.chip;
+    let m = outgoing::reversal_message(settings, batch, chip, v);
     let n = outgoing::write_outgoing(m, message);
     Called::sends(s.in_phase(Phase::Waiting(Awaited::Reversal(v))), n)
 }

@@ -6,6 +6,7 @@ use numbers::Batch;
 use numbers::Trace;
 use outgoing::Original;
 use state::Called;
+use state::Chip;
 use state::Request;
 use state::State;
 ghost use mathlib.Core.Path.{_≡_};
@@ -15,14 +16,14 @@ ghost use Rattle.state.specs.Calls.{lend, resultOf};
 ghost use Rattle.call_definitions.specs.Start.{originalOf, entryOf, namedBy, startRules, start};
 ghost use Rattle.call_definitions.specs.Sending.{MaySend, HasSent};
 
-// Sends the desk's request.
-pub fn start(s: State, d: Desk, journal: &mut [u8], message: &mut [u8]) -> Called
-    ensures { λ r. ⌜ resultOf r (lend (now (journal .exit)) (now (message .exit))) ≡ start d s (lend (now (journal .entry)) (now (message .entry))) ⌝ }
+// Sends the desk's request, with the field 55 of its chip.
+pub fn start(s: State, d: Desk, chip: &[u8], journal: &mut [u8], message: &mut [u8]) -> Called
+    ensures { λ r. ⌜ resultOf r (lend (now (journal .exit)) (now (message .exit))) ≡ start d (now (chip .entry)) s (lend (now (journal .entry)) (now (message .entry))) ⌝ }
 {
     let n = s.entries;
     let place = original_of(d, journal, n);
     let e = entry_of(place, journal, n);
-    let number = refusal(s, d, place, e, journal, message);
+    let number = refusal(s, d, chip, place, e, journal, message);
     if number != 0 {
         return Called::refused(s, number);
     }
@@ -31,6 +32,7 @@ pub fn start(s: State, d: Desk, journal: &mut [u8], message: &mut [u8]) -> Calle
     let trace = traces::take(journal, n, next);
     send(
         s,
+        desk::chip_from(d, chip),
         desk::request_of(d, e, trace),
         named_by(d, batch, e),
         message,
@@ -89,14 +91,26 @@ fn named_by(d: Desk, batch: Batch, e: Entry) -> Original
 }
 
 // The number of the first rule that refuses, 0 for none.
-fn refusal(s: State, d: Desk, place: Found, e: Entry, journal: &[u8], message: &[u8]) -> u8
+fn refusal(
+    s: State,
+    d: Desk,
+    chip: &[u8],
+    place: Found,
+    e: Entry,
+    journal: &[u8],
+    message: &[u8],
+) -> u8
     requires { ⌜ place ≡ originalOf d (entriesOf (s .entries) (now journal)) ⌝ }
-    ensures { λ r. ⌜ r ≡ firstBroken (startRules d s (entriesOf (s .entries) (now (journal .entry))) e (lend (now (journal .entry)) (now (message .entry)))) ⌝ }
+    ensures { λ r. ⌜ r ≡ firstBroken (startRules d (now (chip .entry)) s (entriesOf (s .entries) (now (journal .entry))) e (lend (now (journal .entry)) (now (message .entry)))) ⌝ }
 {
     let settings = s.settings;
     let first_refusal = rules::first_refusal(s, journal, message);
     if first_refusal != 0 {
         return first_refusal;
+    }
+    let field55 = desk::chip_refusal(d, chip);
+    if field55 != 0 {
+        return field55;
     }
     let rest = desk::rest_refusal(s);
     if rest != 0 {
@@ -111,13 +125,13 @@ fn refusal(s: State, d: Desk, place: Found, e: Entry, journal: &[u8], message: &
 }
 
 // The request leaves and is awaited.
-fn send(s: State, q: Request, o: Original, message: &mut [u8]) -> Called
-    requires { ⌜ MaySend s q o (now message) ⌝ }
-    ensures { λ r. ⌜ HasSent s q o (now (message .entry)) r (now (message .exit)) ⌝ }
+fn send(s: State, chip: Chip, q: Request, o: Original, message: &mut [u8]) -> Called
+    requires { ⌜ MaySend s chip q o (now message) ⌝ }
+    ensures { λ r. ⌜ HasSent s chip q o (now (message .entry)) r (now (message .exit)) ⌝ }
 {
     let settings = s.settings;
     let batch = s.batch;
-    let m = outgoing::request_message(settings, batch, q, o);
+    let m = outgoing::request_message(settings, batch, chip, q, o);
     let n = outgoing::write_outgoing(m, message);
-    Called::sends(state_effects::requested(s, q), n)
+    Called::sends(state_effects::requested(s, chip, q), n)
 }

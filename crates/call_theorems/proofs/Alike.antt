@@ -14,13 +14,12 @@ use Rattle.state.specs.declared.Awaited.{Awaited}
 use Rattle.state.specs.declared.Awaited.the-variants as awaited
 use Rattle.state.specs.declared.Phase.{Phase}
 use Rattle.state.specs.declared.Phase.the-variants.{Resting, Waiting, Pending, Settling, Uploading}
-use Rattle.state.specs.declared.Request.{Request}
 use Rattle.state.specs.declared.Settings.{Settings}
 use Rattle.state.specs.declared.State.{State}
 use Rattle.state.specs.Calls.{Lent}
 use Rattle.answer_match.specs.Match.{matchesSent, hasCode, approvalHolds, holdsNamed, isAnswer, goodMac, endsReversal, closesBatch}
-use Rattle.approval.specs.Approval.{fieldOr, approvedEntry}
-use Rattle.effect_definitions.specs.JournalEffects.{onRequest, onItem, answered}
+use Rattle.approval.specs.Approval.{fieldOr, approvalOf}
+use Rattle.effect_definitions.specs.JournalEffects.{granted, onRequest, onItem, answered}
 use Rattle.effect_definitions.specs.StateEffects.{onReversal, onSettlement, onEnd}
 use Rattle.call_definitions.specs.Answer.{answersIn, answeredIn, answerIn, answer}
 use Rattle.call_theorems.specs.UnusedFields.{unused, AlikeButUnused, UnusedFieldsChangeNothing}
@@ -59,9 +58,9 @@ module _ (a b : Message) (h : AlikeButUnused a b) where
   unfolding closesBatch
   closes-same = rw (number-same 48 30 1 refl)
 
-  entry-same : (q : Request) → approvedEntry q a ≡ approvedEntry q b
-  unfolding approvedEntry
-  entry-same q = rw (field-same 13 2 _ refl, field-same 38 6 _ refl, field-same 37 12 _ refl)
+  says-same : approvalOf a ≡ approvalOf b
+  unfolding approvalOf
+  says-same = rw (field-same 13 2 _ refl, field-same 38 6 _ refl, field-same 37 12 _ refl)
 
   -- whether it is the answer
   sent-same : (x : Settings) (batch : Batch) (n : ℕ) (trace : Trace) → matchesSent x batch n trace a ≡ matchesSent x batch n trace b
@@ -93,8 +92,8 @@ module _ (a b : Message) (h : AlikeButUnused a b) where
 
   -- what it leaves
   answered-same : (good : Bool) (w : Awaited) (s : State) (j : List ℕ) → answered good a w s j ≡ answered good b w s j
-  unfolding answered onRequest onReversal onSettlement onItem onEnd
-  answered-same good (awaited.Request q) s j = rw (code-same 0x30 0x30, mac-same good, entry-same q)
+  unfolding answered onRequest granted onReversal onSettlement onItem onEnd
+  answered-same good (awaited.Request q) s j = rw (code-same 0x30 0x30, mac-same good, says-same)
   answered-same good (awaited.Reversal v) s j = rw (ends-same good)
   answered-same good (awaited.Settlement x) s j = rw (closes-same)
   answered-same good (awaited.Item i) s j = rw (code-same 0x30 0x30)

@@ -10,23 +10,26 @@ use lib.ListN.{length}
 use borrow.Author.Tests.{ltb-true, not-true}
 use Rattle.numbers.specs.Limits.{largestTotal}
 use Rattle.entry.specs.Entry.{entrySize}
-use Rattle.entry.specs.Form.{inForm}
 use Rattle.entry.specs.Theorems.{Shaped}
 use Rattle.entry.specs.declared.Entry.{Entry}
 use Rattle.entry.proofs.Theorems.{length-encode}
 use Rattle.journal.specs.Journal.{entriesOf, totalsOf, absent, putEntry}
 use Rattle.journal.proofs.Entries.{put-appends, length-put}
-use Rattle.message.specs.declared.Message.{Message}
+use Rattle.state.specs.declared.Approval.{Approval}
 use Rattle.state.specs.declared.Request.{Request}
 use Rattle.state.specs.declared.Awaited.the-variants as awaited
-use Rattle.state.specs.declared.Phase.the-variants.{Waiting}
+use Rattle.state.specs.declared.Chip.{Chip}
+use Rattle.state.specs.declared.Phase.{Phase}
+use Rattle.state.specs.declared.Phase.the-variants.{Resting, Waiting}
 use Rattle.state.specs.declared.State.{State}
-use Rattle.state.specs.State.{inPhase}
+use Rattle.state.specs.State.{hasChip, approvalIn, inPhase}
 use Rattle.state.specs.Calls.{Lent, withJournal}
 use Rattle.rules.specs.Rules.{originalUnvoided, requestKept}
-use Rattle.state_rules.specs.StateRules.{past}
+use Rattle.state_rules.specs.StateRules.{requestInForm, requestAwaited, approvalInForm, past}
+use Rattle.state_rules.proofs.Holds.{request-holds, ApprovalHolds, approval-holds, ChipHolds, no-chip}
 use Rattle.rules.proofs.InOrder.{InOrder, Fit}
 use Rattle.approval.specs.Approval.{approvedEntry}
+use Rattle.approval.proofs.Approval.{shaped, in-form}
 use Rattle.effect_definitions.specs.JournalEffects.{originalVoided, approved}
 use Rattle.effect_definitions.specs.StateEffects.{oneMore}
 use Rattle.call_theorems.proofs.Growing.{Plain, KeepsPlain, original-kept, IsNew, plain-last, sums-last}
@@ -76,6 +79,7 @@ more-order q s es fs h l p d c =
             next-most = h .state .next-most;
             sent-most = h .state .sent-most;
             phase-form = refl;
+            chip = no-chip Resting;
             few = omega arith;
             balance = omega (arith, h .state .balance);
             approvals = omega (arith, h .state .approvals);
@@ -102,12 +106,21 @@ record IsOf (q : Request) (e : Entry) : Type 0 where
   amount : e .amount ≡ q .amount
   trace : e .trace ≡ q .trace
 
-entry-of : (q : Request) (a : Message) → Shaped (approvedEntry q a) → inForm (approvedEntry q a) ≡ true → IsOf q (approvedEntry q a)
+entry-of : (q : Request) (a : Approval) → requestInForm q ≡ true → ApprovalHolds a → IsOf q (approvedEntry q a)
 unfolding approvedEntry
-entry-of q a s f =
+entry-of q a f h =
+    let w = request-holds q f in
     record {
-      shaped = s;
-      new = record { in-form = f; unvoided = refl; unmarked = refl; unsent = refl };
+      shaped = shaped q a h;
+      new =
+          record {
+            in-form =
+                in-form q a (w .kind-listed) (w .trace-least) (w .trace-most) (w .amount-least) (w .amount-most) (w .card-least)
+                (w .card-most) h;
+            unvoided = refl;
+            unmarked = refl;
+            unsent = refl;
+          };
       kind = refl;
       amount = refl;
       trace = refl;
@@ -134,10 +147,15 @@ written-fit q e s lent k h o v =
           (plain-last (s .settings .sendings) es e (v .plain) (o .new) f) (t .0) (t .1));
     }
 
-pub approved-fit : (q : Request) (a : Message) (s : State) (lent : Lent) → Fit (inPhase (Waiting (awaited.Request q)) s) lent
-    → Shaped (approvedEntry q a) → inForm (approvedEntry q a) ≡ true
+-- the approval that the card's word is awaited for is in form
+pub consent-holds : (p : Phase) (c : Chip) → ChipHolds p c → c .approved ≡ true → ApprovalHolds (approvalIn c)
+consent-holds p c h y =
+    approval-holds (approvalIn c) (and-eq-true-iff (requestAwaited p && hasChip c) (approvalInForm (approvalIn c)) .0 (h .awaited y) .1)
+
+pub approved-fit : (q : Request) (a : Approval) (s : State) (lent : Lent) → Fit (inPhase (Waiting (awaited.Request q)) s) lent → ApprovalHolds a
     → Fit (approved q (approvedEntry q a) s (lent .journal) .state) (withJournal (approved q (approvedEntry q a) s (lent .journal) .journal) lent)
 unfolding approved
-approved-fit q a s lent h sh f =
-    written-fit q (approvedEntry q a) s lent (originalVoided q (entriesOf (s .entries) (lent .journal)) (lent .journal)) h (entry-of q a sh f)
+approved-fit q a s lent h w =
+    written-fit q (approvedEntry q a) s lent (originalVoided q (entriesOf (s .entries) (lent .journal)) (lent .journal)) h
+    (entry-of q a (h .order .state .phase-form) w)
     (original-kept (s .entries) (s .settings .sendings) q (lent .journal) (plain q s (entriesOf (s .entries) (lent .journal)) (h .order)))

@@ -1,7 +1,7 @@
 -- What the outcome of each call says.
 use mathlib.Core.Path.{_≡_, refl}
 use mathlib.Core.List.{List}
-use mathlib.Core.Bool.{Bool, true, false, cond, not}
+use mathlib.Core.Bool.{Bool, false, cond, not}
 use Prim.Native.Nat.{ℕ}
 use borrow.Author.Tests.{not-false}
 use Rattle.message.specs.declared.Message.{Message}
@@ -14,34 +14,32 @@ use Rattle.numbers.specs.declared.Batch.{Batch}
 use Rattle.journal.specs.Journal.{entriesOf, entryAt, totalsOf, nextDue, taken}
 use Rattle.journal.specs.declared.Found.{Found}
 use Rattle.journal.specs.declared.Found.the-variants.{At, Nowhere}
-use Rattle.state.specs.declared.Reversal.{Reversal}
 use Rattle.state.specs.declared.Phase.{Phase}
 use Rattle.state.specs.declared.Phase.the-variants.{Resting, Waiting, Pending, Settling, Uploading}
 use Rattle.state.specs.declared.State.{State}
 use Rattle.checks.specs.Checks.{firstBroken}
-use Rattle.state.specs.Calls.{Lent, refused, quiet}
+use Rattle.state.specs.Calls.{Lent, judged, quiet}
 use Rattle.checks.proofs.Choices.{passed}
 use Rattle.rules.specs.Rules.{tooShort, keepsRule2, rules12, due}
 use Rattle.rules.proofs.InOrder.{Fit}
-use Rattle.state_rules.proofs.Holds.{reversal-holds}
 use Rattle.outgoing.specs.Outgoing.{requestMessage, reversalMessage}
 use Rattle.call_definitions.specs.SignOn.{signedOnRules, signedOn}
 use Rattle.effect_definitions.specs.StateEffects.{adopts, on, again}
+use Rattle.call_definitions.proofs.Refusals.{unbroken}
 use Rattle.call_definitions.specs.Start.{originalOf, entryOf, namedBy, startRules, start}
-use Rattle.desk.specs.DeskRules.{requestOf}
+use Rattle.desk.specs.DeskRules.{chipFrom, requestOf}
 use Rattle.desk.specs.declared.Desk.{Desk}
 use Rattle.call_definitions.specs.SendReversal.{sendFrom, sendReversalRules, sendReversal}
 use Rattle.call_definitions.specs.Settle.{settleRules, settle}
 use Rattle.batch_messages.specs.BatchMessages.{settlementMessage, itemMessage, endMessage}
 use Rattle.call_definitions.specs.SendNextUpload.{sendsNext, uploadFrom, sendNextUploadRules, sendNextUpload}
-use Rattle.answer_match.specs.Match.{isAnswer}
-use Rattle.call_definitions.specs.Answer.{quietly, noAnswerRules, noAnswer, withoutPower, powerReturned, answeredIn, answerRules, readIn, answer}
-use Rattle.effect_definitions.specs.JournalEffects.{silentIn}
+use Rattle.call_definitions.specs.Answer.{quietly, noAnswerRules, noAnswer, withoutPower, powerReturned, cardRules, cardAgrees, cardDeclines, answeredIn, answerRules, readIn, answer}
+use Rattle.effect_definitions.specs.JournalEffects.{Changed, silentIn, agreedIn}
 use Rattle.call_theorems.proofs.Back.{ready-fits}
-use Rattle.call_definitions.specs.Events.{Event, signed-on, starts, answers, no-answer, power-returned, send-reversal, settles, send-next-upload, call}
+use Rattle.call_definitions.specs.Events.{Event, signed-on, starts, answers, no-answer, power-returned, card-agrees, card-declines, send-reversal, settles, send-next-upload, call}
 use Rattle.call_definitions.specs.Shapes.{SettingsShaped, EventShaped}
 use Rattle.call_theorems.proofs.Told.{Told, told-refused, told-quiet, told-sent, told-judged}
-use Rattle.call_theorems.proofs.Leaving.{reversal-reads, card-held, started-reads, settlement-reads, item-reads, end-reads}
+use Rattle.call_theorems.proofs.Leaving.{started-reads, pending-reads, settlement-reads, item-reads, end-reads}
 
 -- the settings and what is handed in are shaped
 abbrev pub Shapes : Event → State → Type 0
@@ -54,20 +52,30 @@ module _ (Shaped : Type 0) (s : State) (lent : Lent) where
   signed-on-told batch =
       told-judged (firstBroken (signedOnRules batch s lent)) (quiet (on (cond (adopts s) batch (s .batch)) s) lent) (λ z. told-quiet)
 
-  -- silence, and the power
+  -- silence, the power, and the card's word
+  quietly-told : (n : ℕ) (c : Changed) → Told Shaped s lent (judged n s lent (quietly c lent))
+  quietly-told n c = told-judged n (quietly c lent) (λ z. told-quiet)
+
   no-answer-told : Told Shaped s lent (noAnswer s lent)
   unfolding noAnswer
-  no-answer-told = told-judged (firstBroken (noAnswerRules s lent)) (quietly (silentIn (s .phase) s (lent .journal)) lent) (λ z. told-quiet)
+  no-answer-told = quietly-told (firstBroken (noAnswerRules s lent)) (silentIn (s .phase) s (lent .journal))
 
   power-returned-told : Told Shaped s lent (powerReturned s lent)
   unfolding powerReturned
   power-returned-told =
       told-judged (firstBroken (rules12 s lent)) (withoutPower (silentIn (s .phase) s (lent .journal)) lent) (λ z. told-quiet)
 
+  card-agrees-told : Told Shaped s lent (cardAgrees s lent)
+  unfolding cardAgrees
+  card-agrees-told = quietly-told (firstBroken (cardRules s lent)) (agreedIn (s .phase) s (lent .journal))
+
+  card-declines-told : Told Shaped s lent (cardDeclines s lent)
+  unfolding cardDeclines
+  card-declines-told = quietly-told (firstBroken (cardRules s lent)) (silentIn (s .phase) s (lent .journal))
+
   -- an answer
   read-in : (o : Judgement) (good : Bool) (a : Message) → Told Shaped s lent (readIn o good a s lent)
-  read-in Read good a =
-      told-judged (firstBroken (answerRules a s (lent .journal))) (quietly (answeredIn (s .phase) good a s (lent .journal)) lent) (λ z. told-quiet)
+  read-in Read good a = quietly-told (firstBroken (answerRules a s (lent .journal))) (answeredIn (s .phase) good a s (lent .journal))
   read-in (Unread n) good a = told-refused
 
   answer-told : (b : List ℕ) (good : Bool) → Told Shaped s lent (answer b good s lent)
@@ -80,31 +88,21 @@ module _ (Shaped : Type 0) (s : State) (lent : Lent) where
 fits : (s : State) (lent : Lent) → tooShort s lent ≡ false → not (keepsRule2 s (entriesOf (s .entries) (lent .journal))) ≡ false → Fit s lent
 fits s lent a b = ready-fits s lent (record { long = a; order = not-false (keepsRule2 s (entriesOf (s .entries) (lent .journal))) b })
 
-start-told : (d : Desk) (s : State) (lent : Lent) → Told (Shapes (starts d) s) s lent (start d s lent)
+start-told : (d : Desk) (b : List ℕ) (s : State) (lent : Lent) → Told (Shapes (starts d b) s) s lent (start d b s lent)
 unfolding start
-start-told d s lent =
+start-told d b s lent =
     let es = entriesOf (s .entries) (lent .journal) in
     let e = entryOf (originalOf d es) es in
-    let rs = startRules d s es e lent in
-    let q = requestOf d e (taken es (s .next .0)) in
-    told-judged (firstBroken rs) _
-    (λ z. told-sent (messageBytes (requestMessage (s .settings) (s .batch) q (namedBy d (s .batch) e)))
-    (λ h. started-reads d s lent (originalOf d es) (taken es (s .next .0)) refl (fits s lent (passed 1 rs refl z) (passed 2 rs refl z)) z
-    (h .0) (h .1 .0) (h .1 .1)))
-
--- a reversal's request is in form
-reversal-sends : (s : State) (lent : Lent) (v : Reversal) → Fit s lent → s .phase ≡ Pending v → SettingsShaped (s .settings)
-    → readMessage (messageBytes (reversalMessage (s .settings) (s .batch) (again v))) .outcome ≡ Read
-reversal-sends s lent v h p x =
-    let w = reversal-holds v (rw p at (h .order .state .phase-form)) in
-    reversal-reads (s .settings) (s .batch) (again v) (lent .message)
-    (card-held (s .settings) (v .request) x (h .order .state .settings) (w .card-least) (w .card-most)) (h .message-room)
+    let n = taken es (s .next .0) in
+    told-judged (firstBroken (startRules d b s es e lent)) _
+    (λ z. told-sent (messageBytes (requestMessage (s .settings) (s .batch) (chipFrom d b) (requestOf d e n) (namedBy d (s .batch) e)))
+    (λ h. started-reads d b s lent n (unbroken d b s e lent z) (h .0) (h .1 .0) (h .1 .1)))
 
 send-from : (s : State) (lent : Lent) → Fit s lent → (p : Phase) → s .phase ≡ p → Told (Shapes send-reversal s) s lent (sendFrom p s lent)
 send-from s lent h Resting e = told-quiet
 send-from s lent h (Waiting a) e = told-quiet
 send-from s lent h (Pending v) e =
-    told-sent (messageBytes (reversalMessage (s .settings) (s .batch) (again v))) (λ x. reversal-sends s lent v h e (x .0))
+    told-sent (messageBytes (reversalMessage (s .settings) (s .batch) (s .chip) (again v))) (λ x. pending-reads s lent v h e (x .0))
 send-from s lent h Settling e = told-quiet
 send-from s lent h Uploading e = told-quiet
 
@@ -151,10 +149,12 @@ send-next-upload-told s lent =
 
 pub call-told : (e : Event) (s : State) (lent : Lent) → Told (Shapes e s) s lent (call e s lent)
 call-told (signed-on batch) s lent = signed-on-told _ s lent batch
-call-told (starts d) s lent = start-told d s lent
+call-told (starts d b) s lent = start-told d b s lent
 call-told (answers b good) s lent = answer-told _ s lent b good
 call-told no-answer s lent = no-answer-told _ s lent
 call-told power-returned s lent = power-returned-told _ s lent
+call-told card-agrees s lent = card-agrees-told _ s lent
+call-told card-declines s lent = card-declines-told _ s lent
 call-told send-reversal s lent = send-reversal-told s lent
 call-told settles s lent = settle-told s lent
 call-told send-next-upload s lent = send-next-upload-told s lent

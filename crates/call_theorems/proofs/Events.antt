@@ -1,4 +1,4 @@
--- The calls answer, no answer and power returned keep rules 1 and 2.
+-- The calls answer, no answer, power returned, card agrees and card declines keep rules 1 and 2.
 use mathlib.Core.Path.{_≡_, refl}
 use mathlib.Core.List.{List}
 use mathlib.Core.Bool.{Bool, true, false, cond, _&&_, and-eq-true-iff, not}
@@ -15,10 +15,9 @@ use Rattle.message_theorems.proofs.Readable.{date-packed, reference-printable, 
 use Rattle.parts.specs.Parts.{matches}
 use Rattle.numbers.specs.declared.Trace.{Trace}
 use Rattle.numbers.specs.declared.Batch.{Batch}
-use Rattle.entry.specs.Form.{inForm}
 use Rattle.journal.specs.Journal.{entriesOf}
 use Rattle.state.specs.declared.Request.{Request}
-use Rattle.state.specs.declared.Reason.the-variants.{Silence, BadMac}
+use Rattle.state.specs.declared.Reason.the-variants.{BadMac}
 use Rattle.state.specs.declared.Reversal.{Reversal}
 use Rattle.state.specs.declared.Awaited.{Awaited}
 use Rattle.state.specs.declared.Awaited.the-variants as awaited
@@ -27,24 +26,23 @@ use Rattle.state.specs.declared.Phase.the-variants.{Resting, Waiting, Pending, 
 use Rattle.state.specs.declared.Settings.{Settings}
 use Rattle.state.specs.declared.State.{State}
 use Rattle.state.specs.declared.Count.the-variants.{Declined, Reversed}
-use Rattle.state.specs.State.{inPhase, counted, closed}
+use Rattle.state.specs.State.{hasChip, approvedBy, approvalIn, inPhase, withChip, closed}
 use Rattle.state.specs.Calls.{Lent, withJournal}
 use Rattle.checks.proofs.Choices.{passed}
 use Rattle.checks.specs.Checks.{firstBroken}
 use Rattle.rules.specs.Rules.{rules12}
-use Rattle.state_rules.specs.StateRules.{requestInForm}
 use Rattle.rules.proofs.InOrder.{Fit}
-use Rattle.state_rules.proofs.Holds.{request-holds}
+use Rattle.state_rules.proofs.Holds.{ApprovalHolds}
 use Rattle.answer_match.specs.Match.{isAnswer, matchesSent, holdsNamed, indicatorSent, approves, approvalHolds, goodMac, endsReversal, closesBatch}
-use Rattle.approval.specs.Approval.{approvedEntry}
-use Rattle.approval.proofs.Approval.{shaped, in-form}
-use Rattle.call_definitions.specs.Answer.{noAnswerRules, noAnswer, withoutPower, powerReturned, answersIn, answeredIn, answerRules, answerIn, readIn, answer}
-use Rattle.effect_definitions.specs.JournalEffects.{Changed, changed, approved, silent, silentIn, onRequest, answered}
-use Rattle.effect_definitions.specs.StateEffects.{pendingOrUnanswered, failed, onReversal, onSettlement, onEnd}
+use Rattle.approval.specs.Approval.{approvalOf, approvedEntry}
+use Rattle.approval.proofs.Approval.{answer-holds}
+use Rattle.call_definitions.specs.Answer.{noAnswerRules, noAnswer, withoutPower, powerReturned, awaitsCard, cardRules, cardAgrees, cardDeclines, answersIn, answeredIn, answerRules, answerIn, readIn, answer}
+use Rattle.effect_definitions.specs.JournalEffects.{Changed, changed, silent, silentIn, approved, granted, onRequest, agreed, agreedIn, answered}
+use Rattle.effect_definitions.specs.StateEffects.{ended, pendingOrUnanswered, silenceOf, failed, onReversal, onSettlement, onEnd}
 use Rattle.call_theorems.proofs.Refusing.{Fits, judged-fits}
-use Rattle.call_theorems.proofs.Phases.{pending-or-unanswered-fit, declined-fit, failed-fit, reversed-fit, settling-fit, uploading-fit, ending-fit, closed-fit, off-fit}
+use Rattle.call_theorems.proofs.Phases.{pending-or-unanswered-fit, declined-fit, consent-fit, failed-fit, reversed-fit, settling-fit, uploading-fit, ending-fit, closed-fit, off-fit}
 use Rattle.call_theorems.proofs.Items.{silent-item, answered-item}
-use Rattle.call_theorems.proofs.Approving.{approved-fit}
+use Rattle.call_theorems.proofs.Approving.{consent-holds, approved-fit}
 
 -- rules 1 and 2 pass after a change
 abbrev FitsAfter : Changed → Lent → Type 0
@@ -53,7 +51,7 @@ FitsAfter c lent = Fit (c .state) (withJournal (c .journal) lent)
 -- what is awaited is silent
 silent-fits : (a : Awaited) (s : State) (lent : Lent) → Fit (inPhase (Waiting a) s) lent → FitsAfter (silent a s (lent .journal)) lent
 unfolding silent
-silent-fits (awaited.Request q) s lent h = pending-or-unanswered-fit s lent Silence q h
+silent-fits (awaited.Request q) s lent h = pending-or-unanswered-fit s lent (silenceOf s) q h
 silent-fits (awaited.Reversal v) s lent h = failed-fit s lent v h
 silent-fits (awaited.Settlement x) s lent h = settling-fit s lent x h
 silent-fits (awaited.Item i) s lent h = silent-item s lent i h
@@ -77,6 +75,36 @@ power-returned-fits s lent h =
     judged-fits (firstBroken (rules12 s lent)) s lent (withoutPower c lent) h
     (λ z. off-fit (c .state) (withJournal (c .journal) lent) (silent-in (s .phase) s lent h))
 
+pub card-declines-fits : (s : State) (lent : Lent) → Fit s lent → Fits (cardDeclines s lent)
+unfolding cardDeclines
+card-declines-fits s lent h = judged-fits (firstBroken (cardRules s lent)) s lent _ h (λ z. silent-in (s .phase) s lent h)
+
+-- the card agrees: the approval that its word was awaited for is in form
+module _ (s : State) (lent : Lent) (y : awaitsCard s ≡ true) where
+  agreed-fits : (w : Awaited) → Fit (inPhase (Waiting w) s) lent → FitsAfter (agreed w (inPhase (Waiting w) s) (lent .journal)) lent
+  unfolding agreed
+  agreed-fits (awaited.Request q) h =
+      approved-fit q (approvalIn (s .chip)) (inPhase (Waiting (awaited.Request q)) s) lent h
+      (consent-holds (Waiting (awaited.Request q)) (s .chip) (h .order .state .chip) y)
+  agreed-fits (awaited.Reversal v) h = h
+  agreed-fits (awaited.Settlement x) h = h
+  agreed-fits (awaited.Item i) h = h
+  agreed-fits (awaited.End x) h = h
+
+  agreed-in : (p : Phase) → Fit (inPhase p s) lent → FitsAfter (agreedIn p (inPhase p s) (lent .journal)) lent
+  agreed-in Resting h = h
+  agreed-in (Waiting w) h = agreed-fits w h
+  agreed-in (Pending v) h = h
+  agreed-in Settling h = h
+  agreed-in Uploading h = h
+
+pub card-agrees-fits : (s : State) (lent : Lent) → Fit s lent → Fits (cardAgrees s lent)
+unfolding cardAgrees
+card-agrees-fits s lent h =
+    let rs = cardRules s lent in
+    judged-fits (firstBroken rs) s lent _ h
+    (λ z. agreed-in s lent (not-false (awaitsCard s) (passed 14 rs refl z)) (s .phase) h)
+
 -- an approval that is an answer has field 37
 has-reference : (amount : ℕ) (a : Message) → approvalHolds amount a ≡ true → approves a ≡ true → names (a .bitmap) 37 ≡ true
 unfolding approvalHolds
@@ -86,31 +114,40 @@ has-reference amount a h e =
     let t : (others && named) ≡ true = rw e at h in
     and-eq-true-iff others named .0 t .1
 
--- the entry of a request in form that a message approves is in form
-abbrev EntersForm : Message → Type 0
-EntersForm a = (q : Request) → requestInForm q ≡ true → approvalHolds (q .amount) a ≡ true → approves a ≡ true
-    → inForm (approvedEntry q a) ≡ true
+-- what a message says where it approves is in form
+abbrev Approves : Message → Type 0
+Approves a = (amount : ℕ) → approvalHolds amount a ≡ true → approves a ≡ true → ApprovalHolds (approvalOf a)
 
 -- a message that was read is such
-enters-form : (b : List ℕ) → readMessage b .outcome ≡ Read → EntersForm (readMessage b .message)
-enters-form b r q f h e =
-    let w = request-holds q f in
-    let n = has-reference (q .amount) (readMessage b .message) h e in
-    in-form q (readMessage b .message) (w .kind-listed) (w .trace-least) (w .trace-most) (w .amount-least) (w .amount-most)
-    (w .card-least) (w .card-most) (date-packed b r) n (reference-length b r n) (reference-printable b r n)
+read-approves : (b : List ℕ) → readMessage b .outcome ≡ Read → Approves (readMessage b .message)
+read-approves b r amount h e =
+    let n = has-reference amount (readMessage b .message) h e in
+    answer-holds (readMessage b .message) (date-packed b r) n (reference-length b r n) (reference-printable b r n)
     (authorisation-printable b r)
 
 -- an answer to what is awaited
-module _ (a : Message) (good : Bool) (enters : EntersForm a) (s : State) (lent : Lent) where
-  request-fits : (q : Request) → Fit (inPhase (Waiting (awaited.Request q)) s) lent → approvalHolds (q .amount) a ≡ true
-      → FitsAfter (onRequest good a q s (lent .journal)) lent
+module _ (a : Message) (good : Bool) (says : Approves a) (s : State) (lent : Lent) where
+  -- a good 00: an entry, or the wait for the card's word
+  granted-fits : (q : Request) → s .phase ≡ Waiting (awaited.Request q) → Fit (inPhase (Waiting (awaited.Request q)) s) lent
+      → ApprovalHolds (approvalOf a) → FitsAfter (granted a q s (lent .journal)) lent
+  unfolding granted
+  granted-fits q p h w = go (hasChip (s .chip)) refl
+    where
+      go : (b : Bool) → hasChip (s .chip) ≡ b
+          → FitsAfter (cond b (changed (withChip (approvedBy (approvalOf a) (s .chip)) s) (lent .journal))
+          (approved q (approvedEntry q (approvalOf a)) s (lent .journal))) lent
+      go true c = rw p (consent-fit s lent q (approvalOf a) h c w)
+      go false c = approved-fit q (approvalOf a) s lent h w
+
+  request-fits : (q : Request) → s .phase ≡ Waiting (awaited.Request q) → Fit (inPhase (Waiting (awaited.Request q)) s) lent
+      → approvalHolds (q .amount) a ≡ true → FitsAfter (onRequest good a q s (lent .journal)) lent
   unfolding onRequest
-  request-fits q h n = go (approves a) (goodMac good a) refl
+  request-fits q p h n = go (approves a) (goodMac good a) refl
     where
       go : (x y : Bool) → approves a ≡ x
-          → FitsAfter (cond x (cond y (approved q (approvedEntry q a) s (lent .journal)) (changed (pendingOrUnanswered BadMac q s) (lent .journal)))
-          (changed (inPhase Resting (counted Declined s)) (lent .journal))) lent
-      go true true e = approved-fit q a s lent h (shaped q a) (enters q (h .order .state .phase-form) n e)
+          → FitsAfter (cond x (cond y (granted a q s (lent .journal)) (changed (pendingOrUnanswered BadMac q s) (lent .journal)))
+          (changed (ended Declined s) (lent .journal))) lent
+      go true true e = granted-fits q p h (says (q .amount) n e)
       go true false e = pending-or-unanswered-fit s lent BadMac q h
       go false y e = declined-fit s lent q h
 
@@ -118,7 +155,7 @@ module _ (a : Message) (good : Bool) (enters : EntersForm a) (s : State) (lent :
   unfolding onReversal
   reversal-fits v h = go (endsReversal good a)
     where
-      go : (x : Bool) → Fit (cond x (inPhase Resting (counted Reversed s)) (failed v s)) lent
+      go : (x : Bool) → Fit (cond x (ended Reversed s) (failed v s)) lent
       go true = reversed-fit s lent v h
       go false = failed-fit s lent v h
 
@@ -127,7 +164,7 @@ module _ (a : Message) (good : Bool) (enters : EntersForm a) (s : State) (lent :
   settlement-fits x h = go (closesBatch a)
     where
       go : (y : Bool) → Fit (cond y (closed s) (inPhase Uploading s)) lent
-      go true = closed-fit (inPhase (Waiting (awaited.Settlement x)) s) lent h
+      go true = closed-fit (inPhase (Waiting (awaited.Settlement x)) s) lent refl refl h
       go false = uploading-fit s lent x h
 
   end-fits : (x : Trace) → Fit (inPhase (Waiting (awaited.End x)) s) lent → Fit (onEnd a s) lent
@@ -135,17 +172,18 @@ module _ (a : Message) (good : Bool) (enters : EntersForm a) (s : State) (lent :
   end-fits x h = go (approves a)
     where
       go : (y : Bool) → Fit (cond y (closed s) (inPhase Uploading s)) lent
-      go true = closed-fit (inPhase (Waiting (awaited.End x)) s) lent h
+      go true = closed-fit (inPhase (Waiting (awaited.End x)) s) lent refl refl h
       go false = ending-fit s lent x h
 
-  answered-fits : (w : Awaited) → Fit (inPhase (Waiting w) s) lent → holdsNamed w a ≡ true → FitsAfter (answered good a w s (lent .journal)) lent
+  answered-fits : (w : Awaited) → s .phase ≡ Waiting w → Fit (inPhase (Waiting w) s) lent → holdsNamed w a ≡ true
+      → FitsAfter (answered good a w s (lent .journal)) lent
   unfolding answered
-  answered-fits (awaited.Request q) h n =
-      request-fits q h (and-eq-true-iff (names (a .bitmap) 39) (approvalHolds (q .amount) a) .0 n .1)
-  answered-fits (awaited.Reversal v) h n = reversal-fits v h
-  answered-fits (awaited.Settlement x) h n = settlement-fits x h
-  answered-fits (awaited.Item i) h n = answered-item s lent i h a
-  answered-fits (awaited.End x) h n = end-fits x h
+  answered-fits (awaited.Request q) p h n =
+      request-fits q p h (and-eq-true-iff (names (a .bitmap) 39) (approvalHolds (q .amount) a) .0 n .1)
+  answered-fits (awaited.Reversal v) p h n = reversal-fits v h
+  answered-fits (awaited.Settlement x) p h n = settlement-fits x h
+  answered-fits (awaited.Item i) p h n = answered-item s lent i h a
+  answered-fits (awaited.End x) p h n = end-fits x h
 
 is-held : (x : Settings) (batch : Batch) (trace : Trace) (w : Awaited) (a : Message) → isAnswer x batch trace w a ≡ true
     → holdsNamed w a ≡ true
@@ -153,21 +191,21 @@ unfolding isAnswer
 is-held x batch trace w a h = and-eq-true-iff (matchesSent x batch (indicatorSent w) trace a) (holdsNamed w a) .0 h .1
 
 -- what an answer leaves, in each phase
-answered-in : (p : Phase) (a : Message) (good : Bool) → EntersForm a → (s : State) (lent : Lent) → Fit (inPhase p s) lent
+answered-in : (p : Phase) (a : Message) (good : Bool) → Approves a → (s : State) (lent : Lent) → Fit (inPhase p s) lent
     → not (answersIn p (entriesOf (s .entries) (lent .journal)) (inPhase p s) a) ≡ false → FitsAfter (answeredIn p good a (inPhase p s) (lent .journal)) lent
 answered-in Resting a good n s lent h e = h
 answered-in (Waiting w) a good n s lent h e =
-    answered-fits a good n (inPhase (Waiting w) s) lent w h (is-held (s .settings) (s .batch) _ w a (not-false _ e))
+    answered-fits a good n (inPhase (Waiting w) s) lent w refl h (is-held (s .settings) (s .batch) _ w a (not-false _ e))
 answered-in (Pending v) a good n s lent h e = h
 answered-in Settling a good n s lent h e = h
 answered-in Uploading a good n s lent h e = h
 
-answer-in : (a : Message) (good : Bool) → EntersForm a → (s : State) (lent : Lent) → Fit s lent → Fits (answerIn good a s lent)
+answer-in : (a : Message) (good : Bool) → Approves a → (s : State) (lent : Lent) → Fit s lent → Fits (answerIn good a s lent)
 answer-in a good n s lent h =
     let rs = answerRules a s (lent .journal) in
     judged-fits (firstBroken rs) s lent _ h (λ z. answered-in (s .phase) a good n s lent h (passed 22 rs refl z))
 
-read-in : (o : Judgement) (a : Message) (good : Bool) → (o ≡ Read → EntersForm a) → (s : State) (lent : Lent) → Fit s lent
+read-in : (o : Judgement) (a : Message) (good : Bool) → (o ≡ Read → Approves a) → (s : State) (lent : Lent) → Fit s lent
     → Fits (readIn o good a s lent)
 read-in Read a good n s lent h = answer-in a good (n refl) s lent h
 read-in (Unread k) a good n s lent h = h
@@ -176,4 +214,4 @@ pub answer-fits : (b : List ℕ) (good : Bool) (s : State) (lent : Lent) → Fit
 unfolding answer
 answer-fits b good s lent h =
     judged-fits (firstBroken (rules12 s lent)) s lent (readIn (readMessage b .outcome) good (readMessage b .message) s lent) h
-    (λ z. read-in (readMessage b .outcome) (readMessage b .message) good (enters-form b) s lent h)
+    (λ z. read-in (readMessage b .outcome) (readMessage b .message) good (read-approves b) s lent h)

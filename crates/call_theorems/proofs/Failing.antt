@@ -5,16 +5,15 @@ use Prim.Native.Nat.{_+_, _≤_, _<_}
 use borrow.Author.Tests.{le-leb, lt-leb}
 use Rattle.state.specs.declared.Reversal.{Reversal}
 use Rattle.state.specs.declared.Awaited.the-variants as awaited
-use Rattle.state.specs.declared.Phase.the-variants.{Resting, Waiting, Pending}
+use Rattle.state.specs.declared.Phase.the-variants.{Waiting, Pending}
 use Rattle.state.specs.declared.State.{State}
 use Rattle.state.specs.declared.Count.the-variants.{GivenUp}
-use Rattle.state.specs.State.{inPhase, counted}
+use Rattle.state.specs.State.{inPhase}
 use Rattle.checks.specs.Checks.{firstBroken}
 use Rattle.state.specs.Calls.{Lent, quiet}
 use Rattle.state.proofs.Judged.{goes}
-use Rattle.rules.specs.Rules.{rules12}
 use Rattle.call_definitions.specs.SendReversal.{sendsReversal, sendFrom, sendReversalRules, sendReversal}
-use Rattle.effect_definitions.specs.StateEffects.{again, failed}
+use Rattle.effect_definitions.specs.StateEffects.{ended, again, failed}
 use Rattle.call_definitions.specs.Answer.{quietly, noAnswerRules, noAnswer}
 use Rattle.effect_definitions.specs.JournalEffects.{silent, silentIn}
 use Rattle.call_theorems.specs.Ready.{Ready, StaysReady}
@@ -60,7 +59,7 @@ module _ (v : Reversal) (s : State) (lent : Lent) (h : Pends v s lent) where
   pends-again l = sent-silent ∙ rw (lt-leb _ _ l)
 
   pub gives-up : s .settings .sendings ≤ v .sendings + 1
-      → silenced (sendReversal s lent) ≡ quiet (inPhase Resting (counted GivenUp s)) (left v s lent)
+      → silenced (sendReversal s lent) ≡ quiet (ended GivenUp s) (left v s lent)
   unfolding failed
   gives-up l = sent-silent ∙ rw (le-leb _ _ l)
 

@@ -73,7 +73,7 @@ given-up r v h o p z =
       leaves = λ k l.
           let x = failures k r in
           let f = all-failed k v r none l in (
-            length (messageBytes (reversalMessage (x .state .settings) (x .state .batch) (again (sentTimes k v)))),
+            length (messageBytes (reversalMessage (x .state .settings) (x .state .batch) (x .state .chip) (again (sentTimes k v)))),
             ap (λ (y : Result). y .outcome) (sends (sentTimes k v) (x .state) (x .lent) (f .pends)),
           );
       pending = λ k l. all-failed k v r none l .pends .phase;

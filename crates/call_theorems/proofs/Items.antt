@@ -23,6 +23,7 @@ use Rattle.state.specs.declared.State.{State}
 use Rattle.state.specs.State.{inPhase}
 use Rattle.state.specs.Calls.{Lent, withJournal}
 use Rattle.rules.specs.Rules.{due}
+use Rattle.state_rules.proofs.Holds.{chip-stays}
 use Rattle.rules.proofs.InOrder.{InOrder, Fit}
 use Rattle.effect_definitions.specs.JournalEffects.{silentMark, marked, onItem}
 use Rattle.answer_match.specs.Match.{approves}
@@ -79,6 +80,7 @@ marked-order s es i x h a b c =
             next-most = h .state .next-most;
             sent-most = h .state .sent-most;
             phase-form = refl;
+            chip = chip-stays (Waiting (awaited.Item i)) Uploading (s .chip) refl refl (h .state .chip);
             few = h .state .few;
             balance = h .state .balance;
             approvals = h .state .approvals;

@@ -6,15 +6,15 @@ use Rattle.call_definitions.specs.Start.{start}
 use Rattle.call_definitions.specs.SendReversal.{sendReversal}
 use Rattle.call_definitions.specs.Settle.{settle}
 use Rattle.call_definitions.specs.SendNextUpload.{sendNextUpload}
-use Rattle.call_definitions.specs.Answer.{answer, noAnswer, powerReturned}
-use Rattle.call_definitions.specs.Events.{Event, signed-on, starts, answers, no-answer, power-returned, send-reversal, settles, send-next-upload}
+use Rattle.call_definitions.specs.Answer.{answer, noAnswer, powerReturned, cardAgrees, cardDeclines}
+use Rattle.call_definitions.specs.Events.{signed-on, starts, answers, no-answer, power-returned, card-agrees, card-declines, send-reversal, settles, send-next-upload}
 use Rattle.call_theorems.specs.Ready.{Ready, StaysReady, Keeping}
 use Rattle.rules.proofs.InOrder.{Fit}
 use Rattle.call_theorems.proofs.Back.{ready-fits, fit-ready}
 use Rattle.call_theorems.proofs.Refusing.{Fits}
 use Rattle.call_theorems.proofs.Signing.{signed-on-fits, send-reversal-fits}
 use Rattle.call_theorems.proofs.Starting.{start-fits}
-use Rattle.call_theorems.proofs.Events.{answer-fits, no-answer-fits, power-returned-fits}
+use Rattle.call_theorems.proofs.Events.{answer-fits, no-answer-fits, power-returned-fits, card-agrees-fits, card-declines-fits}
 use Rattle.call_theorems.proofs.Settling.{settle-fits}
 use Rattle.call_theorems.proofs.Uploading.{upload-fits}
 
@@ -24,10 +24,12 @@ stays s lent r h f = fit-ready (r .state) (r .lent) (f (ready-fits s lent h))
 
 pub keeping : Keeping
 keeping (signed-on batch) s lent h = stays s lent (signedOn batch s lent) h (signed-on-fits batch s lent)
-keeping (starts d) s lent h = stays s lent (start d s lent) h (start-fits d s lent)
+keeping (starts d b) s lent h = stays s lent (start d b s lent) h (start-fits d b s lent)
 keeping (answers b good) s lent h = stays s lent (answer b good s lent) h (answer-fits b good s lent)
 keeping no-answer s lent h = stays s lent (noAnswer s lent) h (no-answer-fits s lent)
 keeping power-returned s lent h = stays s lent (powerReturned s lent) h (power-returned-fits s lent)
+keeping card-agrees s lent h = stays s lent (cardAgrees s lent) h (card-agrees-fits s lent)
+keeping card-declines s lent h = stays s lent (cardDeclines s lent) h (card-declines-fits s lent)
 keeping send-reversal s lent h = stays s lent (sendReversal s lent) h (send-reversal-fits s lent)
 keeping settles s lent h = stays s lent (settle s lent) h (settle-fits s lent)
 keeping send-next-upload s lent h = stays s lent (sendNextUpload s lent) h (upload-fits s lent)

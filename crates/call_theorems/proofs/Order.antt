@@ -8,10 +8,11 @@ unfolding checkOrder
 lists-in-order =
     record {
       signed-on = λ batch s lent. refl;
-      start = λ d s es e lent. refl;
+      start = λ d b s es e lent. refl;
       answer = λ a s j. refl;
       no-answer = λ s lent. refl;
       power-returned = λ s lent. refl;
+      card = λ s lent. refl;
       send-reversal = λ s lent. refl;
       settle = λ s lent. refl;
       send-next-upload = λ s lent. refl;

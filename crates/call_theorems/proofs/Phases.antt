@@ -1,16 +1,16 @@
--- Laws of a terminal in order whose phase and counts change, its journal not.
+-- Laws of a terminal in order whose phase, chip and counts change, its journal not.
 use mathlib.Core.Path.{_≡_, refl, _∙_}
 use mathlib.Core.List.{List}
 use mathlib.Core.Bool.{Bool, true, false, cond, or-true}
 use Prim.Native.Nat.{ℕ, _+_, _≤_, _<_}
 use native.Mathlib.Omega.{arith}
-use lib.Dec.{leb, eqb}
+use lib.Dec.{leb}
 use borrow.Author.Tests.{leb-false, lt-ltb, ltb-true}
 use Rattle.numbers.specs.Limits.{lastNumber}
 use Rattle.kinds.specs.Kinds.{isDue, isNeverReversed}
-use Rattle.entry.specs.Form.{keepsUnmarked, keepsSilent, dueEntry}
+use Rattle.entry.specs.Form.{keepsUnmarked, dueEntry}
 use Rattle.entry.specs.declared.Entry.{Entry}
-use Rattle.journal.specs.Journal.{entriesOf, every, isAt, totalsOf, sumsOf}
+use Rattle.journal.specs.Journal.{entriesOf, sumsOf}
 use Rattle.journal.proofs.Searches.{every-implies}
 use Rattle.traces.proofs.Free.{following-range}
 use Rattle.numbers.specs.declared.Trace.{Trace}
@@ -19,31 +19,35 @@ use Rattle.state.specs.declared.Reason.{Reason}
 use Rattle.state.specs.declared.Request.{Request}
 use Rattle.state.specs.declared.Reversal.{Reversal}
 use Rattle.state.specs.declared.Awaited.the-variants as awaited
+use Rattle.state.specs.declared.Approval.{Approval}
+use Rattle.state.specs.declared.Chip.{Chip}
 use Rattle.state.specs.declared.Phase.{Phase}
 use Rattle.state.specs.declared.Phase.the-variants.{Resting, Waiting, Pending, Settling, Uploading}
 use Rattle.state.specs.declared.Counts.{Counts}
 use Rattle.state.specs.declared.State.{State}
 use Rattle.state.specs.declared.Count.the-variants.{Declined, Reversed, GivenUp, Unanswered}
-use Rattle.state.specs.State.{endedIn, plus, counted, inPhase, withCounts, withNext, inBatch, signed, closed}
+use Rattle.state.specs.State.{noChip, hasChip, asSent, approvedBy, endedIn, plus, inPhase, withChip, withCounts, withNext, inBatch, signed, closed}
 use Rattle.state.specs.Calls.{Lent}
 use Rattle.rules.specs.Rules.{inUpload, awaitedItem, phaseKept, due}
-use Rattle.state_rules.specs.StateRules.{requestInForm, reversalInForm, phaseInForm, waiting}
+use Rattle.state_rules.specs.StateRules.{requestInForm, reversalInForm, phaseInForm, kindIn, requestAwaited, waiting}
+use Rattle.state_rules.proofs.Holds.{ApprovalHolds, approval-back, ChipHolds, no-chip, chip-reversed, chip-stays}
 use Rattle.rules.proofs.InOrder.{JournalHolds, Fit}
-use Rattle.effect_definitions.specs.StateEffects.{again, pendingOrUnanswered, failed}
+use Rattle.effect_definitions.specs.StateEffects.{ended, again, pendingOrUnanswered, failed}
 use Rattle.numbers.proofs.Bounds.{within-yes}
 
--- what a new phase and new counts must keep
-pub record Moves (p : Phase) (c : Counts) (s : State) (es : List Entry) : Type 0 where
+-- what a new phase, a new chip and new counts must keep
+pub record Moves (p : Phase) (k : Chip) (c : Counts) (s : State) (es : List Entry) : Type 0 where
   pub sent-same : c .sent ≡ s .counts .sent
   pub approved-same : c .approved ≡ s .counts .approved
   pub phase-form : phaseInForm p ≡ true
+  pub chip : ChipHolds p k
   pub balance : c .sent ≡ endedIn c + waiting p
   pub journal : JournalHolds (s .settings .sendings) (due p) (inUpload p) (awaitedItem p) es
   pub phase-kept : phaseKept (s .settings) (s .entries) es p ≡ true
 
-pub moved : (p : Phase) (c : Counts) (s : State) (lent : Lent) → Fit s lent → Moves p c s (entriesOf (s .entries) (lent .journal))
-    → Fit (inPhase p (withCounts c s)) lent
-moved p c s lent f w =
+pub moved : (p : Phase) (k : Chip) (c : Counts) (s : State) (lent : Lent) → Fit s lent → Moves p k c s (entriesOf (s .entries) (lent .journal))
+    → Fit (inPhase p (withChip k (withCounts c s))) lent
+moved p k c s lent f w =
     let h = f .order .state in
     record {
       message-room = f .message-room;
@@ -59,6 +63,7 @@ moved p c s lent f w =
                   next-most = h .next-most;
                   sent-most = omega arith;
                   phase-form = w .phase-form;
+                  chip = w .chip;
                   few = h .few;
                   balance = w .balance;
                   approvals = w .approved-same ∙ h .approvals;
@@ -90,40 +95,57 @@ module _ (s : State) (lent : Lent) where
   pending-or-unanswered-fit r q h = go (isNeverReversed (q .kind)) refl
     where
       go : (b : Bool) → isNeverReversed (q .kind) ≡ b
-          → Fit (cond b (inPhase Resting (counted Unanswered s))
-          (inPhase (Pending (record { request = q; reason = r; sendings = 0 })) s)) lent
+          → Fit (cond b (ended Unanswered s)
+          (inPhase (Pending (record { request = q; reason = r; sendings = 0 })) (withChip (asSent (s .chip)) s))) lent
       go true e =
-          moved Resting (plus Unanswered (s .counts)) (inPhase (Waiting (awaited.Request q)) s) lent h
+          moved Resting noChip (plus Unanswered (s .counts)) (inPhase (Waiting (awaited.Request q)) s) lent h
           (record {
             sent-same = refl;
             approved-same = refl;
             phase-form = refl;
+            chip = no-chip Resting;
             journal = h .order .journal;
             balance = omega arith;
             phase-kept = refl;
           })
       go false e =
-          moved (Pending (record { request = q; reason = r; sendings = 0 })) (s .counts) (inPhase (Waiting (awaited.Request q)) s) lent h
+          moved (Pending (record { request = q; reason = r; sendings = 0 })) (asSent (s .chip)) (s .counts) (inPhase (Waiting (awaited.Request q)) s) lent h
           (record {
             sent-same = refl;
             approved-same = refl;
             phase-form = reversal-form q r 0 (h .order .state .phase-form) e;
+            chip = chip-reversed (Waiting (awaited.Request q)) (Pending (record { request = q; reason = r; sendings = 0 })) (s .chip) refl (h .order .state .chip);
             journal = h .order .journal;
             balance = h .order .state .balance;
             phase-kept = lt-ltb 0 (s .settings .sendings) (h .order .state .settings .sendings-least);
           })
 
-  pub declined-fit : (q : Request) → Fit (inPhase (Waiting (awaited.Request q)) s) lent
-      → Fit (inPhase Resting (counted Declined s)) lent
+  pub declined-fit : (q : Request) → Fit (inPhase (Waiting (awaited.Request q)) s) lent → Fit (ended Declined s) lent
   declined-fit q h =
-      moved Resting (plus Declined (s .counts)) (inPhase (Waiting (awaited.Request q)) s) lent h
+      moved Resting noChip (plus Declined (s .counts)) (inPhase (Waiting (awaited.Request q)) s) lent h
       (record {
         sent-same = refl;
         approved-same = refl;
         phase-form = refl;
+        chip = no-chip Resting;
         journal = h .order .journal;
         balance = omega arith;
         phase-kept = refl;
+      })
+
+  -- a good 00 to a request with a chip: the card's word is awaited
+  pub consent-fit : (q : Request) (a : Approval) → Fit (inPhase (Waiting (awaited.Request q)) s) lent → hasChip (s .chip) ≡ true
+      → ApprovalHolds a → Fit (inPhase (Waiting (awaited.Request q)) (withChip (approvedBy a (s .chip)) s)) lent
+  consent-fit q a h c w =
+      moved (Waiting (awaited.Request q)) (approvedBy a (s .chip)) (s .counts) (inPhase (Waiting (awaited.Request q)) s) lent h
+      (record {
+        sent-same = refl;
+        approved-same = refl;
+        phase-form = h .order .state .phase-form;
+        chip = record { sent = h .order .state .chip .sent; awaited = λ y. rw (c, approval-back a w) };
+        journal = h .order .journal;
+        balance = h .order .state .balance;
+        phase-kept = h .order .phase-kept;
       })
 
   -- a reversal's sending failed
@@ -132,36 +154,38 @@ module _ (s : State) (lent : Lent) where
   failed-fit v h = go (leb (s .settings .sendings) (v .sendings)) refl
     where
       go : (b : Bool) → leb (s .settings .sendings) (v .sendings) ≡ b
-          → Fit (cond b (inPhase Resting (counted GivenUp s)) (inPhase (Pending v) s)) lent
+          → Fit (cond b (ended GivenUp s) (inPhase (Pending v) s)) lent
       go true e =
-          moved Resting (plus GivenUp (s .counts)) (inPhase (Waiting (awaited.Reversal v)) s) lent h
+          moved Resting noChip (plus GivenUp (s .counts)) (inPhase (Waiting (awaited.Reversal v)) s) lent h
           (record {
             sent-same = refl;
             approved-same = refl;
             phase-form = refl;
+            chip = no-chip Resting;
             journal = h .order .journal;
             balance = omega arith;
             phase-kept = refl;
           })
       go false e =
-          moved (Pending v) (s .counts) (inPhase (Waiting (awaited.Reversal v)) s) lent h
+          moved (Pending v) (s .chip) (s .counts) (inPhase (Waiting (awaited.Reversal v)) s) lent h
           (record {
             sent-same = refl;
             approved-same = refl;
             phase-form = h .order .state .phase-form;
+            chip = chip-stays (Waiting (awaited.Reversal v)) (Pending v) (s .chip) refl refl (h .order .state .chip);
             journal = h .order .journal;
             balance = h .order .state .balance;
             phase-kept = lt-ltb (v .sendings) (s .settings .sendings) (leb-false _ _ e);
           })
 
-  pub reversed-fit : (v : Reversal) → Fit (inPhase (Waiting (awaited.Reversal v)) s) lent
-      → Fit (inPhase Resting (counted Reversed s)) lent
+  pub reversed-fit : (v : Reversal) → Fit (inPhase (Waiting (awaited.Reversal v)) s) lent → Fit (ended Reversed s) lent
   reversed-fit v h =
-      moved Resting (plus Reversed (s .counts)) (inPhase (Waiting (awaited.Reversal v)) s) lent h
+      moved Resting noChip (plus Reversed (s .counts)) (inPhase (Waiting (awaited.Reversal v)) s) lent h
       (record {
         sent-same = refl;
         approved-same = refl;
         phase-form = refl;
+        chip = no-chip Resting;
         journal = h .order .journal;
         balance = omega arith;
         phase-kept = refl;
@@ -171,11 +195,12 @@ module _ (s : State) (lent : Lent) where
   pub again-fit : (v : Reversal) → Fit (inPhase (Pending v) s) lent → Fit (inPhase (Waiting (awaited.Reversal (again v))) s) lent
   again-fit v h =
       let l : v .sendings < s .settings .sendings = ltb-true (v .sendings) (s .settings .sendings) (h .order .phase-kept) in
-      moved (Waiting (awaited.Reversal (again v))) (s .counts) (inPhase (Pending v) s) lent h
+      moved (Waiting (awaited.Reversal (again v))) (s .chip) (s .counts) (inPhase (Pending v) s) lent h
       (record {
         sent-same = refl;
         approved-same = refl;
         phase-form = again-form v (h .order .state .phase-form);
+        chip = chip-stays (Pending v) (Waiting (awaited.Reversal (again v))) (s .chip) refl refl (h .order .state .chip);
         journal = h .order .journal;
         balance = h .order .state .balance;
         phase-kept = within-yes 1 (v .sendings + 1) (s .settings .sendings) (omega arith) (omega arith);
@@ -184,11 +209,12 @@ module _ (s : State) (lent : Lent) where
   -- a settlement unanswered, or answered by an upload; the upload's end, not closed
   pub settling-fit : (x : Trace) → Fit (inPhase (Waiting (awaited.Settlement x)) s) lent → Fit (inPhase Settling s) lent
   settling-fit x h =
-      moved Settling (s .counts) (inPhase (Waiting (awaited.Settlement x)) s) lent h
+      moved Settling (s .chip) (s .counts) (inPhase (Waiting (awaited.Settlement x)) s) lent h
       (record {
         sent-same = refl;
         approved-same = refl;
         phase-form = refl;
+        chip = chip-stays (Waiting (awaited.Settlement x)) Settling (s .chip) refl refl (h .order .state .chip);
         journal = h .order .journal;
         balance = h .order .state .balance;
         phase-kept = refl;
@@ -196,11 +222,12 @@ module _ (s : State) (lent : Lent) where
 
   pub uploading-fit : (x : Trace) → Fit (inPhase (Waiting (awaited.Settlement x)) s) lent → Fit (inPhase Uploading s) lent
   uploading-fit x h =
-      moved Uploading (s .counts) (inPhase (Waiting (awaited.Settlement x)) s) lent h
+      moved Uploading (s .chip) (s .counts) (inPhase (Waiting (awaited.Settlement x)) s) lent h
       (record {
         sent-same = refl;
         approved-same = refl;
         phase-form = refl;
+        chip = chip-stays (Waiting (awaited.Settlement x)) Uploading (s .chip) refl refl (h .order .state .chip);
         journal =
             record {
               form = h .order .journal .form;
@@ -220,20 +247,21 @@ module _ (s : State) (lent : Lent) where
 
   pub ending-fit : (x : Trace) → Fit (inPhase (Waiting (awaited.End x)) s) lent → Fit (inPhase Uploading s) lent
   ending-fit x h =
-      moved Uploading (s .counts) (inPhase (Waiting (awaited.End x)) s) lent h
+      moved Uploading (s .chip) (s .counts) (inPhase (Waiting (awaited.End x)) s) lent h
       (record {
         sent-same = refl;
         approved-same = refl;
         phase-form = refl;
+        chip = chip-stays (Waiting (awaited.End x)) Uploading (s .chip) refl refl (h .order .state .chip);
         journal = h .order .journal;
         balance = h .order .state .balance;
         phase-kept = refl;
       })
 
   -- a closed batch
-  pub closed-fit : Fit s lent → Fit (closed s) lent
+  pub closed-fit : kindIn (s .phase) ≡ 0 → requestAwaited (s .phase) ≡ false → Fit s lent → Fit (closed s) lent
   unfolding sumsOf
-  closed-fit h =
+  closed-fit k w h =
       let f = following-range (s .batch .0) in
       record {
         message-room = h .message-room;
@@ -249,6 +277,7 @@ module _ (s : State) (lent : Lent) where
                     next-most = h .order .state .next-most;
                     sent-most = omega arith;
                     phase-form = refl;
+                    chip = chip-stays (s .phase) Resting (s .chip) k w (h .order .state .chip);
                     few = omega arith;
                     balance = refl;
                     approvals = refl;
@@ -286,6 +315,7 @@ module _ (s : State) (lent : Lent) where
                     next-most = b;
                     sent-most = h .sent-most;
                     phase-form = h .phase-form;
+                    chip = h .chip;
                     few = h .few;
                     balance = h .balance;
                     approvals = h .approvals;
@@ -314,6 +344,7 @@ module _ (s : State) (lent : Lent) where
                     next-most = h .next-most;
                     sent-most = h .sent-most;
                     phase-form = h .phase-form;
+                    chip = h .chip;
                     few = h .few;
                     balance = h .balance;
                     approvals = h .approvals;

@@ -6,19 +6,35 @@ use Prim.Native.Nat.{ℕ, _+_, _*_, _-_, _≤_, _<_}
 use native.Mathlib.Omega.{arith}
 use native.Mathlib.Decide.{decLt}
 use lib.Dec.{eqb}
-use lib.ListN.{length, length-append}
+use lib.ListN.{length, replicate, length-append}
 use lib.Seq.{take-at, drop-at, take-take, drop-drop, length-take-le, take-set-le, take-set-lt, drop-set-lt}
 use Rattle.kinds.specs.Kinds.{takesOriginal}
 use Rattle.entry.specs.Entry.{entrySize, encode}
+use Rattle.entry.specs.Theorems.{Shaped}
 use Rattle.entry.specs.declared.Entry.{Entry}
 use Rattle.journal.specs.Journal.{entriesOf, originalFor, putEntry, setByte}
 use Rattle.journal.specs.declared.Found.{Found}
 use Rattle.journal.specs.declared.Found.the-variants.{At, Nowhere}
 use Rattle.journal.proofs.Entries.{length-entries-le, put-there, put-short, length-set-byte}
 use Rattle.journal.proofs.Searches.{first-at}
+use Rattle.message.specs.declared.Message.{Message}
 use Rattle.state.specs.declared.Request.{Request}
+use Rattle.approval.specs.Approval.{approvalOf, approvedEntry}
+use Rattle.approval.proofs.Approval.{length-card, field-length}
 use Rattle.effect_definitions.specs.JournalEffects.{voidedAt, originalVoided, resent}
 use Rattle.call_theorems.specs.JournalRest.{upTo, after}
+
+-- the entry of what any message says has its arrays' lengths
+pub answer-shaped : (q : Request) (m : Message) → Shaped (approvedEntry q (approvalOf m))
+unfolding approvedEntry approvalOf
+answer-shaped q m =
+    record {
+      card-length = length-card (q .card);
+      date-length = field-length m 13 2 (replicate 2 0) refl;
+      authorisation-length = field-length m 38 6 (replicate 6 0x20) refl;
+      reference-length = field-length m 37 12 (replicate 12 0) refl;
+      reserved-length = refl;
+    }
 
 -- an entry written after the last
 module _ (n : ℕ) (x : Entry) (j : List ℕ) (w : length (encode x) ≡ entrySize) where

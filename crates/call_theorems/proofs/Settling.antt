@@ -1,6 +1,6 @@
 -- The call settle keeps rules 1 and 2.
 use mathlib.Core.Path.{_≡_, refl}
-use mathlib.Core.Bool.{true, false, true≢false}
+use mathlib.Core.Bool.{false, true≢false}
 use Prim.Native.Nat.{_≤_}
 use Rattle.numbers.specs.Limits.{lastNumber}
 use Rattle.numbers.specs.Numbers.{following}
@@ -16,6 +16,7 @@ use Rattle.state.specs.State.{inPhase, waits, pends, uploads}
 use Rattle.state.specs.Calls.{Lent}
 use Rattle.checks.specs.Checks.{firstBroken}
 use Rattle.checks.proofs.Choices.{passed}
+use Rattle.state_rules.proofs.Holds.{chip-stays}
 use Rattle.rules.proofs.InOrder.{Fit}
 use Rattle.call_definitions.specs.Settle.{settleRules, settle}
 use Rattle.batch_messages.specs.BatchMessages.{settlementMessage}
@@ -29,11 +30,12 @@ settles-from : (p : Phase) → waits p ≡ false → pends p ≡ false → uploa
     → (s : State) (lent : Lent) (x : Trace) → 1 ≤ x .0 → x .0 ≤ lastNumber → Fit (inPhase p s) lent
     → Fit (inPhase (Waiting (awaited.Settlement x)) s) lent
 settles-from Resting w v u s lent x a b h =
-    moved (Waiting (awaited.Settlement x)) (s .counts) (inPhase Resting s) lent h
+    moved (Waiting (awaited.Settlement x)) (s .chip) (s .counts) (inPhase Resting s) lent h
     (record {
       sent-same = refl;
       approved-same = refl;
       phase-form = within-yes 1 (x .0) lastNumber a b;
+      chip = chip-stays Resting (Waiting (awaited.Settlement x)) (s .chip) refl refl (h .order .state .chip);
       journal = h .order .journal;
       balance = h .order .state .balance;
       phase-kept = refl;
@@ -41,11 +43,12 @@ settles-from Resting w v u s lent x a b h =
 settles-from (Waiting y) w v u s lent x a b h = absurd (true≢false w)
 settles-from (Pending r) w v u s lent x a b h = absurd (true≢false v)
 settles-from Settling w v u s lent x a b h =
-    moved (Waiting (awaited.Settlement x)) (s .counts) (inPhase Settling s) lent h
+    moved (Waiting (awaited.Settlement x)) (s .chip) (s .counts) (inPhase Settling s) lent h
     (record {
       sent-same = refl;
       approved-same = refl;
       phase-form = within-yes 1 (x .0) lastNumber a b;
+      chip = chip-stays Settling (Waiting (awaited.Settlement x)) (s .chip) refl refl (h .order .state .chip);
       journal = h .order .journal;
       balance = h .order .state .balance;
       phase-kept = refl;

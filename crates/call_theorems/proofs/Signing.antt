@@ -40,7 +40,7 @@ send-from : (p : Phase) (s : State) (lent : Lent) → Fit (inPhase p s) lent →
 send-from Resting s lent h = h
 send-from (Waiting a) s lent h = h
 send-from (Pending v) s lent h =
-    sent-fits (messageBytes (reversalMessage (s .settings) (s .batch) (again v))) _ lent (again-fit s lent v h)
+    sent-fits (messageBytes (reversalMessage (s .settings) (s .batch) (s .chip) (again v))) _ lent (again-fit s lent v h)
 send-from Settling s lent h = h
 send-from Uploading s lent h = h
 

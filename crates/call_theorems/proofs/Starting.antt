@@ -1,7 +1,7 @@
 -- The call start keeps rules 1 and 2.
-use mathlib.Core.Path.{_≡_, refl, subst}
+use mathlib.Core.Path.{_≡_, refl, sym, subst}
 use mathlib.Core.List.{List}
-use mathlib.Core.Bool.{Bool, true, false, not, _&&_, _||_, and-eq-true-iff, true≢false}
+use mathlib.Core.Bool.{Bool, true, false, cond, not, _&&_, _||_, and-eq-true-iff, true≢false}
 use Prim.Native.Nat.{ℕ, _-_, _≤_, _<_}
 use native.Mathlib.Omega.{arith}
 use lib.Dec.{leb, eqb}
@@ -10,7 +10,7 @@ use Rattle.numbers.specs.Limits.{largestAmount, lastNumber, mostRequests}
 use Rattle.numbers.specs.Numbers.{within}
 use Rattle.digits.proofs.Packed.{number-below}
 use Rattle.writing.specs.Writing.{messageBytes}
-use Rattle.kinds.specs.Kinds.{isKind, takesOriginal, originalKind}
+use Rattle.kinds.specs.Kinds.{isKind, takesOriginal, originalKind, sendsChip}
 use Rattle.entry.specs.Form.{inForm}
 use Rattle.entry.specs.declared.Entry.{Entry}
 use Rattle.entry.proofs.Form.{in-form}
@@ -21,31 +21,36 @@ use Rattle.journal.specs.declared.Found.the-variants.{At, Nowhere}
 use Rattle.journal.proofs.Entries.{length-entries-le}
 use Rattle.journal.proofs.Searches.{first-at}
 use Rattle.traces.proofs.Free.{taken-free, taken-range, following-range}
+use Rattle.state.specs.declared.Awaited.the-variants as awaited
+use Rattle.state.specs.declared.Chip.{Chip}
 use Rattle.state.specs.declared.Request.{Request}
 use Rattle.state.specs.declared.Phase.{Phase}
 use Rattle.state.specs.declared.Phase.the-variants.{Resting, Waiting, Pending, Settling, Uploading}
 use Rattle.state.specs.declared.State.{State}
-use Rattle.state.specs.State.{inPhase, waits, pends, closes}
+use Rattle.state.specs.State.{noChip, chipOf, inPhase, waits, pends, closes}
 use Rattle.state.specs.Calls.{Lent}
 use Rattle.checks.specs.Checks.{firstBroken}
 use Rattle.checks.proofs.Choices.{passed}
 use Rattle.rules.specs.Rules.{unvoidedAt, originalUnvoided, requestKept}
 use Rattle.state_rules.specs.StateRules.{isCard, requestInForm, past}
 use Rattle.rules.proofs.InOrder.{Fit}
-use Rattle.state_rules.proofs.Holds.{RequestHolds, card-holds, request-back}
+use Rattle.state_rules.proofs.Holds.{RequestHolds, card-holds, request-back, ChipHolds, no-chip}
 use Rattle.outgoing.specs.Outgoing.{requestMessage}
+use Rattle.call_definitions.proofs.Refusals.{unbroken}
 use Rattle.call_definitions.proofs.Held.{found-for, entry-in-form}
 use Rattle.call_definitions.specs.Start.{originalOf, entryOf, namedBy, startRules, start}
-use Rattle.desk.specs.DeskRules.{deskInForm, requestOf}
+use Rattle.desk.specs.DeskRules.{sendsField55, chipFrom, chipRules, deskInForm, requestOf}
+use Rattle.desk.proofs.Chips.{chip-passed, chip-bytes}
 use Rattle.effect_definitions.specs.StateEffects.{requested}
 use Rattle.desk.specs.declared.Desk.{Desk}
 use Rattle.call_theorems.proofs.Refusing.{Fits, judged-fits, sent-fits}
 
 -- a request leaves a resting terminal
-requested-fit : (q : Request) (s : State) (lent : Lent) → Fit (inPhase Resting s) lent → requestInForm q ≡ true
+requested-fit : (c : Chip) (q : Request) (s : State) (lent : Lent) → Fit (inPhase Resting s) lent → requestInForm q ≡ true
+    → ChipHolds (Waiting (awaited.Request q)) c
     → requestKept (s .settings .limit) (s .entries) (entriesOf (s .entries) (lent .journal)) q ≡ true → s .counts .sent < mostRequests
-    → Fit (requested s q) lent
-requested-fit q s lent f r k l =
+    → Fit (requested s c q) lent
+requested-fit c q s lent f r y k l =
     let h = f .order .state in
     let n = following-range (q .trace .0) in
     record {
@@ -62,6 +67,7 @@ requested-fit q s lent f r k l =
                   next-most = n .1;
                   sent-most = omega arith;
                   phase-form = r;
+                  chip = y;
                   few = h .few;
                   balance = omega (arith, h .balance);
                   approvals = h .approvals;
@@ -70,6 +76,19 @@ requested-fit q s lent f r k l =
             phase-kept = k;
           };
     }
+
+-- the chip of a request passes 23 and goes with its kind
+started-chip : (d : Desk) (b : List ℕ) (e : Entry) (n : ℕ) → firstBroken (chipRules d b) ≡ 0
+    → ChipHolds (Waiting (awaited.Request (requestOf d e n))) (chipFrom d b)
+started-chip d b e n h = go (sendsField55 d) refl
+  where
+    go : (t : Bool) → sendsField55 d ≡ t → ChipHolds (Waiting (awaited.Request (requestOf d e n))) (cond t (chipOf b) noChip)
+    go true t =
+        record {
+          sent = λ y. rw (and-eq-true-iff (d .chip) (sendsChip (d .kind)) .0 t .1, chip-bytes b) (chip-passed d b h t);
+          awaited = λ y. absurd (true≢false (sym y));
+        }
+    go false t = no-chip (Waiting (awaited.Request (requestOf d e n)))
 
 -- rules 11, 12 and 13 leave one phase
 resting : (p : Phase) → waits p ≡ false → pends p ≡ false → closes p ≡ false → p ≡ Resting
@@ -178,14 +197,14 @@ or-false false b e = (refl, e)
 and-false : (a b : Bool) → (a && b) ≡ false → a ≡ true → b ≡ false
 and-false a b h e = rw e at h
 
-started-fits : (d : Desk) (s : State) (lent : Lent) (f : Found) → Fit s lent → originalOf d (entriesOf (s .entries) (lent .journal)) ≡ f
-    → firstBroken (startRules d s (entriesOf (s .entries) (lent .journal)) (entryOf f (entriesOf (s .entries) (lent .journal))) lent) ≡ 0
-    → Fit (requested s (requestOf d (entryOf f (entriesOf (s .entries) (lent .journal))) (taken (entriesOf (s .entries) (lent .journal)) (s .next .0)))) lent
-started-fits d s lent f h q z =
+started-fits : (d : Desk) (b : List ℕ) (s : State) (lent : Lent) (f : Found) → Fit s lent → originalOf d (entriesOf (s .entries) (lent .journal)) ≡ f
+    → firstBroken (startRules d b s (entriesOf (s .entries) (lent .journal)) (entryOf f (entriesOf (s .entries) (lent .journal))) lent) ≡ 0
+    → Fit (requested s (chipFrom d b) (requestOf d (entryOf f (entriesOf (s .entries) (lent .journal))) (taken (entriesOf (s .entries) (lent .journal)) (s .next .0)))) lent
+started-fits d b s lent f h q z =
     let es = entriesOf (s .entries) (lent .journal) in
     let e = entryOf f es in
     let n = taken es (s .next .0) in
-    let rs = startRules d s es e lent in
+    let rs = startRules d b s es e lent in
     let g = resting (s .phase) (passed 11 rs refl z) (passed 12 rs refl z) (passed 13 rs refl z) in
     let desk = desk-holds d (not-false (deskInForm d) (passed 16 rs refl z)) in
     let full = or-false (leb (s .settings .limit) (s .entries)) (leb mostRequests (s .counts .sent)) (passed 18 rs refl z) in
@@ -196,19 +215,20 @@ started-fits d s lent f h q z =
     let range = taken-range es (s .next .0) (h .order .state .next-least) (h .order .state .next-most) in
     let free = taken-free es (s .next .0) (h .order .state .next-least) (h .order .state .next-most)
     (omega (arith, length-entries-le (s .entries) (lent .journal), h .order .state .few, h .order .state .settings .limit-most)) in
-    requested-fit (requestOf d e n) s lent (subst (λ (p : Phase). Fit (inPhase p s) lent) g h)
+    requested-fit (chipFrom d b) (requestOf d e n) s lent (subst (λ (p : Phase). Fit (inPhase p s) lent) g h)
     (request-back (requestOf d e n)
     (request-of-holds d es e n (range .0) (range .1) (desk .0) (desk .1) (passed 15 rs refl z) o))
+    (started-chip d b e n (unbroken d b s e lent z .chip))
     (kept (s .settings .limit) (s .entries) es (requestOf d e n) (leb-false _ _ (full .0)) (passed 21 rs refl z)
     (original-is-left d es e n o) free)
     (leb-false _ _ (full .1))
 
-pub start-fits : (d : Desk) (s : State) (lent : Lent) → Fit s lent → Fits (start d s lent)
+pub start-fits : (d : Desk) (b : List ℕ) (s : State) (lent : Lent) → Fit s lent → Fits (start d b s lent)
 unfolding start
-start-fits d s lent h =
+start-fits d b s lent h =
     let es = entriesOf (s .entries) (lent .journal) in
     let e = entryOf (originalOf d es) es in
     let q = requestOf d e (taken es (s .next .0)) in
-    judged-fits (firstBroken (startRules d s es e lent)) s lent _ h
-    (λ z. sent-fits (messageBytes (requestMessage (s .settings) (s .batch) q (namedBy d (s .batch) e))) (requested s q) lent
-    (started-fits d s lent (originalOf d es) h refl z))
+    judged-fits (firstBroken (startRules d b s es e lent)) s lent _ h
+    (λ z. sent-fits (messageBytes (requestMessage (s .settings) (s .batch) (chipFrom d b) q (namedBy d (s .batch) e))) (requested s (chipFrom d b) q) lent
+    (started-fits d b s lent (originalOf d es) h refl z))

@@ -1,15 +1,18 @@
--- The settings never change; of the message buffer a call looks at its length alone.
+-- The settings never change, nor does field 55 of a request that has not ended; of the message buffer a call looks at its length alone.
 use mathlib.Core.Path.{_≡_, refl}
 use mathlib.Core.List.{List}
-use mathlib.Core.Bool.{Bool, true, false, cond}
+use mathlib.Core.Bool.{Bool, true, false, cond, true≢false}
 use Prim.Native.Nat.{ℕ}
+use native.Mathlib.Omega.{arith}
 use lib.Dec.{eqb, leb}
 use lib.ListN.{length}
+use borrow.Author.Tests.{eqb-true}
 use Rattle.reading.specs.Reading.{readMessage}
 use Rattle.reading.specs.declared.ReadOutcome.{ReadOutcome as Judgement}
 use Rattle.reading.specs.declared.ReadOutcome.the-variants.{Read, Refused as Unread}
 use Rattle.message.specs.declared.Message.{Message}
 use Rattle.kinds.specs.Kinds.{isNeverReversed}
+use Rattle.entry.specs.declared.Entry.{Entry}
 use Rattle.journal.specs.Journal.{entriesOf, nextDue}
 use Rattle.journal.specs.declared.Found.{Found}
 use Rattle.journal.specs.declared.Found.the-variants.{At, Nowhere}
@@ -20,116 +23,185 @@ use Rattle.state.specs.declared.Phase.the-variants.{Resting, Waiting, Pending, 
 use Rattle.state.specs.declared.Request.{Request}
 use Rattle.state.specs.declared.Reversal.{Reversal}
 use Rattle.state.specs.declared.State.{State}
-use Rattle.state.specs.declared.Count.the-variants.{Declined, Unanswered}
+use Rattle.state.specs.declared.Count.{Count}
+use Rattle.state.specs.declared.Count.the-variants.{Declined, Reversed, GivenUp, Unanswered}
+use Rattle.state.specs.declared.Reason.{Reason}
 use Rattle.state.specs.declared.Reason.the-variants.{BadMac}
-use Rattle.state.specs.State.{inPhase, counted}
+use Rattle.state.specs.State.{chipBytes, hasChip, approvalIn, waits, pends}
 use Rattle.state.specs.Calls.{Lent, lend, Result, refused, judged}
+use Rattle.checks.specs.Checks.{firstBroken}
+use Rattle.checks.proofs.Choices.{passed}
+use Rattle.state_rules.specs.StateRules.{waiting}
 use Rattle.rules.specs.Rules.{tooShort, due}
 use Rattle.answer_match.specs.Match.{approves, goodMac, endsReversal, closesBatch}
-use Rattle.approval.specs.Approval.{approvedEntry}
-use Rattle.effect_definitions.specs.StateEffects.{pendingOrUnanswered, failed, onReversal, onSettlement, onEnd}
-use Rattle.effect_definitions.specs.JournalEffects.{changed, silent, silentIn, approved, onRequest, answered}
+use Rattle.approval.specs.Approval.{approvalOf, approvedEntry}
+use Rattle.effect_definitions.specs.StateEffects.{ended, pendingOrUnanswered, silenceOf, failed, onReversal, onSettlement, onEnd}
+use Rattle.effect_definitions.specs.JournalEffects.{Changed, silent, silentIn, approved, granted, onRequest, agreed, agreedIn, answered}
 use Rattle.call_definitions.specs.SignOn.{signedOn}
-use Rattle.call_definitions.specs.Start.{start}
-use Rattle.call_definitions.specs.Answer.{noAnswer, withoutPower, powerReturned, answeredIn, readIn, answer}
+use Rattle.call_definitions.specs.Start.{originalOf, entryOf, startRules, start}
+use Rattle.desk.specs.declared.Desk.{Desk}
+use Rattle.call_definitions.specs.Answer.{noAnswer, withoutPower, powerReturned, cardAgrees, cardDeclines, answeredIn, readIn, answer}
 use Rattle.call_definitions.specs.SendReversal.{sendFrom, sendReversal}
 use Rattle.call_definitions.specs.Settle.{settle}
 use Rattle.call_definitions.specs.SendNextUpload.{sendsNext, uploadFrom, sendNextUpload}
-use Rattle.call_definitions.specs.Events.{signed-on, starts, answers, no-answer, power-returned, send-reversal, settles, send-next-upload}
-use Rattle.call_theorems.specs.Facts.{SettingsStay, SameButMessage, MessageByLength}
+use Rattle.call_definitions.specs.Events.{Event, call, signed-on, starts, answers, no-answer, power-returned, card-agrees, card-declines, send-reversal, settles, send-next-upload}
+use Rattle.call_theorems.specs.Facts.{SettingsStay, ChipStaysAsSent, SameButMessage, MessageByLength}
 
--- the settings
+-- what a change keeps: the settings, and field 55 of a request that has not ended
 record Keeps (s t : State) : Type 0 where
   settings-are : t .settings ≡ s .settings
+  chip-is : waiting (s .phase) ≡ 1 → waiting (t .phase) ≡ 1 → chipBytes (t .chip) ≡ chipBytes (s .chip)
+
+abbrev KeptBy : State → Changed → Type 0
+KeptBy s c = Keeps s (c .state)
+
+abbrev keeps : {s t : State} → t .settings ≡ s .settings → chipBytes (t .chip) ≡ chipBytes (s .chip) → Keeps s t
+keeps x c = record { settings-are = x; chip-is = λ a b. c }
+
+-- a request's end
+ends : (k : Count) (s : State) → Keeps s (ended k s)
+ends k s = record { settings-are = refl; chip-is = λ a b. absurd (omega (arith, b)) }
 
 either : {s x y : State} (b : Bool) → Keeps s x → Keeps s y → Keeps s (cond b x y)
 either true h k = h
 either false h k = k
 
-silent-keeps : (w : Awaited) (s : State) (j : List ℕ) → Keeps s (silent w s j .state)
-unfolding silent pendingOrUnanswered failed
-silent-keeps (awaited.Request q) s j = either (isNeverReversed (q .kind)) (record { settings-are = refl }) (record { settings-are = refl })
-silent-keeps (awaited.Reversal v) s j = either (leb (s .settings .sendings) (v .sendings)) (record { settings-are = refl }) (record { settings-are = refl })
-silent-keeps (awaited.Settlement t) s j = record { settings-are = refl }
-silent-keeps (awaited.Item i) s j = record { settings-are = refl }
-silent-keeps (awaited.End t) s j = record { settings-are = refl }
+one-of : (s : State) (b : Bool) (x y : Changed) → KeptBy s x → KeptBy s y → KeptBy s (cond b x y)
+one-of s true x y h k = h
+one-of s false x y h k = k
 
-silent-in : (p : Phase) (s : State) (j : List ℕ) → Keeps s (silentIn p s j .state)
-silent-in Resting s j = record { settings-are = refl }
+pending-keeps : (r : Reason) (q : Request) (s : State) → Keeps s (pendingOrUnanswered r q s)
+unfolding pendingOrUnanswered
+pending-keeps r q s = either (isNeverReversed (q .kind)) (ends Unanswered s) (keeps refl refl)
+
+failed-keeps : (v : Reversal) (s : State) → Keeps s (failed v s)
+unfolding failed
+failed-keeps v s = either (leb (s .settings .sendings) (v .sendings)) (ends GivenUp s) (keeps refl refl)
+
+approved-keeps : (q : Request) (e : Entry) (s : State) (j : List ℕ) → KeptBy s (approved q e s j)
+unfolding approved
+approved-keeps q e s j = record { settings-are = refl; chip-is = λ a b. absurd (omega (arith, b)) }
+
+silent-keeps : (w : Awaited) (s : State) (j : List ℕ) → KeptBy s (silent w s j)
+unfolding silent
+silent-keeps (awaited.Request q) s j = pending-keeps (silenceOf s) q s
+silent-keeps (awaited.Reversal v) s j = failed-keeps v s
+silent-keeps (awaited.Settlement t) s j = keeps refl refl
+silent-keeps (awaited.Item i) s j = keeps refl refl
+silent-keeps (awaited.End t) s j = keeps refl refl
+
+silent-in : (p : Phase) (s : State) (j : List ℕ) → KeptBy s (silentIn p s j)
+silent-in Resting s j = keeps refl refl
 silent-in (Waiting w) s j = silent-keeps w s j
-silent-in (Pending v) s j = record { settings-are = refl }
-silent-in Settling s j = record { settings-are = refl }
-silent-in Uploading s j = record { settings-are = refl }
+silent-in (Pending v) s j = keeps refl refl
+silent-in Settling s j = keeps refl refl
+silent-in Uploading s j = keeps refl refl
 
-answered-keeps : (w : Awaited) (good : Bool) (a : Message) (s : State) (j : List ℕ) → Keeps s (answered good a w s j .state)
-unfolding answered onRequest approved pendingOrUnanswered onReversal failed onSettlement onEnd
-answered-keeps (awaited.Request q) good a s j = go (approves a) (goodMac good a) (isNeverReversed (q .kind))
-  where
-    go : (x y z : Bool) → Keeps s
-        (cond x
-        (cond y (approved q (approvedEntry q a) s j)
-        (changed (cond z (inPhase Resting (counted Unanswered s)) (inPhase (Pending (record { request = q; reason = BadMac; sendings = 0 })) s)) j))
-        (changed (inPhase Resting (counted Declined s)) j) .state)
-    go true true z = record { settings-are = refl }
-    go true false true = record { settings-are = refl }
-    go true false false = record { settings-are = refl }
-    go false y z = record { settings-are = refl }
-answered-keeps (awaited.Reversal v) good a s j =
-    either (endsReversal good a) (record { settings-are = refl })
-    (either (leb (s .settings .sendings) (v .sendings)) (record { settings-are = refl }) (record { settings-are = refl }))
-answered-keeps (awaited.Settlement t) good a s j = either (closesBatch a) (record { settings-are = refl }) (record { settings-are = refl })
-answered-keeps (awaited.Item i) good a s j = record { settings-are = refl }
-answered-keeps (awaited.End t) good a s j = either (approves a) (record { settings-are = refl }) (record { settings-are = refl })
+answered-keeps : (w : Awaited) (good : Bool) (a : Message) (s : State) (j : List ℕ) → KeptBy s (answered good a w s j)
+unfolding answered onRequest granted onReversal onSettlement onEnd
+answered-keeps (awaited.Request q) good a s j =
+    one-of s (approves a) _ _
+    (one-of s (goodMac good a) _ _
+    (one-of s (hasChip (s .chip)) _ _ (keeps refl refl) (approved-keeps q (approvedEntry q (approvalOf a)) s j))
+    (pending-keeps BadMac q s))
+    (ends Declined s)
+answered-keeps (awaited.Reversal v) good a s j = either (endsReversal good a) (ends Reversed s) (failed-keeps v s)
+answered-keeps (awaited.Settlement t) good a s j = either (closesBatch a) (keeps refl refl) (keeps refl refl)
+answered-keeps (awaited.Item i) good a s j = keeps refl refl
+answered-keeps (awaited.End t) good a s j = either (approves a) (keeps refl refl) (keeps refl refl)
 
-answered-in : (p : Phase) (good : Bool) (a : Message) (s : State) (j : List ℕ) → Keeps s (answeredIn p good a s j .state)
-answered-in Resting good a s j = record { settings-are = refl }
+answered-in : (p : Phase) (good : Bool) (a : Message) (s : State) (j : List ℕ) → KeptBy s (answeredIn p good a s j)
+answered-in Resting good a s j = keeps refl refl
 answered-in (Waiting w) good a s j = answered-keeps w good a s j
-answered-in (Pending v) good a s j = record { settings-are = refl }
-answered-in Settling good a s j = record { settings-are = refl }
-answered-in Uploading good a s j = record { settings-are = refl }
+answered-in (Pending v) good a s j = keeps refl refl
+answered-in Settling good a s j = keeps refl refl
+answered-in Uploading good a s j = keeps refl refl
 
-judged-keeps : (n : ℕ) (s : State) (lent : Lent) (done : Result) → Keeps s (done .state) → Keeps s (judged n s lent done .state)
+agreed-keeps : (w : Awaited) (s : State) (j : List ℕ) → KeptBy s (agreed w s j)
+unfolding agreed
+agreed-keeps (awaited.Request q) s j = approved-keeps q (approvedEntry q (approvalIn (s .chip))) s j
+agreed-keeps (awaited.Reversal v) s j = keeps refl refl
+agreed-keeps (awaited.Settlement t) s j = keeps refl refl
+agreed-keeps (awaited.Item i) s j = keeps refl refl
+agreed-keeps (awaited.End t) s j = keeps refl refl
+
+agreed-in : (p : Phase) (s : State) (j : List ℕ) → KeptBy s (agreedIn p s j)
+agreed-in Resting s j = keeps refl refl
+agreed-in (Waiting w) s j = agreed-keeps w s j
+agreed-in (Pending v) s j = keeps refl refl
+agreed-in Settling s j = keeps refl refl
+agreed-in Uploading s j = keeps refl refl
+
+judged-keeps : (n : ℕ) (s : State) (lent : Lent) (done : Result) → (n ≡ 0 → Keeps s (done .state)) → Keeps s (judged n s lent done .state)
 unfolding judged
-judged-keeps n s lent done h = go (eqb n 0)
+judged-keeps n s lent done h = go (eqb n 0) refl
   where
-    go : (b : Bool) → Keeps s (cond b done (refused n s lent) .state)
-    go true = h
-    go false = record { settings-are = refl }
+    go : (b : Bool) → eqb n 0 ≡ b → Keeps s (cond b done (refused n s lent) .state)
+    go true e = h (eqb-true n 0 e)
+    go false e = keeps refl refl
+
+-- a request leaves only where none waits
+free : (p : Phase) → waits p ≡ false → pends p ≡ false → waiting p ≡ 0
+free Resting w v = refl
+free (Waiting a) w v = absurd (true≢false w)
+free (Pending r) w v = absurd (true≢false v)
+free Settling w v = refl
+free Uploading w v = refl
+
+start-keeps : (d : Desk) (b : List ℕ) (s : State) (lent : Lent) → Keeps s (start d b s lent .state)
+unfolding start
+start-keeps d b s lent =
+    let es = entriesOf (s .entries) (lent .journal) in
+    let rs = startRules d b s es (entryOf (originalOf d es) es) lent in
+    judged-keeps (firstBroken rs) s lent _
+    (λ z. record {
+      settings-are = refl;
+      chip-is = λ w v. absurd (omega (arith, w, free (s .phase) (passed 11 rs refl z) (passed 12 rs refl z)));
+    })
 
 read-keeps : (o : Judgement) (good : Bool) (a : Message) (s : State) (lent : Lent) → Keeps s (readIn o good a s lent .state)
-read-keeps Read good a s lent = judged-keeps _ s lent _ (answered-in (s .phase) good a s (lent .journal))
-read-keeps (Unread n) good a s lent = record { settings-are = refl }
+read-keeps Read good a s lent = judged-keeps _ s lent _ (λ z. answered-in (s .phase) good a s (lent .journal))
+read-keeps (Unread n) good a s lent = keeps refl refl
 
 send-keeps : (p : Phase) (s : State) (lent : Lent) → Keeps s (sendFrom p s lent .state)
-send-keeps Resting s lent = record { settings-are = refl }
-send-keeps (Waiting w) s lent = record { settings-are = refl }
-send-keeps (Pending v) s lent = record { settings-are = refl }
-send-keeps Settling s lent = record { settings-are = refl }
-send-keeps Uploading s lent = record { settings-are = refl }
+send-keeps Resting s lent = keeps refl refl
+send-keeps (Waiting w) s lent = keeps refl refl
+send-keeps (Pending v) s lent = keeps refl refl
+send-keeps Settling s lent = keeps refl refl
+send-keeps Uploading s lent = keeps refl refl
 
 next-keeps : (f : Found) (s : State) (lent : Lent) → Keeps s (sendsNext f s lent .state)
-next-keeps (At i) s lent = record { settings-are = refl }
-next-keeps Nowhere s lent = record { settings-are = refl }
+next-keeps (At i) s lent = keeps refl refl
+next-keeps Nowhere s lent = keeps refl refl
 
 upload-keeps : (p : Phase) (s : State) (lent : Lent) → Keeps s (uploadFrom p s lent .state)
-upload-keeps Resting s lent = record { settings-are = refl }
-upload-keeps (Waiting w) s lent = record { settings-are = refl }
-upload-keeps (Pending v) s lent = record { settings-are = refl }
-upload-keeps Settling s lent = record { settings-are = refl }
+upload-keeps Resting s lent = keeps refl refl
+upload-keeps (Waiting w) s lent = keeps refl refl
+upload-keeps (Pending v) s lent = keeps refl refl
+upload-keeps Settling s lent = keeps refl refl
 upload-keeps Uploading s lent = next-keeps (nextDue (due Uploading) (entriesOf (s .entries) (lent .journal))) s lent
 
-pub settings-stay : SettingsStay
-unfolding signedOn start answer noAnswer powerReturned sendReversal settle sendNextUpload
-settings-stay (signed-on batch) s lent = judged-keeps _ s lent _ (record { settings-are = refl }) .settings-are
-settings-stay (starts d) s lent = judged-keeps _ s lent _ (record { settings-are = refl }) .settings-are
-settings-stay (answers b good) s lent = judged-keeps _ s lent _ (read-keeps (readMessage b .outcome) good (readMessage b .message) s lent) .settings-are
-settings-stay no-answer s lent = judged-keeps _ s lent _ (silent-in (s .phase) s (lent .journal)) .settings-are
-settings-stay power-returned s lent =
+call-keeps : (e : Event) (s : State) (lent : Lent) → Keeps s (call e s lent .state)
+unfolding signedOn answer noAnswer powerReturned cardAgrees cardDeclines sendReversal settle sendNextUpload
+call-keeps (signed-on batch) s lent = judged-keeps _ s lent _ (λ z. keeps refl refl)
+call-keeps (starts d b) s lent = start-keeps d b s lent
+call-keeps (answers b good) s lent = judged-keeps _ s lent _ (λ z. read-keeps (readMessage b .outcome) good (readMessage b .message) s lent)
+call-keeps no-answer s lent = judged-keeps _ s lent _ (λ z. silent-in (s .phase) s (lent .journal))
+call-keeps power-returned s lent =
     let k = silent-in (s .phase) s (lent .journal) in
-    judged-keeps _ s lent (withoutPower (silentIn (s .phase) s (lent .journal)) lent) (record { settings-are = k .settings-are }) .settings-are
-settings-stay send-reversal s lent = judged-keeps _ s lent _ (send-keeps (s .phase) s lent) .settings-are
-settings-stay settles s lent = judged-keeps _ s lent _ (record { settings-are = refl }) .settings-are
-settings-stay send-next-upload s lent = judged-keeps _ s lent _ (upload-keeps (s .phase) s lent) .settings-are
+    judged-keeps _ s lent (withoutPower (silentIn (s .phase) s (lent .journal)) lent)
+    (λ z. record { settings-are = k .settings-are; chip-is = k .chip-is })
+call-keeps card-agrees s lent = judged-keeps _ s lent _ (λ z. agreed-in (s .phase) s (lent .journal))
+call-keeps card-declines s lent = judged-keeps _ s lent _ (λ z. silent-in (s .phase) s (lent .journal))
+call-keeps send-reversal s lent = judged-keeps _ s lent _ (λ z. send-keeps (s .phase) s lent)
+call-keeps settles s lent = judged-keeps _ s lent _ (λ z. keeps refl refl)
+call-keeps send-next-upload s lent = judged-keeps _ s lent _ (λ z. upload-keeps (s .phase) s lent)
+
+pub settings-stay : SettingsStay
+settings-stay e s lent = call-keeps e s lent .settings-are
+
+pub chip-stays-as-sent : ChipStaysAsSent
+chip-stays-as-sent e s lent = call-keeps e s lent .chip-is
 
 -- the message buffer
 abbrev same : {r q : Result} → r .outcome ≡ q .outcome → r .state ≡ q .state → r .lent .journal ≡ q .lent .journal → SameButMessage r q
@@ -171,13 +243,15 @@ module _ (s : State) (j m n : List ℕ) (e : length m ≡ length n) where
   upload-same Uploading = next-same (nextDue (due Uploading) (entriesOf (s .entries) j))
 
 pub message-by-length : MessageByLength
-unfolding signedOn start answer noAnswer powerReturned sendReversal settle sendNextUpload
+unfolding signedOn start answer noAnswer powerReturned cardAgrees cardDeclines sendReversal settle sendNextUpload
 message-by-length (signed-on batch) s j m n e = judged-same s j m n e (rw (short s j m n e)) (same refl refl refl)
-message-by-length (starts d) s j m n e = judged-same s j m n e (rw (short s j m n e)) (same refl refl refl)
+message-by-length (starts d b) s j m n e = judged-same s j m n e (rw (short s j m n e)) (same refl refl refl)
 message-by-length (answers b good) s j m n e =
     judged-same s j m n e (rw (short s j m n e)) (read-same s j m n e (readMessage b .outcome) good (readMessage b .message))
 message-by-length no-answer s j m n e = judged-same s j m n e (rw (short s j m n e)) (same refl refl refl)
 message-by-length power-returned s j m n e = judged-same s j m n e (rw (short s j m n e)) (same refl refl refl)
+message-by-length card-agrees s j m n e = judged-same s j m n e (rw (short s j m n e)) (same refl refl refl)
+message-by-length card-declines s j m n e = judged-same s j m n e (rw (short s j m n e)) (same refl refl refl)
 message-by-length send-reversal s j m n e = judged-same s j m n e (rw (short s j m n e)) (send-same s j m n e (s .phase))
 message-by-length settles s j m n e = judged-same s j m n e (rw (short s j m n e)) (same refl refl refl)
 message-by-length send-next-upload s j m n e = judged-same s j m n e (rw (short s j m n e)) (upload-same s j m n e (s .phase))

@@ -1,17 +1,18 @@
 -- Bytes after the last entry are not changed, but for the entry that an approval writes.
-use mathlib.Core.Path.{_≡_, refl}
+use mathlib.Core.Path.{_≡_, refl, sym, subst}
 use mathlib.Core.List.{List}
-use mathlib.Core.Bool.{Bool, true, false, cond, _&&_}
+use mathlib.Core.Bool.{Bool, true, false, cond, not, _&&_}
 use Prim.Native.Nat.{ℕ, _+_, _≤_, _<_}
 use native.Mathlib.Omega.{arith}
 use lib.Dec.{leb, eqb}
 use lib.ListN.{length}
-use borrow.Author.Tests.{le-leb, leb-true, eqb-true}
+use borrow.Author.Tests.{le-leb, leb-true, eqb-true, not-false}
 use Rattle.message.specs.declared.Message.{Message}
 use Rattle.reading.specs.Reading.{readMessage}
 use Rattle.reading.specs.declared.ReadOutcome.{ReadOutcome as Judgement}
 use Rattle.reading.specs.declared.ReadOutcome.the-variants.{Read, Refused as Unread}
 use Rattle.entry.specs.Entry.{entrySize}
+use Rattle.entry.specs.Theorems.{Shaped}
 use Rattle.entry.specs.declared.Entry.{Entry}
 use Rattle.entry.proofs.Theorems.{length-encode}
 use Rattle.journal.specs.Journal.{entriesOf, entryAt, nextDue, setByte}
@@ -23,30 +24,33 @@ use Rattle.state.specs.declared.Awaited.{Awaited}
 use Rattle.state.specs.declared.Awaited.the-variants as awaited
 use Rattle.state.specs.declared.Phase.{Phase}
 use Rattle.state.specs.declared.Phase.the-variants.{Resting, Waiting, Pending, Settling, Uploading}
-use Rattle.state.specs.declared.Reason.the-variants.{Silence, BadMac}
+use Rattle.state.specs.declared.Reason.the-variants.{BadMac}
 use Rattle.state.specs.declared.Request.{Request}
 use Rattle.state.specs.declared.State.{State}
 use Rattle.state.specs.declared.Count.the-variants.{Declined}
-use Rattle.state.specs.State.{inPhase, counted}
+use Rattle.state.specs.State.{hasChip, approvedBy, approvalIn, withChip}
 use Rattle.state.specs.Calls.{Lent, Result, refused, judged}
-use Rattle.checks.proofs.Choices.{first-none}
+use Rattle.checks.specs.Checks.{firstBroken}
+use Rattle.checks.proofs.Choices.{first-none, passed}
 use Rattle.rules.specs.Rules.{rules12, phaseKept, due}
+use Rattle.state_rules.proofs.Holds.{ApprovalHolds}
 use Rattle.rules.proofs.InOrder.{Fit, fit}
 use Rattle.answer_match.specs.Match.{approves, goodMac}
-use Rattle.approval.specs.Approval.{approvedEntry}
+use Rattle.approval.specs.Approval.{approvalOf, approvedEntry}
 use Rattle.approval.proofs.Approval.{shaped}
-use Rattle.effect_definitions.specs.StateEffects.{pendingOrUnanswered}
-use Rattle.effect_definitions.specs.JournalEffects.{Changed, changed, silent, silentIn, originalVoided, approved, onRequest, onItem, answered, resent}
+use Rattle.effect_definitions.specs.StateEffects.{ended, pendingOrUnanswered, silenceOf}
+use Rattle.effect_definitions.specs.JournalEffects.{Changed, changed, silent, silentIn, originalVoided, approved, granted, onRequest, agreed, agreedIn, onItem, answered, resent}
 use Rattle.call_definitions.specs.SignOn.{signedOn}
 use Rattle.call_definitions.specs.Start.{start}
-use Rattle.call_definitions.specs.Answer.{noAnswer, withoutPower, powerReturned, answeredIn, readIn, answer}
+use Rattle.call_definitions.specs.Answer.{noAnswer, withoutPower, powerReturned, awaitsCard, cardRules, cardAgrees, cardDeclines, answeredIn, readIn, answer}
 use Rattle.call_definitions.specs.SendReversal.{sendFrom, sendReversal}
 use Rattle.call_definitions.specs.Settle.{settle}
 use Rattle.call_definitions.specs.SendNextUpload.{sendsNext, uploadFrom, sendNextUpload}
-use Rattle.call_definitions.specs.Events.{Event, call, signed-on, starts, answers, no-answer, power-returned, send-reversal, settles, send-next-upload}
+use Rattle.call_definitions.specs.Events.{Event, call, signed-on, starts, answers, no-answer, power-returned, card-agrees, card-declines, send-reversal, settles, send-next-upload}
 use Rattle.call_theorems.specs.JournalRest.{after, larger, UnusedNotChanged, approvesAwaited, approvesIn, isApproval, EntriesByApproval}
 use Rattle.call_theorems.proofs.Items.{item-next}
-use Rattle.call_theorems.proofs.Rest.{put-after, later-after, set-after, voided-after, voided-length}
+use Rattle.call_theorems.proofs.Approving.{consent-holds}
+use Rattle.call_theorems.proofs.Rest.{answer-shaped, put-after, later-after, set-after, voided-after, voided-length}
 use Rattle.call_theorems.proofs.Unwritten.{Few, pending-few, failed-few, reversal-few, settlement-few, end-few}
 
 -- state and journal after a change that writes at most so many entries
@@ -95,7 +99,7 @@ module _ (s : State) (j : List ℕ) where
   -- silence
   silent-kept : (w : Awaited) → phaseKept (s .settings) (s .entries) (entriesOf (s .entries) j) (Waiting w) ≡ true → KeptBy 0 s j (silent w s j)
   unfolding silent
-  silent-kept (awaited.Request q) h = same-kept 0 (pending-few s Silence q)
+  silent-kept (awaited.Request q) h = same-kept 0 (pending-few s (silenceOf s) q)
   silent-kept (awaited.Reversal v) h = same-kept 0 (failed-few s v)
   silent-kept (awaited.Settlement x) h = same-kept 0 (record { few = omega arith })
   silent-kept (awaited.Item k) h = set-kept 0 k 2 _ (record { few = omega arith }) (item-below k h) (omega arith)
@@ -109,31 +113,40 @@ module _ (s : State) (j : List ℕ) where
   silent-in Uploading h = stays-kept 0
 
   -- an answer
-  approved-kept : (q : Request) (a : Message) → KeptBy 1 s j (approved q (approvedEntry q a) s j)
+  approved-kept : (q : Request) (x : Entry) → Shaped x → KeptBy 1 s j (approved q x s j)
   unfolding approved
-  approved-kept q a =
+  approved-kept q x h =
       let n = s .entries in
       let k = originalVoided q (entriesOf n j) j in
-      let x = approvedEntry q a in
-      let w = length-encode x (shaped q a) in
+      let w = length-encode x h in
       record {
         length-is = rw (length-put n x k w) (voided-length n q j (entriesOf n j));
         rest-is = rw (le-leb n (n + 1) (omega arith), put-after n x k w) (later-after n (n + 1) k j (omega arith) (voided-after n q j));
         grown = omega arith;
       }
 
-  request-kept : (q : Request) (good : Bool) (a : Message) → KeptBy (cond (approves a && goodMac good a) 1 0) s j (onRequest good a q s j)
+  granted-kept : (q : Request) (a : Message) → KeptBy (cond (not (hasChip (s .chip))) 1 0) s j (granted a q s j)
+  unfolding granted
+  granted-kept q a = go (hasChip (s .chip))
+    where
+      go : (b : Bool) → KeptBy (cond (not b) 1 0) s j
+          (cond b (changed (withChip (approvedBy (approvalOf a) (s .chip)) s) j) (approved q (approvedEntry q (approvalOf a)) s j))
+      go true = same-kept 0 (record { few = omega arith })
+      go false = approved-kept q (approvedEntry q (approvalOf a)) (answer-shaped q a)
+
+  request-kept : (q : Request) (good : Bool) (a : Message)
+      → KeptBy (cond (approves a && goodMac good a && not (hasChip (s .chip))) 1 0) s j (onRequest good a q s j)
   unfolding onRequest
   request-kept q good a = go (approves a) (goodMac good a)
     where
-      go : (x y : Bool) → KeptBy (cond (x && y) 1 0) s j
-          (cond x (cond y (approved q (approvedEntry q a) s j) (changed (pendingOrUnanswered BadMac q s) j)) (changed (inPhase Resting (counted Declined s)) j))
-      go true true = approved-kept q a
+      go : (x y : Bool) → KeptBy (cond (x && y && not (hasChip (s .chip))) 1 0) s j
+          (cond x (cond y (granted a q s j) (changed (pendingOrUnanswered BadMac q s) j)) (changed (ended Declined s) j))
+      go true true = granted-kept q a
       go true false = same-kept 0 (pending-few s BadMac q)
       go false y = same-kept 0 (record { few = omega arith })
 
   answered-kept : (w : Awaited) (good : Bool) (a : Message) → phaseKept (s .settings) (s .entries) (entriesOf (s .entries) j) (Waiting w) ≡ true
-      → KeptBy (cond (approvesAwaited w good a) 1 0) s j (answered good a w s j)
+      → KeptBy (cond (approvesAwaited w good a && not (hasChip (s .chip))) 1 0) s j (answered good a w s j)
   unfolding answered onItem
   answered-kept (awaited.Request q) good a h = request-kept q good a
   answered-kept (awaited.Reversal v) good a h = same-kept 0 (reversal-few s good a v)
@@ -142,12 +155,29 @@ module _ (s : State) (j : List ℕ) where
   answered-kept (awaited.End x) good a h = same-kept 0 (end-few s a)
 
   answered-in : (p : Phase) (good : Bool) (a : Message) → phaseKept (s .settings) (s .entries) (entriesOf (s .entries) j) p ≡ true
-      → KeptBy (cond (approvesIn p good a) 1 0) s j (answeredIn p good a s j)
+      → KeptBy (cond (approvesIn p good a && not (hasChip (s .chip))) 1 0) s j (answeredIn p good a s j)
   answered-in Resting good a h = stays-kept 0
   answered-in (Waiting w) good a h = answered-kept w good a h
   answered-in (Pending v) good a h = stays-kept 0
   answered-in Settling good a h = stays-kept 0
   answered-in Uploading good a h = stays-kept 0
+
+  -- the card's consent
+  module _ (c : ApprovalHolds (approvalIn (s .chip))) where
+    agreed-kept : (w : Awaited) → KeptBy 1 s j (agreed w s j)
+    unfolding agreed
+    agreed-kept (awaited.Request q) = approved-kept q (approvedEntry q (approvalIn (s .chip))) (shaped q (approvalIn (s .chip)) c)
+    agreed-kept (awaited.Reversal v) = stays-kept 1
+    agreed-kept (awaited.Settlement x) = stays-kept 1
+    agreed-kept (awaited.Item k) = stays-kept 1
+    agreed-kept (awaited.End x) = stays-kept 1
+
+    agreed-in : (p : Phase) → KeptBy 1 s j (agreedIn p s j)
+    agreed-in Resting = stays-kept 1
+    agreed-in (Waiting w) = agreed-kept w
+    agreed-in (Pending v) = stays-kept 1
+    agreed-in Settling = stays-kept 1
+    agreed-in Uploading = stays-kept 1
 
 -- the calls
 module _ (s : State) (lent : Lent) where
@@ -162,7 +192,8 @@ module _ (s : State) (lent : Lent) where
       go true e = h (eqb-true n 0 e)
       go false e = stays-kept s (lent .journal) most
 
-  read-kept : (o : Judgement) (good : Bool) (a : Message) → Fit s lent → KeptIn (cond (approvesIn (s .phase) good a) 1 0) s lent (readIn o good a s lent)
+  read-kept : (o : Judgement) (good : Bool) (a : Message) → Fit s lent
+      → KeptIn (cond (approvesIn (s .phase) good a && not (hasChip (s .chip))) 1 0) s lent (readIn o good a s lent)
   read-kept Read good a h = judged-kept _ _ _ (λ z. answered-in s (lent .journal) (s .phase) good a (h .order .phase-kept))
   read-kept (Unread n) good a h = stays-kept s (lent .journal) _
 
@@ -194,17 +225,30 @@ module _ (s : State) (lent : Lent) where
   upload-kept Settling = still (record { few = omega arith })
   upload-kept Uploading = next-kept (nextDue (due Uploading) (entriesOf (s .entries) (lent .journal))) refl
 
+  silent-kept-in : firstBroken (rules12 s lent) ≡ 0 → KeptBy 0 s (lent .journal) (silentIn (s .phase) s (lent .journal))
+  silent-kept-in z = silent-in s (lent .journal) (s .phase) (fit s lent z .order .phase-kept)
+
+  agreed-kept-in : Fit s lent → awaitsCard s ≡ true
+      → KeptBy (cond (awaitsCard s) 1 0) s (lent .journal) (agreedIn (s .phase) s (lent .journal))
+  agreed-kept-in h y =
+      subst (λ (b : Bool). KeptBy (cond b 1 0) s (lent .journal) (agreedIn (s .phase) s (lent .journal))) (sym y)
+      (agreed-in s (lent .journal) (consent-holds (s .phase) (s .chip) (h .order .state .chip) y) (s .phase))
+
   call-kept : (e : Event) → KeptIn (cond (isApproval e s) 1 0) s lent (call e s lent)
-  unfolding signedOn start answer noAnswer powerReturned sendReversal settle sendNextUpload
+  unfolding signedOn start answer noAnswer powerReturned cardAgrees cardDeclines sendReversal settle sendNextUpload
   call-kept (signed-on batch) = judged-kept 0 _ _ (λ z. still (record { few = omega arith }))
-  call-kept (starts d) = judged-kept 0 _ _ (λ z. still (record { few = omega arith }))
+  call-kept (starts d b) = judged-kept 0 _ _ (λ z. still (record { few = omega arith }))
   call-kept (answers b good) = judged-kept _ _ _ (λ z. read-kept (readMessage b .outcome) good (readMessage b .message) (fit s lent z))
-  call-kept no-answer =
-      judged-kept 0 _ _ (λ z. silent-in s (lent .journal) (s .phase) (fit s lent (first-none (rules12 s lent) _ refl z) .order .phase-kept))
+  call-kept no-answer = judged-kept 0 _ _ (λ z. silent-kept-in (first-none (rules12 s lent) _ refl z))
   call-kept power-returned =
       judged-kept 0 _ (withoutPower (silentIn (s .phase) s (lent .journal)) lent)
-      (λ z. let k = silent-in s (lent .journal) (s .phase) (fit s lent z .order .phase-kept) in
+      (λ z. let k = silent-kept-in z in
       record { length-is = k .length-is; rest-is = k .rest-is; grown = k .grown })
+  call-kept card-agrees =
+      let rs = cardRules s lent in
+      judged-kept _ _ _
+      (λ z. agreed-kept-in (fit s lent (first-none (rules12 s lent) _ refl z)) (not-false (awaitsCard s) (passed 14 rs refl z)))
+  call-kept card-declines = judged-kept 0 _ _ (λ z. silent-kept-in (first-none (rules12 s lent) _ refl z))
   call-kept send-reversal = judged-kept 0 _ _ (λ z. send-kept (s .phase))
   call-kept settles = judged-kept 0 _ _ (λ z. still (record { few = omega arith }))
   call-kept send-next-upload = judged-kept 0 _ _ (λ z. upload-kept (s .phase))

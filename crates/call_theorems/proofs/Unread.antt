@@ -6,12 +6,14 @@ use Prim.Native.Nat.{ℕ, _+_, _*_, _≤_}
 use native.Mathlib.Omega.{arith}
 use lib.Dec.{eqb}
 use lib.ListN.{length}
-use borrow.Author.Tests.{eqb-true}
+use borrow.Author.Tests.{eqb-true, not-false}
 use Rattle.message.specs.declared.Message.{Message}
 use Rattle.reading.specs.Reading.{readMessage}
 use Rattle.reading.specs.declared.ReadOutcome.{ReadOutcome as Judgement}
 use Rattle.reading.specs.declared.ReadOutcome.the-variants.{Read, Refused as Unread}
 use Rattle.entry.specs.Entry.{entrySize}
+use Rattle.entry.specs.Theorems.{Shaped}
+use Rattle.entry.specs.declared.Entry.{Entry}
 use Rattle.entry.proofs.Theorems.{length-encode}
 use Rattle.journal.specs.Journal.{entriesOf, nextDue}
 use Rattle.journal.specs.declared.Found.{Found}
@@ -21,29 +23,31 @@ use Rattle.state.specs.declared.Awaited.{Awaited}
 use Rattle.state.specs.declared.Awaited.the-variants as awaited
 use Rattle.state.specs.declared.Phase.{Phase}
 use Rattle.state.specs.declared.Phase.the-variants.{Resting, Waiting, Pending, Settling, Uploading}
-use Rattle.state.specs.declared.Reason.the-variants.{Silence, BadMac}
+use Rattle.state.specs.declared.Reason.the-variants.{BadMac}
 use Rattle.state.specs.declared.Request.{Request}
 use Rattle.state.specs.declared.State.{State}
 use Rattle.state.specs.declared.Count.the-variants.{Declined}
-use Rattle.state.specs.State.{inPhase, counted}
+use Rattle.state.specs.State.{hasChip, approvedBy, approvalIn, withChip}
 use Rattle.state.specs.Calls.{lend, Result, refused, judged}
-use Rattle.rules.specs.Rules.{tooShort, phaseKept, due}
+use Rattle.checks.proofs.Choices.{first-none, passed}
+use Rattle.rules.specs.Rules.{tooShort, rules12, phaseKept, due}
+use Rattle.state_rules.proofs.Holds.{ApprovalHolds}
 use Rattle.rules.proofs.InOrder.{Fit, fit}
 use Rattle.answer_match.specs.Match.{approves, goodMac}
-use Rattle.approval.specs.Approval.{approvedEntry}
+use Rattle.approval.specs.Approval.{approvalOf, approvedEntry}
 use Rattle.approval.proofs.Approval.{shaped}
-use Rattle.effect_definitions.specs.StateEffects.{pendingOrUnanswered}
-use Rattle.effect_definitions.specs.JournalEffects.{Changed, changed, silent, silentIn, originalVoided, approved, onRequest, onItem, answered}
+use Rattle.effect_definitions.specs.StateEffects.{ended, pendingOrUnanswered, silenceOf}
+use Rattle.effect_definitions.specs.JournalEffects.{Changed, changed, silent, silentIn, originalVoided, approved, granted, onRequest, agreed, agreedIn, onItem, answered}
 use Rattle.call_definitions.specs.SignOn.{signedOn}
 use Rattle.call_definitions.specs.Start.{start}
-use Rattle.call_definitions.specs.Answer.{quietly, noAnswer, withoutPower, powerReturned, answeredIn, readIn, answer}
+use Rattle.call_definitions.specs.Answer.{quietly, noAnswer, withoutPower, powerReturned, awaitsCard, cardRules, cardAgrees, cardDeclines, answeredIn, readIn, answer}
 use Rattle.call_definitions.specs.SendReversal.{sendFrom, sendReversal}
 use Rattle.call_definitions.specs.Settle.{settle}
 use Rattle.call_definitions.specs.SendNextUpload.{sendsNext, uploadFrom, sendNextUpload}
-use Rattle.call_definitions.specs.Events.{Event, call, signed-on, starts, answers, no-answer, power-returned, send-reversal, settles, send-next-upload}
+use Rattle.call_definitions.specs.Events.{Event, call, signed-on, starts, answers, no-answer, power-returned, card-agrees, card-declines, send-reversal, settles, send-next-upload}
 use Rattle.call_theorems.specs.JournalRest.{upTo, SameButRest, UnusedNotRead}
-use Rattle.call_theorems.proofs.Approving.{left}
-use Rattle.call_theorems.proofs.Rest.{fewer-agree, set-agree, resent-agree, voided-agree, voided-length, put-agree}
+use Rattle.call_theorems.proofs.Approving.{left, consent-holds}
+use Rattle.call_theorems.proofs.Rest.{answer-shaped, fewer-agree, set-agree, resent-agree, voided-agree, voided-length, put-agree}
 use Rattle.call_theorems.proofs.Unwritten.{Few, pending-few, failed-few, reversal-few, settlement-few, end-few}
 
 -- two changes leave the same state, and the same bytes up to the last entry
@@ -65,7 +69,7 @@ module _ (s : State) (i j : List ℕ) (l : length i ≡ length j) (e : upTo (s .
 
   silent-agree : (w : Awaited) → Agree (silent w s i) (silent w s j)
   unfolding silent
-  silent-agree (awaited.Request q) = few-agree (pending-few s Silence q)
+  silent-agree (awaited.Request q) = few-agree (pending-few s (silenceOf s) q)
   silent-agree (awaited.Reversal v) = few-agree (failed-few s v)
   silent-agree (awaited.Settlement x) = few-agree (record { few = omega arith })
   silent-agree (awaited.Item k) = rw one (record { state-is = refl; entries-are = set-agree (s .entries) i j e k 2 _ })
@@ -79,19 +83,28 @@ module _ (s : State) (i j : List ℕ) (l : length i ≡ length j) (e : upTo (s .
   silent-in Uploading = few-agree (record { few = omega arith })
 
   -- an entry is written only where it has a place
-  written-agree : (q : Request) (a : Message) → entrySize * s .entries + entrySize ≤ length j
-      → Agree (approved q (approvedEntry q a) s i) (approved q (approvedEntry q a) s j)
+  written-agree : (q : Request) (x : Entry) → Shaped x → entrySize * s .entries + entrySize ≤ length j → Agree (approved q x s i) (approved q x s j)
   unfolding approved
-  written-agree q a h =
+  written-agree q x w h =
       let n = s .entries in
       let es = entriesOf n j in
       rw one
       (record {
         state-is = refl;
         entries-are =
-            put-agree n (originalVoided q es i) (originalVoided q es j) (voided-agree n i j e q es) (approvedEntry q a)
-            (length-encode (approvedEntry q a) (shaped q a)) (rw (voided-length n q i es) (omega arith)) (rw (voided-length n q j es) h);
+            put-agree n (originalVoided q es i) (originalVoided q es j) (voided-agree n i j e q es) x (length-encode x w)
+            (rw (voided-length n q i es) (omega arith)) (rw (voided-length n q j es) h);
       })
+
+  granted-agree : (q : Request) (a : Message) → entrySize * s .entries + entrySize ≤ length j → Agree (granted a q s i) (granted a q s j)
+  unfolding granted
+  granted-agree q a h = go (hasChip (s .chip))
+    where
+      go : (b : Bool) → Agree
+          (cond b (changed (withChip (approvedBy (approvalOf a) (s .chip)) s) i) (approved q (approvedEntry q (approvalOf a)) s i))
+          (cond b (changed (withChip (approvedBy (approvalOf a) (s .chip)) s) j) (approved q (approvedEntry q (approvalOf a)) s j))
+      go true = few-agree (record { few = omega arith })
+      go false = written-agree q (approvedEntry q (approvalOf a)) (answer-shaped q a) h
 
   request-agree : (q : Request) (good : Bool) (a : Message) → entrySize * s .entries + entrySize ≤ length j
       → Agree (onRequest good a q s i) (onRequest good a q s j)
@@ -99,18 +112,21 @@ module _ (s : State) (i j : List ℕ) (l : length i ≡ length j) (e : upTo (s .
   request-agree q good a h = go (approves a) (goodMac good a)
     where
       go : (x y : Bool) → Agree
-          (cond x (cond y (approved q (approvedEntry q a) s i) (changed (pendingOrUnanswered BadMac q s) i)) (changed (inPhase Resting (counted Declined s)) i))
-          (cond x (cond y (approved q (approvedEntry q a) s j) (changed (pendingOrUnanswered BadMac q s) j)) (changed (inPhase Resting (counted Declined s)) j))
-      go true true = written-agree q a h
+          (cond x (cond y (granted a q s i) (changed (pendingOrUnanswered BadMac q s) i)) (changed (ended Declined s) i))
+          (cond x (cond y (granted a q s j) (changed (pendingOrUnanswered BadMac q s) j)) (changed (ended Declined s) j))
+      go true true = granted-agree q a h
       go true false = few-agree (pending-few s BadMac q)
       go false y = few-agree (record { few = omega arith })
 
   module _ (room : entrySize * s .settings .limit ≤ length j) where
+    place : (q : Request) → phaseKept (s .settings) (s .entries) (entriesOf (s .entries) j) (Waiting (awaited.Request q)) ≡ true
+        → entrySize * s .entries + entrySize ≤ length j
+    place q h = omega (arith, left (s .settings .limit) (s .entries) (entriesOf (s .entries) j) q h .place)
+
     answered-agree : (w : Awaited) (good : Bool) (a : Message) → phaseKept (s .settings) (s .entries) (entriesOf (s .entries) j) (Waiting w) ≡ true
         → Agree (answered good a w s i) (answered good a w s j)
     unfolding answered onItem
-    answered-agree (awaited.Request q) good a h =
-        request-agree q good a (omega (arith, left (s .settings .limit) (s .entries) (entriesOf (s .entries) j) q h .place))
+    answered-agree (awaited.Request q) good a h = request-agree q good a (place q h)
     answered-agree (awaited.Reversal v) good a h = few-agree (reversal-few s good a v)
     answered-agree (awaited.Settlement x) good a h = few-agree (settlement-few s a)
     answered-agree (awaited.Item k) good a h = record { state-is = refl; entries-are = set-agree (s .entries) i j e k 2 _ }
@@ -123,6 +139,25 @@ module _ (s : State) (i j : List ℕ) (l : length i ≡ length j) (e : upTo (s .
     answered-in (Pending v) good a h = few-agree (record { few = omega arith })
     answered-in Settling good a h = few-agree (record { few = omega arith })
     answered-in Uploading good a h = few-agree (record { few = omega arith })
+
+    -- what the card's consent leaves
+    module _ (c : ApprovalHolds (approvalIn (s .chip))) where
+      agreed-agree : (w : Awaited) → phaseKept (s .settings) (s .entries) (entriesOf (s .entries) j) (Waiting w) ≡ true
+          → Agree (agreed w s i) (agreed w s j)
+      unfolding agreed
+      agreed-agree (awaited.Request q) h =
+          written-agree q (approvedEntry q (approvalIn (s .chip))) (shaped q (approvalIn (s .chip)) c) (place q h)
+      agreed-agree (awaited.Reversal v) h = few-agree (record { few = omega arith })
+      agreed-agree (awaited.Settlement x) h = few-agree (record { few = omega arith })
+      agreed-agree (awaited.Item k) h = few-agree (record { few = omega arith })
+      agreed-agree (awaited.End x) h = few-agree (record { few = omega arith })
+
+      agreed-in : (p : Phase) → phaseKept (s .settings) (s .entries) (entriesOf (s .entries) j) p ≡ true → Agree (agreedIn p s i) (agreedIn p s j)
+      agreed-in Resting h = few-agree (record { few = omega arith })
+      agreed-in (Waiting w) h = agreed-agree w h
+      agreed-in (Pending v) h = few-agree (record { few = omega arith })
+      agreed-in Settling h = few-agree (record { few = omega arith })
+      agreed-in Uploading h = few-agree (record { few = omega arith })
 
   -- what the calls give
   module _ (m : List ℕ) where
@@ -148,6 +183,11 @@ module _ (s : State) (i j : List ℕ) (l : length i ≡ length j) (e : upTo (s .
     read-same Read good a h = judged-same (rw one) (λ z. quiet-same (answered-in (h .journal-room) (s .phase) good a (h .order .phase-kept)))
     read-same (Unread n) good a h = same refl refl refl e
 
+    agrees-same : Fit s (lend j m) → awaitsCard s ≡ true
+        → SameButRest (quietly (agreedIn (s .phase) s i) (lend i m)) (quietly (agreedIn (s .phase) s j) (lend j m))
+    agrees-same h y =
+        quiet-same (agreed-in (h .journal-room) (consent-holds (s .phase) (s .chip) (h .order .state .chip) y) (s .phase) (h .order .phase-kept))
+
     send-same : (p : Phase) → SameButRest (sendFrom p s (lend i m)) (sendFrom p s (lend j m))
     send-same Resting = same refl refl refl e
     send-same (Waiting w) = same refl refl refl e
@@ -167,13 +207,18 @@ module _ (s : State) (i j : List ℕ) (l : length i ≡ length j) (e : upTo (s .
     upload-same Uploading = rw one (next-same (nextDue (due Uploading) (entriesOf (s .entries) j)))
 
     call-same : (c : Event) → SameButRest (call c s (lend i m)) (call c s (lend j m))
-    unfolding signedOn start answer noAnswer powerReturned sendReversal settle sendNextUpload
+    unfolding signedOn start answer noAnswer powerReturned cardAgrees cardDeclines sendReversal settle sendNextUpload
     call-same (signed-on batch) = judged-same (rw (short, one)) (λ z. same refl refl refl e)
-    call-same (starts d) = rw one (judged-same (rw short) (λ z. same refl refl refl e))
+    call-same (starts d b) = rw one (judged-same (rw short) (λ z. same refl refl refl e))
     call-same (answers b good) =
         judged-same (rw (short, one)) (λ z. read-same (readMessage b .outcome) good (readMessage b .message) (fit s (lend j m) z))
     call-same no-answer = judged-same (rw (short, one)) (λ z. quiet-same (silent-in (s .phase)))
     call-same power-returned = judged-same (rw (short, one)) (λ z. off-same (silent-in (s .phase)))
+    call-same card-agrees =
+        let rs = cardRules s (lend j m) in
+        judged-same (rw (short, one))
+        (λ z. agrees-same (fit s (lend j m) (first-none (rules12 s (lend j m)) _ refl z)) (not-false (awaitsCard s) (passed 14 rs refl z)))
+    call-same card-declines = judged-same (rw (short, one)) (λ z. quiet-same (silent-in (s .phase)))
     call-same send-reversal = judged-same (rw (short, one)) (λ z. send-same (s .phase))
     call-same settles = rw one (judged-same (rw short) (λ z. same refl refl refl e))
     call-same send-next-upload = judged-same (rw (short, one)) (λ z. upload-same (s .phase))

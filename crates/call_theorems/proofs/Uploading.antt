@@ -30,6 +30,7 @@ use Rattle.state.specs.State.{inPhase}
 use Rattle.state.specs.Calls.{Lent, withJournal}
 use Rattle.checks.specs.Checks.{firstBroken}
 use Rattle.rules.specs.Rules.{due}
+use Rattle.state_rules.proofs.Holds.{chip-stays}
 use Rattle.rules.proofs.InOrder.{InOrder, Fit}
 use Rattle.call_definitions.specs.SendNextUpload.{sendsNext, uploadFrom, sendNextUploadRules, sendNextUpload}
 use Rattle.batch_messages.specs.BatchMessages.{itemMessage, endMessage}
@@ -94,11 +95,12 @@ module _ (s : State) (lent : Lent) (i : ℕ) (h : Fit (inPhase Uploading s) lent
   first-fit : Fit (inPhase (Waiting (awaited.Item i)) s) lent
   first-fit =
       let l = s .settings .sendings in
-      moved (Waiting (awaited.Item i)) (s .counts) (inPhase Uploading s) lent h
+      moved (Waiting (awaited.Item i)) (s .chip) (s .counts) (inPhase Uploading s) lent h
       (record {
         sent-same = refl;
         approved-same = refl;
         phase-form = refl;
+        chip = chip-stays Uploading (Waiting (awaited.Item i)) (s .chip) refl refl (h .order .state .chip);
         journal =
             record {
               form = h .order .journal .form;
@@ -140,6 +142,7 @@ module _ (s : State) (lent : Lent) (i : ℕ) (h : Fit (inPhase Uploading s) lent
               next-most = o .state .next-most;
               sent-most = o .state .sent-most;
               phase-form = refl;
+              chip = chip-stays Uploading (Waiting (awaited.Item i)) (s .chip) refl refl (o .state .chip);
               few = o .state .few;
               balance = o .state .balance;
               approvals = o .state .approvals;
@@ -193,11 +196,12 @@ end-fit : (s : State) (lent : Lent) (x : Trace) → 1 ≤ x .0 → x .0 ≤ last
 end-fit s lent x a b h n =
     let r = following-range (x .0) in
     next-fit (inPhase (Waiting (awaited.End x)) s) lent (record { 0 = following (x .0) }) (r .0) (r .1)
-    (moved (Waiting (awaited.End x)) (s .counts) (inPhase Uploading s) lent h
+    (moved (Waiting (awaited.End x)) (s .chip) (s .counts) (inPhase Uploading s) lent h
     (record {
       sent-same = refl;
       approved-same = refl;
       phase-form = within-yes 1 (x .0) lastNumber a b;
+      chip = chip-stays Uploading (Waiting (awaited.End x)) (s .chip) refl refl (h .order .state .chip);
       journal = h .order .journal;
       balance = h .order .state .balance;
       phase-kept = rw n;

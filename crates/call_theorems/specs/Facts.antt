@@ -1,7 +1,7 @@
 -- What a reader would ask of the calls, for every input.
 use mathlib.Core.Path.{_≡_}
 use mathlib.Core.List.{List, _++_}
-use mathlib.Core.Bool.{Bool, true}
+use mathlib.Core.Bool.{true}
 use Prim.Native.Nat.{ℕ, zero, suc, _+_, _<_}
 use lib.ListN.{length, drop}
 use Rattle.reading.specs.Reading.{readMessage}
@@ -10,7 +10,9 @@ use Rattle.state.specs.declared.Reversal.{Reversal}
 use Rattle.state.specs.declared.State.{State}
 use Rattle.state.specs.declared.Outcome.the-variants.{Send, Quiet, Refused}
 use Rattle.state.specs.declared.Phase.the-variants.{Resting, Pending}
+use Rattle.state.specs.State.{chipBytes}
 use Rattle.state.specs.Calls.{Lent, lend, Result, refused}
+use Rattle.state_rules.specs.StateRules.{waiting}
 use Rattle.call_theorems.specs.Ready.{Ready}
 use Rattle.call_definitions.specs.SendReversal.{sendReversal}
 use Rattle.call_definitions.specs.Answer.{noAnswer}
@@ -28,6 +30,11 @@ QuietLeavesMessage = (e : Event) (s : State) (lent : Lent) → call e s lent .ou
 -- the settings never change
 abbrev pub SettingsStay : Type 0
 SettingsStay = (e : Event) (s : State) (lent : Lent) → call e s lent .state .settings ≡ s .settings
+
+-- document 02, request 1: field 55 of a card request stays as it was sent until the request ends, so that its reversal carries it
+abbrev pub ChipStaysAsSent : Type 0
+ChipStaysAsSent = (e : Event) (s : State) (lent : Lent) → waiting (s .phase) ≡ 1 → waiting (call e s lent .state .phase) ≡ 1
+    → chipBytes (call e s lent .state .chip) ≡ chipBytes (s .chip)
 
 -- outcome, state and journal depend on the message buffer only through its length
 pub record SameButMessage (r q : Result) : Type 0 where

@@ -1,7 +1,7 @@
 -- Document 01, "State and journal": bytes after the last entry are not read; nor are they changed but for the entry of an approval.
 use mathlib.Core.Path.{_≡_}
 use mathlib.Core.List.{List}
-use mathlib.Core.Bool.{Bool, false, cond, _&&_}
+use mathlib.Core.Bool.{Bool, false, cond, not, _&&_}
 use Prim.Native.Nat.{ℕ, _+_, _*_, _≤_}
 use lib.Dec.{leb}
 use lib.ListN.{length, take, drop}
@@ -13,9 +13,11 @@ use Rattle.state.specs.declared.Awaited.the-variants as awaited
 use Rattle.state.specs.declared.Phase.{Phase}
 use Rattle.state.specs.declared.Phase.the-variants.{Resting, Waiting, Pending, Settling, Uploading}
 use Rattle.state.specs.declared.State.{State}
+use Rattle.state.specs.State.{hasChip}
 use Rattle.state.specs.Calls.{Lent, lend, Result}
 use Rattle.answer_match.specs.Match.{approves, goodMac}
-use Rattle.call_definitions.specs.Events.{Event, call, signed-on, starts, answers, no-answer, power-returned, send-reversal, settles, send-next-upload}
+use Rattle.call_definitions.specs.Answer.{awaitsCard}
+use Rattle.call_definitions.specs.Events.{Event, call, signed-on, starts, answers, no-answer, power-returned, card-agrees, card-declines, send-reversal, settles, send-next-upload}
 
 -- the bytes of the journal up to the last of n entries, and those after it
 abbrev pub upTo : ℕ → List ℕ → List ℕ
@@ -46,7 +48,8 @@ pub record RestStays (s : State) (lent : Lent) (r : Result) : Type 0 where
 abbrev pub UnusedNotChanged : Type 0
 UnusedNotChanged = (e : Event) (s : State) (lent : Lent) → RestStays s lent (call e s lent)
 
--- only an approval writes an entry, and no more than one: a card request is awaited, and 39 is 00 with good MAC
+-- only an approval writes an entry, and no more than one: a card request is awaited, and 39 is 00 with good MAC;
+-- with a chip it is the card's consent after that (document 02, request 1)
 abbrev pub approvesAwaited : Awaited → Bool → Message → Bool
 approvesAwaited (awaited.Request q) good a = approves a && goodMac good a
 approvesAwaited (awaited.Reversal v) good a = false
@@ -63,10 +66,12 @@ approvesIn Uploading good a = false
 
 abbrev pub isApproval : Event → State → Bool
 isApproval (signed-on batch) s = false
-isApproval (starts d) s = false
-isApproval (answers b good) s = approvesIn (s .phase) good (readMessage b .message)
+isApproval (starts d b) s = false
+isApproval (answers b good) s = approvesIn (s .phase) good (readMessage b .message) && not (hasChip (s .chip))
 isApproval no-answer s = false
 isApproval power-returned s = false
+isApproval card-agrees s = awaitsCard s
+isApproval card-declines s = false
 isApproval send-reversal s = false
 isApproval settles s = false
 isApproval send-next-upload s = false

@@ -1,13 +1,15 @@
 // The calls on a terminal as values.
 use numbers::Batch;
 
-// A call; what the desk keyed at a start, and the bytes of an answer, stand beside it.
+// A call; what the desk keyed at a start, and the bytes of its field 55 or of an answer, stand beside it.
 pub enum Call {
     SignedOn(Batch),
     Start,
     Answer(bool),
     NoAnswer,
     PowerReturned,
+    CardAgrees,
+    CardDeclines,
     SendReversal,
     Settle,
     SendNextUpload,

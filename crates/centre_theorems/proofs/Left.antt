@@ -1,6 +1,6 @@
 -- What a call sends: its type and its fields are read from the bytes that leave.
 use mathlib.Core.Path.{_≡_, refl, _∙_}
-use mathlib.Core.List.{List, [], _∷_}
+use mathlib.Core.List.{List}
 use mathlib.Core.Bool.{Bool, true, false, cond}
 use Prim.Native.Nat.{ℕ, _*_, _/_, _%_, _+_, _≤_, _<_}
 use native.Mathlib.Omega.{arith}
@@ -25,6 +25,7 @@ use Rattle.journal.specs.Journal.{entriesOf, entryAt, totalsOf, nextDue, taken}
 use Rattle.journal.specs.declared.Found.{Found}
 use Rattle.journal.specs.declared.Found.the-variants.{At, Nowhere}
 use Rattle.kinds.specs.declared.Totals.{Totals}
+use Rattle.state.specs.declared.Chip.{Chip}
 use Rattle.state.specs.declared.Request.{Request as Asked}
 use Rattle.state.specs.declared.Reversal.{Reversal as Undone}
 use Rattle.state.specs.declared.Settings.{Settings}
@@ -40,15 +41,14 @@ use Rattle.outgoing.specs.declared.Original.{Original}
 use Rattle.outgoing.specs.Outgoing.{requestFields, reversalFields, requestMessage, reversalMessage}
 use Rattle.call_definitions.specs.SignOn.{signedOnRules, signedOn}
 use Rattle.call_definitions.specs.Start.{originalOf, entryOf, namedBy, startRules, start}
-use Rattle.desk.specs.DeskRules.{requestOf}
+use Rattle.desk.specs.DeskRules.{chipFrom, requestOf}
 use Rattle.call_definitions.specs.SendReversal.{sendFrom, sendReversalRules, sendReversal}
 use Rattle.effect_definitions.specs.StateEffects.{again}
 use Rattle.call_definitions.specs.Settle.{settleRules, settle}
 use Rattle.batch_messages.specs.BatchMessages.{settlementFields, settlementMessage, itemFields, itemMessage, endFields, endMessage}
 use Rattle.call_definitions.specs.SendNextUpload.{sendsNext, uploadFrom, sendNextUploadRules, sendNextUpload}
-use Rattle.answer_match.specs.Match.{isAnswer}
-use Rattle.call_definitions.specs.Answer.{noAnswerRules, noAnswer, powerReturned, answerRules, readIn, answer}
-use Rattle.call_definitions.specs.Events.{Event, signed-on, starts, answers, no-answer, power-returned, send-reversal, settles, send-next-upload, call}
+use Rattle.call_definitions.specs.Answer.{noAnswerRules, noAnswer, powerReturned, cardRules, cardAgrees, cardDeclines, answerRules, readIn, answer}
+use Rattle.call_definitions.specs.Events.{Event, signed-on, starts, answers, no-answer, power-returned, card-agrees, card-declines, send-reversal, settles, send-next-upload, call}
 use Rattle.centre_types.specs.Types.{leftAs}
 use Rattle.centre_types.specs.declared.Left.{Left}
 use Rattle.centre_types.specs.declared.Left.the-variants.{Nothing, Request, Reversal, Settlement, Upload}
@@ -104,13 +104,13 @@ unfolding leftAs
 request-left kind = each-type (λ i. leftAs i ≡ Request) refl refl refl kind
 
 module _ (x : Settings) (batch : Batch) where
-  request-sound : (q : Asked) (o : Original) → Sound (messageBytes (requestMessage x batch q o))
+  request-sound : (c : Chip) (q : Asked) (o : Original) → Sound (messageBytes (requestMessage x batch c q o))
   unfolding requestMessage
-  request-sound q o = sound (indicatorOf (q .kind)) (requestFields x batch q o) refl refl refl refl (rw (request-left (q .kind)) refl)
+  request-sound c q o = sound (indicatorOf (q .kind)) (requestFields x batch c q o) refl refl refl refl (rw (request-left (q .kind)) refl)
 
-  reversal-sound : (v : Undone) → Sound (messageBytes (reversalMessage x batch v))
+  reversal-sound : (c : Chip) (v : Undone) → Sound (messageBytes (reversalMessage x batch c v))
   unfolding reversalMessage leftAs
-  reversal-sound v = sound 0x0400 (reversalFields x batch v) refl refl refl refl tt
+  reversal-sound c v = sound 0x0400 (reversalFields x batch c v) refl refl refl refl tt
 
   settlement-sound : (trace : Trace) (t : Totals) → Sound (messageBytes (settlementMessage x batch trace t))
   unfolding settlementMessage leftAs
@@ -157,7 +157,7 @@ module _ (s : State) (lent : Lent) where
   send-from : (p : Phase) → Sends (sendFrom p s lent)
   send-from Resting = is-quiet
   send-from (Waiting a) = is-quiet
-  send-from (Pending v) = sends-bytes _ lent (reversal-sound (s .settings) (s .batch) (again v))
+  send-from (Pending v) = sends-bytes _ lent (reversal-sound (s .settings) (s .batch) (s .chip) (again v))
   send-from Settling = is-quiet
   send-from Uploading = is-quiet
 
@@ -173,17 +173,20 @@ module _ (s : State) (lent : Lent) where
   upload-from Uploading = next-leaves (nextDue (due Uploading) (entriesOf (s .entries) (lent .journal)))
 
 pub call-sends : (e : Event) (s : State) (lent : Lent) → Sends (call e s lent)
-unfolding signedOn start answer noAnswer powerReturned sendReversal settle sendNextUpload
+unfolding signedOn start answer noAnswer powerReturned cardAgrees cardDeclines sendReversal settle sendNextUpload
 call-sends (signed-on batch) s lent = judges s lent (firstBroken (signedOnRules batch s lent)) _ is-quiet
-call-sends (starts d) s lent =
+call-sends (starts d b) s lent =
     let es = entriesOf (s .entries) (lent .journal) in
     let e = entryOf (originalOf d es) es in
-    judges s lent (firstBroken (startRules d s es e lent)) _
-    (sends-bytes _ lent (request-sound (s .settings) (s .batch) (requestOf d e (taken es (s .next .0))) (namedBy d (s .batch) e)))
+    judges s lent (firstBroken (startRules d b s es e lent)) _
+    (sends-bytes _ lent
+    (request-sound (s .settings) (s .batch) (chipFrom d b) (requestOf d e (taken es (s .next .0))) (namedBy d (s .batch) e)))
 call-sends (answers b g) s lent =
     judges s lent (firstBroken (rules12 s lent)) _ (read-in s lent (readMessage b .outcome) g (readMessage b .message))
 call-sends no-answer s lent = judges s lent (firstBroken (noAnswerRules s lent)) _ is-quiet
 call-sends power-returned s lent = judges s lent (firstBroken (rules12 s lent)) _ is-quiet
+call-sends card-agrees s lent = judges s lent (firstBroken (cardRules s lent)) _ is-quiet
+call-sends card-declines s lent = judges s lent (firstBroken (cardRules s lent)) _ is-quiet
 call-sends send-reversal s lent = judges s lent (firstBroken (sendReversalRules s lent)) _ (send-from s lent (s .phase))
 call-sends settles s lent =
     let es = entriesOf (s .entries) (lent .journal) in

@@ -14,13 +14,15 @@ use Rattle.field.specs.declared.Class.{Class}
 use Rattle.field.specs.declared.Class.the-variants.{Digits, Printable, Any}
 use Rattle.field.specs.declared.Format.{Format}
 use Rattle.field.proofs.Contents.{size-mono, allowed-bounds}
+use Rattle.elements.specs.Elements.{elementsInForm}
+use Rattle.elements.proofs.Elements.{form-none}
 use Rattle.message.specs.Build.{Item, has, find, padded}
 use Rattle.message.specs.Message.{Field}
 use Rattle.message.specs.Located.{located}
 use Rattle.message.specs.declared.Located.{Located as Place-in}
 use Rattle.message.specs.declared.Located.the-variants.{Found, Missing}
 use Rattle.message.proofs.Standing.{standing}
-use Rattle.compose.specs.Compose.{mayHold, allHeld}
+use Rattle.compose.specs.Compose.{mayHold, chipKept, allHeld}
 use Rattle.compose.proofs.Places.{holds, may-not-hold, length-padded}
 
 abbrev pub named : ℕ → Field → Item
@@ -70,13 +72,15 @@ find-none (x ∷ xs) n h = go (eqb (x .number) n) h (find-none xs n)
 pub record Held (x : Item) (xs : List Item) : Type 0 where
   pub once : has xs (x .number) ≡ false
   pub first : mayHold formats x ≡ true
+  pub kept : chipKept x ≡ true
   pub later : allHeld xs ≡ true
 
 pub held-all : (x : Item) (xs : List Item) → allHeld (x ∷ xs) ≡ true → Held x xs
 held-all x xs h =
-    let a = and-eq-true-iff (not (has xs (x .number))) (mayHold formats x && allHeld xs) .0 h in
-    let b = and-eq-true-iff (mayHold formats x) (allHeld xs) .0 (a .1) in
-    record { once = not-true _ (a .0); first = b .0; later = b .1 }
+    let a = and-eq-true-iff (not (has xs (x .number))) (mayHold formats x && (chipKept x && allHeld xs)) .0 h in
+    let b = and-eq-true-iff (mayHold formats x) (chipKept x && allHeld xs) .0 (a .1) in
+    let c = and-eq-true-iff (chipKept x) (allHeld xs) .0 (b .1) in
+    record { once = not-true _ (a .0); first = b .0; kept = c .0; later = c .1 }
 
 -- no field of one list stands in another
 abbrev pub apart : List Item → List Item → Bool
@@ -92,7 +96,7 @@ held-append [] ys d a b = b
 held-append (x ∷ xs) ys d a b =
     let t = held-all x xs a in
     let e = and-eq-true-iff (not (has ys (x .number))) (apart xs ys) .0 d in
-    rw (has-append xs ys (x .number), t .once, not-true (has ys (x .number)) (e .0), t .first, held-append xs ys (e .1) (t .later) b)
+    rw (has-append xs ys (x .number), t .once, not-true (has ys (x .number)) (e .0), t .first, t .kept, held-append xs ys (e .1) (t .later) b)
 
 -- what is found of a list may be held
 abbrev pub FindsHeld : List Item → Type 0
@@ -111,6 +115,16 @@ finds-more x xs m r n h = go (eqb (x .number) n) refl h
 pub found-held : (xs : List Item) (n : ℕ) → allHeld xs ≡ true → has xs n ≡ true → mayHold formats (named n (find xs n)) ≡ true
 found-held [] n a h = finds-none n h
 found-held (x ∷ xs) n a h = let t = held-all x xs a in finds-more x xs (t .first) (λ k g. found-held xs k (t .later) g) n h
+
+-- what is found of field 55 is elements in form
+pub found-kept : (xs : List Item) → allHeld xs ≡ true → elementsInForm (find xs 55 .bytes) ≡ true
+found-kept [] a = form-none
+found-kept (x ∷ xs) a = let t = held-all x xs a in go (eqb (x .number) 55) (t .kept) (found-kept xs (t .later))
+  where
+    go : (t : Bool) → cond t (elementsInForm (x .field .bytes)) true ≡ true → elementsInForm (find xs 55 .bytes) ≡ true
+        → elementsInForm ((cond t (x .field) (find xs 55)) .bytes) ≡ true
+    go true k ih = k
+    go false k ih = ih
 
 -- the fields of a table may hold what is found of them
 abbrev pub Fitting : List Format → List Item → Type 0

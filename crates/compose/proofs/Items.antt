@@ -4,7 +4,7 @@ use mathlib.Core.List.{List, [], _∷_}
 use mathlib.Core.Bool.{Bool, true, false, cond, _&&_, and-eq-true-iff}
 use Prim.Native.Nat.{ℕ}
 use native.Mathlib.Omega.{arith}
-use lib.Dec.{eqb}
+use lib.Dec.{leb, eqb}
 use lib.ListN.{length}
 use borrow.Author.Tests.{eq-eqb}
 use Rattle.digits.specs.Digits.{allDigits}
@@ -16,6 +16,7 @@ use Rattle.field.specs.Contents.{size, allowed, allPrintable, fault}
 use Rattle.field.specs.declared.Class.{Class}
 use Rattle.field.specs.declared.Class.the-variants.{Digits, Printable, Any}
 use Rattle.field.specs.declared.Format.{Format}
+use Rattle.elements.specs.Elements.{elementsInForm, chipInForm}
 use Rattle.message.specs.Build.{Item, digits, bytes}
 use Rattle.compose.specs.Compose.{mayHold}
 use Rattle.compose.proofs.Places.{holds}
@@ -84,3 +85,16 @@ bytes-held n b h = taken-held isAny formats (bytes n b) form h
     form Digits e = let z : _≡_ {A = ℕ} 0 1 = cc in absurd (omega arith)
     form Printable e = let z : _≡_ {A = ℕ} 0 1 = cc in absurd (omega arith)
     form Any e = (refl, refl)
+
+-- a field 55 in form
+module _ (b : List ℕ) (h : chipInForm b ≡ true) where
+  chip-parts : ((leb 1 (length b) && leb (length b) 255) ≡ true) × (elementsInForm b ≡ true)
+  unfolding chipInForm
+  chip-parts = and-eq-true-iff (leb 1 (length b) && leb (length b) 255) (elementsInForm b) .0 h
+
+  pub chip-held : mayHold formats (bytes 55 b) ≡ true
+  unfolding formats allowed
+  chip-held = bytes-held 55 b (chip-parts .0)
+
+  pub chip-elements : elementsInForm b ≡ true
+  chip-elements = chip-parts .1

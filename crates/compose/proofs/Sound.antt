@@ -17,12 +17,13 @@ use Rattle.message.specs.Build.{Item, has, find, padded, bitmapFor, countsFor, 
 use Rattle.message.specs.Message.{Field, Shaped, fieldIn, fieldOf}
 use Rattle.message.proofs.Places.{roomsOf, rooms-formats}
 use Rattle.message.proofs.Standing.{small, small-formats}
-use Rattle.message.proofs.Late.{late-none}
+use Rattle.message.specs.Late.{lateFault}
+use Rattle.message.proofs.Late.{late-kept}
 use Rattle.writing.specs.Writing.{fieldFault, fieldsFault, messageFault}
 use Rattle.compose.specs.Compose.{allHeld}
 use Rattle.compose.proofs.Places.{length-padded}
 use Rattle.compose.proofs.Bitmaps.{names-has}
-use Rattle.compose.proofs.Held.{distinct, distinct-formats, first-distinct, Fitting, fitting-formats, fitting-head, fitting-tail, fitting-stored, stored-drop, stored-bytes, named, nothing, held-listed, found-held, find-none}
+use Rattle.compose.proofs.Held.{distinct, distinct-formats, first-distinct, Fitting, fitting-formats, fitting-head, fitting-tail, fitting-stored, stored-drop, stored-bytes, named, nothing, held-listed, found-held, found-kept, find-none}
 
 -- its arrays have their lengths
 length-counts : (fs : List Format) (xs : List Item) → length (countsFor fs xs) ≡ length fs
@@ -88,11 +89,6 @@ fields-sound (f ∷ fs) xs s d r =
     rw (field-sound f fs xs (contentsFor fs xs) (t .0) r, stored-drop (fitting-stored f fs xs r) (contentsFor fs xs))
     (fields-sound fs xs (t .1) (first-distinct f fs xs d .1) (fitting-tail f fs xs d r))
 
-pub sound : (i : ℕ) (xs : List Item) → among i indicators ≡ true → allHeld xs ≡ true → messageFault (messageOf i xs) ≡ 0
-unfolding messageFault
-sound i xs e h =
-    rw (e, listed-all xs h, fields-sound formats xs small-formats distinct-formats (fitting-formats xs h)) (late-none (messageOf i xs))
-
 -- the field that is held
 field-of : (fs : List Format) (xs : List Item) (n : ℕ) → distinct fs ≡ true → Fitting fs xs → among n (numbers fs) ≡ true
     → fieldIn fs (countsFor fs xs) (contentsFor fs xs) n ≡ find xs n
@@ -130,3 +126,12 @@ held-field i xs n h = go (among n (numbers formats)) refl
         absent : (t : Bool) → has xs n ≡ t → has xs n ≡ false
         absent true e = e ∙ sym (held-listed formats (named n (find xs n)) (found-held xs n h e)) ∙ l
         absent false e = e
+
+-- rule 23
+late-sound : (i : ℕ) (xs : List Item) → allHeld xs ≡ true → lateFault (messageOf i xs) ≡ 0
+late-sound i xs h = late-kept (messageOf i xs) (rw (held-field i xs 55 h) (found-kept xs h))
+
+pub sound : (i : ℕ) (xs : List Item) → among i indicators ≡ true → allHeld xs ≡ true → messageFault (messageOf i xs) ≡ 0
+unfolding messageFault
+sound i xs e h =
+    rw (e, listed-all xs h, fields-sound formats xs small-formats distinct-formats (fitting-formats xs h)) (late-sound i xs h)

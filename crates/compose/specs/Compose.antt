@@ -8,6 +8,7 @@ use Rattle.field.specs.Table.{formats}
 use Rattle.field.specs.Bitmap.{names}
 use Rattle.field.specs.Contents.{size, room, allowed, fault}
 use Rattle.field.specs.declared.Format.{Format}
+use Rattle.elements.specs.Elements.{elementsInForm}
 use Rattle.message.specs.Build.{Item, has, padded}
 use Rattle.message.specs.declared.Message.{Message}
 
@@ -21,10 +22,14 @@ mayHold (f ∷ fs) x =
       && eqb (fault (f .class) (x .field .count) (x .field .bytes)) 0)
       (mayHold fs x)
 
--- the fields may hold all of these items; no field holds two of them
+-- rule 23: an item of field 55 is elements in form
+abbrev pub chipKept : Item → Bool
+chipKept x = cond (eqb (x .number) 55) (elementsInForm (x .field .bytes)) true
+
+-- the fields may hold all of these items, and the message is written; no field holds two of them
 abbrev pub allHeld : List Item → Bool
 allHeld [] = true
-allHeld (x ∷ xs) = not (has xs (x .number)) && (mayHold formats x && allHeld xs)
+allHeld (x ∷ xs) = not (has xs (x .number)) && (mayHold formats x && (chipKept x && allHeld xs))
 
 abbrev pub withCount : List Format → Item → List ℕ → List ℕ
 withCount [] x cs = cs

@@ -15,7 +15,7 @@ ghost use Rattle.field.specs.Contents.{size, fault};
 ghost use Rattle.message.specs.Message.{rooms};
 ghost use Rattle.message.specs.Build.{digits, bytes, padded, messageOf};
 ghost use Rattle.compose.specs.Compose.{withItem, withBit};
-ghost use Rattle.compose.specs.Placed.{placed, putAt, item};
+ghost use Rattle.compose.specs.Placed.{putAt, item};
 
 // The bits of a byte, the top one first.
 const BITS: [u8; 8] = [128, 64, 32, 16, 8, 4, 2, 1];
@@ -103,21 +103,6 @@ fn fill(b: &[u8], out: &mut [u8])
     }
 }
 
-fn with_contents(
-    contents: [u8; message::ROOM],
-    from: usize,
-    room: usize,
-    b: &[u8],
-) -> [u8; message::ROOM]
-    requires { ⌜ (from + room ≤ rooms) × (length (now b) ≤ room) ⌝ }
-    ensures { λ r. ⌜ r ≡ placed from room (now (b .entry)) contents ⌝ }
-{
-    let mut out = contents;
-    let end = from + room;
-    fill(b, &mut out[from..end]);
-    out
-}
-
 fn with_count(counts: [u8; field::ROWS], row: usize, count: u8) -> [u8; field::ROWS]
     requires { ⌜ row < rows ⌝ }
     ensures { λ r. ⌜ r ≡ set counts row count ⌝ }
@@ -142,10 +127,11 @@ fn put(m: Message, n: u8, row: usize, from: usize, room: usize, count: u8, b: &[
 {
     let bitmap = m.bitmap;
     let counts = m.counts;
-    let contents = m.contents;
+    let mut contents = m.contents;
     let bitmap = with_bit(bitmap, n);
     let counts = with_count(counts, row, count);
-    let contents = with_contents(contents, from, room, b);
+    let end = from + room;
+    fill(b, &mut contents[from..end]);
     Message {
         indicator: m.indicator,
         bitmap: bitmap,

@@ -6,18 +6,31 @@ use lib.Dec.{leb, ltb, eqb}
 use Rattle.approval.specs.Cards.{cardOf}
 use Rattle.desk.specs.declared.Desk.{Desk}
 use Rattle.checks.specs.Checks.{Rule, rule}
+use Rattle.elements.specs.Elements.{chipInForm}
 use Rattle.entry.specs.declared.Entry.{Entry}
 use Rattle.field.specs.Contents.{allPrintable}
 use Rattle.journal.specs.Journal.{nowhere}
 use Rattle.journal.specs.declared.Found.{Found}
-use Rattle.kinds.specs.Kinds.{isKind, takesOriginal, keysReference, keysAuthorisation, keysDate, isRefund}
+use Rattle.kinds.specs.Kinds.{isKind, takesOriginal, keysReference, keysAuthorisation, keysDate, isRefund, sendsChip}
 use Rattle.numbers.specs.Limits.{mostRequests}
 use Rattle.numbers.specs.Numbers.{within, isAmount}
-use Rattle.state.specs.State.{isWaiting, isPending, isClosing}
+use Rattle.state.specs.State.{noChip, chipOf, isWaiting, isPending, isClosing}
+use Rattle.state.specs.declared.Chip.{Chip}
 use Rattle.state.specs.declared.Request.{Request}
 use Rattle.state.specs.declared.State.{State}
 use Rattle.state_rules.specs.StateRules.{isCard, past}
 use Rattle.kinds.specs.declared.Totals.{Totals}
+
+-- document 02, request 1: field 55 is sent where the desk has a chip, and only at a sale or pre-authorisation
+abbrev pub sendsField55 : Desk → Bool
+sendsField55 d = d .chip && sendsChip (d .kind)
+
+abbrev pub chipFrom : Desk → List ℕ → Chip
+chipFrom d b = cond (sendsField55 d) (chipOf b) noChip
+
+-- rule 23: a desk's field 55 that is empty, above 255 bytes or not in form
+abbrev pub chipRules : Desk → List ℕ → List Rule
+chipRules d b = rule 23 (sendsField55 d && not (chipInForm b)) ∷ []
 
 -- desk data that a kind doesn't send are not judged
 unfoldable pub deskInForm : Desk → Bool

@@ -4,13 +4,18 @@ use journal::Found;
 use kinds::Totals;
 use numbers::Trace;
 use state::Card;
+use state::Chip;
 use state::Request;
 use state::State;
 ghost use mathlib.Core.Path.{_≡_};
+ghost use Prim.Native.Nat.{_≤_};
+ghost use lib.ListN.{length};
 ghost use Rattle.checks.specs.Checks.{firstBroken};
-ghost use Rattle.desk.specs.DeskRules.{deskInForm, requestOf, restRules, deskRules, journalRules};
+ghost use Rattle.state.specs.State.{chipOf};
+ghost use Rattle.desk.specs.DeskRules.{sendsField55, chipFrom, chipRules, deskInForm, requestOf, restRules, deskRules, journalRules};
 
-// What the desk keys for a request; the original is the trace of the entry that a void is for.
+// What the desk keys for a request; the original is the trace of the entry that a void is for. Whether the card is read by its chip, whose
+// field 55 stands beside it.
 pub struct Desk {
     pub kind: u8,
     pub amount: u64,
@@ -20,6 +25,27 @@ pub struct Desk {
     pub day: u8,
     pub authorisation: [u8; 6],
     pub reference: [u8; 12],
+    pub chip: bool,
+}
+
+// The chip of a request, where the kind sends field 55 and it is in form.
+pub fn chip_from(d: Desk, chip: &[u8]) -> Chip
+    ensures { λ r. ⌜ (firstBroken (chipRules d (now (chip .entry))) ≡ 0 → r ≡ chipFrom d (now (chip .entry))) ⌝ }
+{
+    if sends_field55(d) {
+        return chip_of(chip);
+    }
+    Chip::none()
+}
+
+// 23 where the desk's field 55 is to be sent and is not in form, 0 otherwise.
+pub fn chip_refusal(d: Desk, chip: &[u8]) -> u8
+    ensures { λ r. ⌜ r ≡ firstBroken (chipRules d (now (chip .entry))) ⌝ }
+{
+    if sends_field55(d) & !elements::chip_in_form(chip) {
+        return 23;
+    }
+    0
 }
 
 // What a request is for: card and amount are the original's or the desk's.
@@ -104,6 +130,32 @@ pub fn journal_refusal(s: State, d: Desk, totals: Totals, place: Found, e: Entry
         return 21;
     }
     0
+}
+
+// Whether the request sends the desk's field 55.
+fn sends_field55(d: Desk) -> bool
+    ensures { λ r. ⌜ r ≡ sendsField55 d ⌝ }
+{
+    d.chip & kinds::sends_chip(d.kind)
+}
+
+// Up to 255 bytes as a chip's field 55.
+fn chip_of(b: &[u8]) -> Chip
+    ensures { λ r. ⌜ (length (now (b .entry)) ≤ 255 → r ≡ chipOf (now (b .entry))) ⌝ }
+{
+    if 255 < b.len() {
+        return Chip::none();
+    }
+    let mut bytes = [0u8; 255];
+    bytes::copy(b, &mut bytes);
+    Chip {
+        length: b.len() as u8,
+        bytes: bytes,
+        approved: false,
+        date: [0u8; 2],
+        authorisation: [0u8; 6],
+        reference: [0u8; 12],
+    }
 }
 
 // Whether what the kind sends of the desk's data is in form.

@@ -11,15 +11,15 @@ use Rattle.state.specs.State.{isWaiting}
 use Rattle.state.specs.declared.State.{State}
 use Rattle.state.specs.declared.Awaited.the-variants as awaited
 use Rattle.effect_definitions.specs.StateEffects.{adopts, pendingOrUnanswered, failed}
-use Rattle.effect_definitions.specs.JournalEffects.{silent, onRequest, resent}
-use Rattle.effect_definitions.specs.Theorems.{KeptOnceUsed, RequestsCounted, SendingsCounted, PendingBelowL, FreeAtL, SettlementTakesTrace, SilenceEndsWait, PendingStays, BadMacWritesNothing, ResendsCounted}
+use Rattle.effect_definitions.specs.JournalEffects.{silent, granted, onRequest, resent}
+use Rattle.effect_definitions.specs.Theorems.{KeptOnceUsed, RequestsCounted, SendingsCounted, PendingBelowL, FreeAtL, SettlementTakesTrace, SilenceEndsWait, PendingStays, BadMacWritesNothing, UndecidedBeforeConsent, SilentCardDeclines, ResendsCounted}
 
 pub kept-once-used : KeptOnceUsed
 unfolding adopts
 kept-once-used s h = rw (ne-eqb (s .counts .sent) 0 (λ q. omega (arith, q)))
 
 pub requests-counted : RequestsCounted
-requests-counted s q = omega arith
+requests-counted s c q = omega arith
 
 pub sendings-counted : SendingsCounted
 sendings-counted v = omega arith
@@ -54,6 +54,15 @@ pending-stays v s j h = h
 pub bad-mac-writes-nothing : BadMacWritesNothing
 unfolding onRequest
 bad-mac-writes-nothing good a q s j h g = rw (h, g)
+
+pub undecided-before-consent : UndecidedBeforeConsent
+unfolding onRequest granted
+undecided-before-consent good a q s j h g c =
+    record { journal-stays = rw (h, g, c); counts-stay = rw (h, g, c); phase-stays = rw (h, g, c) }
+
+pub silent-card-declines : SilentCardDeclines
+unfolding silent pendingOrUnanswered
+silent-card-declines q s j n w = (rw (n, w), rw n)
 
 pub resends-counted : ResendsCounted
 unfolding resent setByte

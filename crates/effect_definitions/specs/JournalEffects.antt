@@ -4,7 +4,7 @@ use mathlib.Core.List.{List}
 use Prim.Native.Nat.{ℕ, _+_}
 use lib.Dec.{eqb, leb}
 use Rattle.answer_match.specs.Match.{approves, goodMac}
-use Rattle.approval.specs.Approval.{approvedEntry}
+use Rattle.approval.specs.Approval.{approvalOf, approvedEntry}
 use Rattle.entry.specs.Entry.{resendsOffset, voidedOffset, markOffset}
 use Rattle.entry.specs.declared.Entry.{Entry}
 use Rattle.journal.specs.Journal.{entriesOf, entryAt, setByte, originalFor, putEntry}
@@ -12,16 +12,16 @@ use Rattle.journal.specs.declared.Found.{Found}
 use Rattle.journal.specs.declared.Found.the-variants.{At, Nowhere}
 use Rattle.kinds.specs.Kinds.{takesOriginal}
 use Rattle.message.specs.declared.Message.{Message}
-use Rattle.state.specs.State.{inPhase, counted}
+use Rattle.state.specs.State.{hasChip, approvedBy, approvalIn, inPhase, withChip}
 use Rattle.state.specs.declared.Awaited.{Awaited}
 use Rattle.state.specs.declared.Count.the-variants.{Declined}
 use Rattle.state.specs.declared.Phase.{Phase}
 use Rattle.state.specs.declared.Phase.the-variants.{Resting, Waiting, Pending, Settling, Uploading}
-use Rattle.state.specs.declared.Reason.the-variants.{Silence, BadMac}
+use Rattle.state.specs.declared.Reason.the-variants.{BadMac}
 use Rattle.state.specs.declared.Request.{Request}
 use Rattle.state.specs.declared.State.{State}
 use Rattle.state.specs.declared.Awaited.the-variants as awaited
-use Rattle.effect_definitions.specs.StateEffects.{pendingOrUnanswered, failed, oneMore, onReversal, onSettlement, onEnd}
+use Rattle.effect_definitions.specs.StateEffects.{ended, pendingOrUnanswered, silenceOf, failed, oneMore, onReversal, onSettlement, onEnd}
 
 -- state and journal after a change
 pub record Changed : Type 0 where
@@ -40,7 +40,7 @@ marked i mark j = setByte i markOffset mark j
 
 -- no answer to what is awaited; silence leaves the phase settling, and lets the upload's end be sent again
 unfoldable pub silent : Awaited → State → List ℕ → Changed
-silent (awaited.Request q) s j = changed (pendingOrUnanswered Silence q s) j
+silent (awaited.Request q) s j = changed (pendingOrUnanswered (silenceOf s) q s) j
 silent (awaited.Reversal v) s j = changed (failed v s) j
 silent (awaited.Settlement x) s j = changed (inPhase Settling s) j
 silent (awaited.Item i) s j =
@@ -67,12 +67,34 @@ originalVoided q es j =
 unfoldable pub approved : Request → Entry → State → List ℕ → Changed
 approved q e s j = changed (oneMore s) (putEntry (s .entries) e (originalVoided q (entriesOf (s .entries) j) j))
 
+-- a good 00: without a chip it approves; with one the card has the last word
+unfoldable pub granted : Message → Request → State → List ℕ → Changed
+granted a q s j =
+    cond (hasChip (s .chip))
+      (changed (withChip (approvedBy (approvalOf a) (s .chip)) s) j)
+      (approved q (approvedEntry q (approvalOf a)) s j)
+
 -- an answer to a card request: the MAC is read only for 00; other code: declined
 unfoldable pub onRequest : Bool → Message → Request → State → List ℕ → Changed
 onRequest good a q s j =
     cond (approves a)
-      (cond (goodMac good a) (approved q (approvedEntry q a) s j) (changed (pendingOrUnanswered BadMac q s) j))
-      (changed (inPhase Resting (counted Declined s)) j)
+      (cond (goodMac good a) (granted a q s j) (changed (pendingOrUnanswered BadMac q s) j))
+      (changed (ended Declined s) j)
+
+-- the card agrees to the request that is awaited; nothing else waits for a card
+unfoldable pub agreed : Awaited → State → List ℕ → Changed
+agreed (awaited.Request q) s j = approved q (approvedEntry q (approvalIn (s .chip))) s j
+agreed (awaited.Reversal v) s j = changed s j
+agreed (awaited.Settlement x) s j = changed s j
+agreed (awaited.Item i) s j = changed s j
+agreed (awaited.End x) s j = changed s j
+
+abbrev pub agreedIn : Phase → State → List ℕ → Changed
+agreedIn Resting s j = changed s j
+agreedIn (Waiting a) s j = agreed a s j
+agreedIn (Pending v) s j = changed s j
+agreedIn Settling s j = changed s j
+agreedIn Uploading s j = changed s j
 
 -- to an upload item: 00 accepts, another code rejects
 unfoldable pub onItem : Message → ℕ → List ℕ → List ℕ

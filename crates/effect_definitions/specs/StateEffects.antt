@@ -7,10 +7,13 @@ use Rattle.kinds.specs.Kinds.{isNeverReversed}
 use Rattle.message.specs.declared.Message.{Message}
 use Rattle.numbers.specs.declared.Batch.{Batch}
 use Rattle.numbers.specs.declared.Trace.{Trace}
-use Rattle.state.specs.State.{inPhase, counted, withEntries, signed, closed, took, isResting, inBatch}
+use Rattle.state.specs.State.{noChip, asSent, inPhase, counted, withChip, withEntries, signed, closed, took, isResting, inBatch}
+use Rattle.state.specs.declared.Chip.{Chip}
+use Rattle.state.specs.declared.Count.{Count}
 use Rattle.state.specs.declared.Count.the-variants.{Approved, Reversed, GivenUp, Unanswered, Sent}
 use Rattle.state.specs.declared.Phase.the-variants.{Resting, Waiting, Pending, Uploading}
 use Rattle.state.specs.declared.Reason.{Reason}
+use Rattle.state.specs.declared.Reason.the-variants.{Silence, CardDeclined}
 use Rattle.state.specs.declared.Request.{Request}
 use Rattle.state.specs.declared.Reversal.{Reversal}
 use Rattle.state.specs.declared.State.{State}
@@ -24,31 +27,39 @@ adopts s = eqb (s .counts .sent) 0 && isResting s
 abbrev pub on : Batch → State → State
 on batch s = signed true (inBatch batch s)
 
--- the state once the request has left with a trace
-abbrev pub requested : State → Request → State
-requested s q = inPhase (Waiting (awaited.Request q)) (took (q .trace) (counted Sent s))
+-- the state once the request has left with a trace, and with a chip or none
+abbrev pub requested : State → Chip → Request → State
+requested s c q = inPhase (Waiting (awaited.Request q)) (withChip c (took (q .trace) (counted Sent s)))
 
--- silence or bad MAC: kind 25 is unanswered; other kinds make a pending reversal
+-- a card request ends: it is counted, and its chip forgotten
+abbrev pub ended : Count → State → State
+ended k s = inPhase Resting (withChip noChip (counted k s))
+
+-- silence, bad MAC or a card that declines: kind 25 is unanswered; other kinds make a pending reversal
 unfoldable pub pendingOrUnanswered : Reason → Request → State → State
 pendingOrUnanswered reason q s =
     cond (isNeverReversed (q .kind))
-      (inPhase Resting (counted Unanswered s))
-      (inPhase (Pending (record { request = q; reason = reason; sendings = 0 })) s)
+      (ended Unanswered s)
+      (inPhase (Pending (record { request = q; reason = reason; sendings = 0 })) (withChip (asSent (s .chip)) s))
+
+-- silence of the line, or of the card that has the last word (document 02, request 1)
+abbrev pub silenceOf : State → Reason
+silenceOf s = cond (s .chip .approved) CardDeclined Silence
 
 -- a failed sending: at L sendings the reversal is given up, else it is pending again
 unfoldable pub failed : Reversal → State → State
 failed v s =
     cond (leb (s .settings .sendings) (v .sendings))
-      (inPhase Resting (counted GivenUp s))
+      (ended GivenUp s)
       (inPhase (Pending v) s)
 
 -- an approval: the entry is written, and the request counted
 abbrev pub oneMore : State → State
-oneMore s = inPhase Resting (counted Approved (withEntries (s .entries + 1) s))
+oneMore s = ended Approved (withEntries (s .entries + 1) s)
 
 -- to a reversal: ended as reversed, or a failed sending
 unfoldable pub onReversal : Bool → Message → Reversal → State → State
-onReversal good a v s = cond (endsReversal good a) (inPhase Resting (counted Reversed s)) (failed v s)
+onReversal good a v s = cond (endsReversal good a) (ended Reversed s) (failed v s)
 
 -- to a settlement: digit 1 closes; 2 or 3 starts the upload
 unfoldable pub onSettlement : Message → State → State

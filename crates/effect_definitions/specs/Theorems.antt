@@ -7,17 +7,21 @@ use lib.ListN.{length, getD}
 use Rattle.numbers.specs.Numbers.{following}
 use Rattle.numbers.specs.declared.Trace.{Trace}
 use Rattle.message.specs.declared.Message.{Message}
+use Rattle.kinds.specs.Kinds.{isNeverReversed}
 use Rattle.answer_match.specs.Match.{approves, goodMac}
 use Rattle.entry.specs.Entry.{entrySize}
 use Rattle.entry.specs.declared.Entry.{Entry}
-use Rattle.state.specs.State.{isWaiting}
+use Rattle.state.specs.State.{chipBytes, hasChip, isWaiting}
 use Rattle.state.specs.declared.Awaited.{Awaited}
+use Rattle.state.specs.declared.Awaited.the-variants as awaited
+use Rattle.state.specs.declared.Chip.{Chip}
 use Rattle.state.specs.declared.Phase.the-variants.{Resting, Waiting, Pending}
+use Rattle.state.specs.declared.Reason.the-variants.{CardDeclined}
 use Rattle.state.specs.declared.Request.{Request}
 use Rattle.state.specs.declared.Reversal.{Reversal}
 use Rattle.state.specs.declared.State.{State}
 use Rattle.effect_definitions.specs.StateEffects.{adopts, requested, failed, again, settles}
-use Rattle.effect_definitions.specs.JournalEffects.{silentIn, onRequest, resent}
+use Rattle.effect_definitions.specs.JournalEffects.{Changed, silent, silentIn, onRequest, resent}
 
 -- a batch number is not adopted once a card request has left in the batch
 abbrev pub KeptOnceUsed : Type 0
@@ -25,7 +29,7 @@ KeptOnceUsed = (s : State) → 0 < s .counts .sent → adopts s ≡ false
 
 -- a request that leaves is counted once
 abbrev pub RequestsCounted : Type 0
-RequestsCounted = (s : State) (q : Request) → requested s q .counts .sent ≡ 1 + s .counts .sent
+RequestsCounted = (s : State) (c : Chip) (q : Request) → requested s c q .counts .sent ≡ 1 + s .counts .sent
 
 -- so is each sending of a reversal
 abbrev pub SendingsCounted : Type 0
@@ -53,6 +57,22 @@ PendingStays = (v : Reversal) (s : State) (j : List ℕ) → s .phase ≡ Pendin
 abbrev pub BadMacWritesNothing : Type 0
 BadMacWritesNothing = (good : Bool) (a : Message) (q : Request) (s : State) (j : List ℕ)
     → approves a ≡ true → goodMac good a ≡ false → onRequest good a q s j .journal ≡ j
+
+-- document 02, request 1: a good 00 to a request with a chip writes no entry, counts nothing, and the request is still awaited
+pub record Undecided (s : State) (j : List ℕ) (c : Changed) : Type 0 where
+  pub journal-stays : c .journal ≡ j
+  pub counts-stay : c .state .counts ≡ s .counts
+  pub phase-stays : c .state .phase ≡ s .phase
+
+abbrev pub UndecidedBeforeConsent : Type 0
+UndecidedBeforeConsent = (good : Bool) (a : Message) (q : Request) (s : State) (j : List ℕ)
+    → approves a ≡ true → goodMac good a ≡ true → hasChip (s .chip) ≡ true → Undecided s j (onRequest good a q s j)
+
+-- where the card's word is awaited, silence makes a reversal by reason 06, with the chip as it was sent
+abbrev pub SilentCardDeclines : Type 0
+SilentCardDeclines = (q : Request) (s : State) (j : List ℕ) → isNeverReversed (q .kind) ≡ false → s .chip .approved ≡ true
+    → (silent (awaited.Request q) s j .state .phase ≡ Pending (record { request = q; reason = CardDeclined; sendings = 0 }))
+    × (chipBytes (silent (awaited.Request q) s j .state .chip) ≡ chipBytes (s .chip))
 
 -- byte 3 of an entry that was sent before grows by 1 as it leaves again
 abbrev pub ResendsCounted : Type 0

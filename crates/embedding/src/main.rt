@@ -50,7 +50,7 @@ fn sign_on(t: Terminal, journal: &mut [u8], message: &mut [u8]) -> Terminal {
 }
 
 fn start(t: Terminal, journal: &mut [u8], message: &mut [u8]) -> Terminal {
-    let step = t.start(sale(), journal, message);
+    let step = t.start(sale(), b"", journal, message);
     told(b"start: ", step, message)
 }
 
@@ -93,5 +93,6 @@ fn sale() -> Desk {
         day: 0,
         authorisation: [0u8; 6],
         reference: [0u8; 12],
+        chip: false,
     }
 }

@@ -49,6 +49,7 @@ formats =
     variable 44 Any One 0 25 ∷
     variable 48 Digits Two 62 62 ∷
     fixed 49 Printable 3 ∷
+    variable 55 Any Two 1 255 ∷
     variable 60 Digits Two 11 11 ∷
     variable 61 Digits Two 16 16 ∷
     variable 63 Any Two 3 63 ∷
@@ -57,7 +58,7 @@ formats =
 
 -- the number of fields
 abbrev pub rows : ℕ
-rows = 23
+rows = 24
 
 -- the field numbers of a table
 abbrev pub numbers : List Format → List ℕ

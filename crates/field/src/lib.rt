@@ -29,7 +29,7 @@ pub struct Format {
 }
 
 // The number of fields in the table.
-pub const ROWS: usize = 23;
+pub const ROWS: usize = 24;
 
 // The fields of a message in ascending order.
 const FORMATS: [Format; ROWS] = [
@@ -52,6 +52,7 @@ const FORMATS: [Format; ROWS] = [
     Format { number: 44, class: Class::Any, prefix: Prefix::One, low: 0, high: 25 },
     Format { number: 48, class: Class::Digits, prefix: Prefix::Two, low: 62, high: 62 },
     Format { number: 49, class: Class::Printable, prefix: Prefix::Absent, low: 3, high: 3 },
+    Format { number: 55, class: Class::Any, prefix: Prefix::Two, low: 1, high: 255 },
     Format { number: 60, class: Class::Digits, prefix: Prefix::Two, low: 11, high: 11 },
     Format { number: 61, class: Class::Digits, prefix: Prefix::Two, low: 16, high: 16 },
     Format { number: 63, class: Class::Any, prefix: Prefix::Two, low: 3, high: 63 },
@@ -60,12 +61,12 @@ const FORMATS: [Format; ROWS] = [
 
 // Where the contents of each field stand in a message, one field after another.
 const PLACES: [u16; ROWS] = [
-    0, 10, 13, 19, 22, 25, 27, 29, 31, 33, 34, 40, 52, 58, 60, 68, 83, 108, 139, 142, 148, 156, 219,
+    0, 10, 13, 19, 22, 25, 27, 29, 31, 33, 34, 40, 52, 58, 60, 68, 83, 108, 139, 142, 397, 403, 411, 474,
 ];
 
 // The bit of each field in a bitmap as one number, from the lowest.
 const BITS: [u8; ROWS] = [
-    62, 61, 60, 53, 52, 51, 50, 49, 42, 39, 32, 27, 26, 25, 23, 22, 20, 16, 15, 4, 3, 1, 0,
+    62, 61, 60, 53, 52, 51, 50, 49, 42, 39, 32, 27, 26, 25, 23, 22, 20, 16, 15, 9, 4, 3, 1, 0,
 ];
 
 // The types of document 01.
@@ -74,7 +75,7 @@ const INDICATORS: [u16; 12] = [
 ];
 
 // The bits of each bitmap byte that stand for no field of the table.
-const UNLISTED: [u8; 8] = [0x8F, 0xC1, 0xFB, 0x7E, 0xF1, 0x2E, 0x7F, 0xE4];
+const UNLISTED: [u8; 8] = [0x8F, 0xC1, 0xFB, 0x7E, 0xF1, 0x2E, 0x7D, 0xE4];
 
 pub fn table() -> [Format; ROWS]
     ensures { λ r. ⌜ r ≡ formats ⌝ }

@@ -21,27 +21,28 @@ use Rattle.grammar.specs.Table.{shapeAt}
 
 -- the words from word i on decide: those before it are fine
 pub record Left (k : ℕ) (s : List ℕ) (i : ℕ) : Type 0 where
-  pub bound : i ≤ 10
-  pub eq : faultFrom 1 9 k s ≡ faultFrom i (10 - i) k s
+  pub begins : 1 ≤ i
+  pub bound : i ≤ 11
+  pub eq : faultFrom 1 10 k s ≡ faultFrom i (11 - i) k s
 
 pub left-all : (k : ℕ) (s : List ℕ) → Left k s 1
-left-all k s = record { bound = omega arith; eq = refl }
+left-all k s = record { begins = omega arith; bound = omega arith; eq = refl }
 
 module _ {k i : ℕ} {s : List ℕ} (l : Left k s i) where
-  module _ (h : i < 10) {v : Verdict} {x : Shape} {w : List ℕ} (e : v ≡ judged x i w) (p : x ≡ shapeAt k i) (q : w ≡ wordAt i s) where
-    step : faultFrom 1 9 k s ≡ orElse v (faultFrom (suc i) (10 - suc i) k s)
-    step = let z : 10 - i ≡ suc (10 - suc i) = omega arith in l .eq ∙ rw (e, p, q, z)
+  module _ (h : i < 11) {v : Verdict} {x : Shape} {b w : List ℕ} (e : v ≡ judged x i b w) (p : x ≡ shapeAt k i) (o : b ≡ wordAt (i - 1) s) (q : w ≡ wordAt i s) where
+    step : faultFrom 1 10 k s ≡ orElse v (faultFrom (suc i) (11 - suc i) k s)
+    step = let z : 11 - i ≡ suc (11 - suc i) = omega arith in l .eq ∙ rw (e, p, o, q, z)
 
     pub fine-one : v ≡ Fine → Left k s (i + 1)
-    fine-one f = record { bound = omega arith; eq = rw add-one (step ∙ rw f) }
+    fine-one f = record { begins = omega arith; bound = omega arith; eq = rw add-one (step ∙ rw f) }
 
     pub wrong-one : {f : Fault} → v ≡ Wrong f → Wrong f ≡ lineFault k s
     unfolding lineFault
     wrong-one f = sym (step ∙ rw f)
 
-  pub none-left : 10 ≤ i → Fine ≡ lineFault k s
+  pub none-left : 11 ≤ i → Fine ≡ lineFault k s
   unfolding lineFault
-  none-left h = let z : 10 - i ≡ 0 = omega arith in sym (l .eq ∙ rw z)
+  none-left h = let z : 11 - i ≡ 0 = omega arith in sym (l .eq ∙ rw z)
 
 -- whether hexadecimal text gave bytes
 abbrev pub gave : Hex → Bool

@@ -6,21 +6,21 @@ use Rattle.texts.specs.Text.{text}
 use Rattle.words.specs.Words.{wordAt}
 use Rattle.words.specs.Rows.{row, rowNamed}
 use Rattle.grammar.specs.declared.Shape.{Shape}
-use Rattle.grammar.specs.declared.Shape.the-variants.{Number as Numeral, Card, CardOrNone, Text, TextOrNone, Date, Code, Bytes, Mac, Bad, Switch, Any, End}
+use Rattle.grammar.specs.declared.Shape.the-variants.{Number as Numeral, Card, CardOrNone, Text, TextOrNone, Chip, Field55, Field55OrNone, Date, Code, Bytes, Mac, Bad, Switch, Any, End}
 
 -- a row for each command, and what its words must be; the last row is for all other lines
 abbrev pub commands : List ℕ
 commands =
     text "terminal word32 word8 amount text8 text15\n"
     ++ text "signed-on word32\n"
-    ++ text "sale amount card\n"
-    ++ text "authorise amount card\n"
+    ++ text "sale amount card chip? field55\n"
+    ++ text "authorise amount card chip? field55\n"
     ++ text "sale-void word32\n"
     ++ text "complete-void word32\n"
     ++ text "authorise-void amount card text6 date\n"
     ++ text "complete amount card text6 date\n"
     ++ text "refund amount card text12 date\n"
-    ++ text "start word8 amount card? word32 text12? text6? word8 word8\n"
+    ++ text "start word8 amount card? word32 text12? text6? word8 word8 field55?\n"
     ++ text "answer bytes mac\n"
     ++ text "reply code bad?\n"
     ++ text "reconcile digit\n"
@@ -28,6 +28,8 @@ commands =
     ++ text "echo switch\n"
     ++ text "no-answer\n"
     ++ text "power\n"
+    ++ text "card-agrees\n"
+    ++ text "card-declines\n"
     ++ text "send-reversal\n"
     ++ text "settle\n"
     ++ text "upload\n"
@@ -37,7 +39,7 @@ commands =
     ++ text "journal\n"
     ++ text "message\n"
     ++ text "fields\n"
-    ++ text "unknown any any any any any any any any any\n"
+    ++ text "unknown any any any any any any any any any any\n"
 
 -- what words may be, by name; no word may stand where there is no name
 abbrev pub shapeNames : List ℕ
@@ -54,6 +56,9 @@ shapeNames =
     ++ text "text15\n"
     ++ text "text6?\n"
     ++ text "text12?\n"
+    ++ text "chip?\n"
+    ++ text "field55\n"
+    ++ text "field55?\n"
     ++ text "date\n"
     ++ text "code\n"
     ++ text "bytes\n"
@@ -76,6 +81,9 @@ shapes =
     ∷ Text 15
     ∷ TextOrNone 6
     ∷ TextOrNone 12
+    ∷ Chip
+    ∷ Field55
+    ∷ Field55OrNone
     ∷ Date
     ∷ Code
     ∷ Bytes
@@ -87,7 +95,7 @@ shapes =
     ∷ []
 
 unfoldable pub shapeNamed : List ℕ → Shape
-shapeNamed w = getD shapes (rowNamed 19 w shapeNames) End
+shapeNamed w = getD shapes (rowNamed 22 w shapeNames) End
 
 -- what word i of a line must be, where the line has row k
 unfoldable pub shapeAt : ℕ → ℕ → Shape

@@ -8,15 +8,16 @@ use hexadecimal::Hex;
 ghost use mathlib.Core.Path.{_≡_};
 ghost use Prim.Native.Nat.{_<_};
 ghost use Rattle.word_values.specs.Values.{isText};
-ghost use Rattle.grammar.specs.Shapes.{isIs, isDash, isBytes, fits, isEnd, judged, lineFault};
+ghost use Rattle.grammar.specs.Shapes.{isIs, isDash, isBytes, isField55, fits, isEnd, judged, lineFault};
 
 // The first fault of a line's words after the first, where the line has row k of the table.
 pub fn line_fault(k: usize, s: &[u8]) -> Verdict
     ensures { λ r. ⌜ r ≡ lineFault k (now (s .entry)) ⌝ }
 {
     let mut i: u8 = 1;
-    while i < 10 {
-        let verdict = judged(table::shape_at(k, i), i, words::word(s, i));
+    while i < 11 {
+        let before = words::word(s, i - 1);
+        let verdict = judged(table::shape_at(k, i), i, before, words::word(s, i));
         match verdict {
             Verdict::Fine => {}
             Verdict::Wrong(f) => {
@@ -62,6 +63,13 @@ fn is_hexadecimal(w: &[u8]) -> bool
     }
 }
 
+// Whether a word is a field 55: at most 300 bytes, so that more than a field holds can be tried.
+fn is_field55(w: &[u8]) -> bool
+    ensures { λ r. ⌜ r ≡ isField55 (now (w .entry)) ⌝ }
+{
+    is_dash(w) | ((w.len() != 0) & (w.len() / 2 <= 300) & is_hexadecimal(w))
+}
+
 // Whether a word is what it must be.
 fn fits(shape: Shape, w: &[u8]) -> bool
     ensures { λ r. ⌜ r ≡ fits shape (now (w .entry)) ⌝ }
@@ -72,9 +80,12 @@ fn fits(shape: Shape, w: &[u8]) -> bool
         Shape::CardOrNone => is_dash(w) | is_number(word_values::decimal_in(19, w)),
         Shape::Text(n) => is_text(n, w),
         Shape::TextOrNone(n) => is_dash(w) | is_text(n, w),
+        Shape::Chip => (w.len() == 0) | digits::same(w, b"chip"),
+        Shape::Field55 => is_field55(w),
+        Shape::Field55OrNone => digits::same(w, b"none") | is_field55(w),
         Shape::Date => (w.len() == 4) & is_number(word_values::decimal_in(4, w)),
         Shape::Code => (w.len() == 2) & field::all_printable(w),
-        Shape::Bytes => is_hexadecimal(w),
+        Shape::Bytes => (w.len() != 0) & is_hexadecimal(w),
         Shape::Mac => word_values::is_good(w) | digits::same(w, b"bad"),
         Shape::Bad => (w.len() == 0) | digits::same(w, b"bad"),
         Shape::Switch => digits::same(w, b"on") | digits::same(w, b"off"),
@@ -93,6 +104,9 @@ fn is_end(shape: Shape) -> bool
         Shape::CardOrNone => false,
         Shape::Text(_) => false,
         Shape::TextOrNone(_) => false,
+        Shape::Chip => false,
+        Shape::Field55 => false,
+        Shape::Field55OrNone => false,
         Shape::Date => false,
         Shape::Code => false,
         Shape::Bytes => false,
@@ -104,12 +118,12 @@ fn is_end(shape: Shape) -> bool
     }
 }
 
-// What is to be said of word k.
-fn judged(shape: Shape, k: u8, w: &[u8]) -> Verdict
-    requires { ⌜ k < 10 ⌝ }
-    ensures { λ r. ⌜ r ≡ judged shape k (now (w .entry)) ⌝ }
+// What is to be said of word k, which may be missing where the word before it is.
+fn judged(shape: Shape, k: u8, before: &[u8], w: &[u8]) -> Verdict
+    requires { ⌜ k < 11 ⌝ }
+    ensures { λ r. ⌜ r ≡ judged shape k (now (before .entry)) (now (w .entry)) ⌝ }
 {
-    if fits(shape, w) {
+    if (before.len() == 0) | fits(shape, w) {
         return Verdict::Fine;
     }
     if (w.len() == 0) | is_end(shape) {

@@ -5,16 +5,16 @@ ghost use Rattle.words.specs.Rows.{rowNamed};
 ghost use Rattle.grammar.specs.Table.{commands, shapeNamed, shapeAt};
 
 // A row for each command, and what its words must be; the last row is for all other lines.
-const COMMANDS: [u8; 498] = *b"terminal word32 word8 amount text8 text15
+const COMMANDS: [u8; 565] = *b"terminal word32 word8 amount text8 text15
 signed-on word32
-sale amount card
-authorise amount card
+sale amount card chip? field55
+authorise amount card chip? field55
 sale-void word32
 complete-void word32
 authorise-void amount card text6 date
 complete amount card text6 date
 refund amount card text12 date
-start word8 amount card? word32 text12? text6? word8 word8
+start word8 amount card? word32 text12? text6? word8 word8 field55?
 answer bytes mac
 reply code bad?
 reconcile digit
@@ -22,6 +22,8 @@ date date
 echo switch
 no-answer
 power
+card-agrees
+card-declines
 send-reversal
 settle
 upload
@@ -31,11 +33,11 @@ state
 journal
 message
 fields
-unknown any any any any any any any any any
+unknown any any any any any any any any any any
 ";
 
 // What words may be, by name; no word may stand where there is no name.
-const SHAPE_NAMES: [u8; 114] = *b"word32
+const SHAPE_NAMES: [u8; 137] = *b"word32
 word8
 digit
 amount
@@ -47,6 +49,9 @@ text12
 text15
 text6?
 text12?
+chip?
+field55
+field55?
 date
 code
 bytes
@@ -56,7 +61,7 @@ switch
 any
 ";
 
-const SHAPES: [Shape; 20] = [
+const SHAPES: [Shape; 23] = [
     Shape::Number(4294967295),
     Shape::Number(255),
     Shape::Number(9),
@@ -69,6 +74,9 @@ const SHAPES: [Shape; 20] = [
     Shape::Text(15),
     Shape::TextOrNone(6),
     Shape::TextOrNone(12),
+    Shape::Chip,
+    Shape::Field55,
+    Shape::Field55OrNone,
     Shape::Date,
     Shape::Code,
     Shape::Bytes,
@@ -81,10 +89,10 @@ const SHAPES: [Shape; 20] = [
 
 // The number of the row of a line whose first word is w.
 pub fn row_of(w: &[u8]) -> usize
-    ensures { λ r. ⌜ r ≡ rowNamed 26 (now (w .entry)) commands ⌝ }
+    ensures { λ r. ⌜ r ≡ rowNamed 28 (now (w .entry)) commands ⌝ }
 {
     let table = COMMANDS;
-    words::row_named(26, w, &table)
+    words::row_named(28, w, &table)
 }
 
 // What word i of a line must be, the first being 0, where the line has row k.
@@ -100,8 +108,8 @@ fn shape_named(w: &[u8]) -> Shape
 {
     let names = SHAPE_NAMES;
     let shapes = SHAPES;
-    let k = words::row_named(19, w, &names);
-    if k < 20 {
+    let k = words::row_named(22, w, &names);
+    if k < 23 {
         return shapes[k];
     }
     Shape::End

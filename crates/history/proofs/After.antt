@@ -7,6 +7,7 @@ use lib.Dec.{eqb}
 use borrow.Author.Tests.{eqb-true}
 use Rattle.message.specs.declared.Message.{Message}
 use Rattle.numbers.specs.declared.Batch.{Batch}
+use Rattle.state.specs.declared.Chip.{Chip}
 use Rattle.state.specs.declared.Phase.{Phase}
 use Rattle.state.specs.declared.Phase.the-variants.{Resting, Waiting, Pending, Settling, Uploading}
 use Rattle.state.specs.declared.Settings.{Settings}
@@ -18,6 +19,7 @@ use Rattle.history.specs.Words.{messageIn, isRequest, isReversal, isSett
 use Rattle.history.specs.History as history
 use Rattle.history.specs.History.{Given, sent, Request, Account, asked, withReversal, whenSent, whenGiven}
 use Rattle.history.specs.Demand.{givenBy, inReversals, Carries}
+use Rattle.history.specs.Consent.{consents}
 use Rattle.history.proofs.Sent.{Typed}
 use Rattle.history.proofs.Requests.{AllDone}
 use Rattle.history.proofs.Tied.{Shape, Tied}
@@ -28,6 +30,8 @@ pub record LawfulMessage (m : Message) (a : Account) : Type 0 where
   pub no-request : isRequest m ≡ true → inReversals (a .requests) ≡ 0
   pub no-settlement : isSettlement m ≡ true → inReversals (a .requests) ≡ 0
   pub reversals : isReversal m ≡ true → inReversals (a .requests) ≡ 1
+  pub no-consent : isRequest m ≡ true → consents (a .requests) ≡ 0
+  pub no-consent-settling : isSettlement m ≡ true → consents (a .requests) ≡ 0
 
 -- of what a call gave
 abbrev pub Lawful : Given → Account → Type 0
@@ -71,10 +75,10 @@ module _ (e : Event) (m : Message) (rs : List Request) where
   sent-other c d t = rw (t .is-request, t .is-reversal)
 
 -- nothing is awaited and no reversal is pending: no request waits
-pub idle : (l : ℕ) (x : Settings) (batch : Batch) (a : Account) (p : Phase) → waits p ≡ false → pends p ≡ false
-    → Shape l x batch p a → AllDone l (a .requests)
-idle l x batch a Resting u v h = h
-idle l x batch a (Waiting w) u v h = absurd (true≢false u)
-idle l x batch a (Pending r) u v h = absurd (true≢false v)
-idle l x batch a Settling u v h = h
-idle l x batch a Uploading u v h = h
+pub idle : (l : ℕ) (x : Settings) (batch : Batch) (c : Chip) (a : Account) (p : Phase) → waits p ≡ false → pends p ≡ false
+    → Shape l x batch c p a → AllDone l (a .requests)
+idle l x batch c a Resting u v h = h
+idle l x batch c a (Waiting w) u v h = absurd (true≢false u)
+idle l x batch c a (Pending r) u v h = absurd (true≢false v)
+idle l x batch c a Settling u v h = h
+idle l x batch c a Uploading u v h = h

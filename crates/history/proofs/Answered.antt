@@ -8,34 +8,37 @@ use Rattle.reading.specs.Reading.{readMessage}
 use Rattle.reading.specs.declared.ReadOutcome.the-variants.{Read}
 use Rattle.numbers.specs.declared.Trace.{Trace}
 use Rattle.journal.specs.Journal.{entriesOf, totalsOf}
+use Rattle.state.specs.declared.Approval.{Approval}
 use Rattle.state.specs.declared.Request.{Request as Asked}
 use Rattle.state.specs.declared.Reason.the-variants.{BadMac}
 use Rattle.state.specs.declared.Reversal.{Reversal}
 use Rattle.state.specs.declared.Awaited.{Awaited}
 use Rattle.state.specs.declared.Awaited.the-variants as awaited
-use Rattle.state.specs.declared.Phase.the-variants.{Resting, Waiting, Uploading}
+use Rattle.state.specs.declared.Phase.the-variants.{Waiting, Uploading}
 use Rattle.state.specs.declared.State.{State}
 use Rattle.state.specs.declared.Count.the-variants.{Declined, Reversed}
-use Rattle.state.specs.State.{inPhase, counted, closed}
+use Rattle.state.specs.State.{hasChip, approvedBy, inPhase, withChip, closed}
 use Rattle.state.specs.Calls.{Lent}
 use Rattle.rules.proofs.InOrder.{Fit}
+use Rattle.state_rules.proofs.Holds.{ApprovalHolds}
 use Rattle.answer_match.specs.Match as terminal
 use Rattle.answer_match.specs.Match.{isAnswer, matchesSent, holdsNamed, indicatorSent, approves, approvalHolds, goodMac, endsReversal}
-use Rattle.approval.specs.Approval.{approvedEntry}
+use Rattle.approval.specs.Approval.{approvalOf, approvedEntry}
 use Rattle.effect_definitions.specs.JournalEffects as effects
 use Rattle.call_definitions.specs.Answer.{traceSent}
-use Rattle.effect_definitions.specs.JournalEffects.{changed, onRequest, onItem, answered}
+use Rattle.effect_definitions.specs.JournalEffects.{changed, granted, onRequest, onItem, answered}
+use Rattle.effect_definitions.specs.StateEffects as state-effects
 use Rattle.effect_definitions.specs.StateEffects.{pendingOrUnanswered, failed, onReversal, onSettlement, onEnd}
 use Rattle.history.specs.Words.{messageIn, amountIn, isMatching, closesBatch}
 use Rattle.history.specs.History as history
-use Rattle.history.specs.History.{declined, reversed, deciding, out, ended, Request, Account, becomes, approvedFor, byFate, whenHeard, decided, afterAnswer}
+use Rattle.history.specs.History.{declined, reversed, Fate, deciding, consenting, out, ended, Request, Account, becomes, approvedAsAsked, isWaiting, byFate, whenHeard, decided, afterAnswer}
 use Rattle.history.proofs.Sent.{reversal-typed, settlement-typed, end-typed}
 use Rattle.history.proofs.Matching.{request-accepted, reversal-accepted, settlement-accepted, end-accepted, approves-alike, mac-alike, ends-alike, settlement-closes, end-closes}
-use Rattle.history.proofs.Requests.{AllDone, heard-same}
-use Rattle.history.proofs.Books.{no-books, one-approved}
-use Rattle.history.proofs.Tied.{accountOf, NeverCloses, Latest, heard-latest, Kept, Tied}
+use Rattle.history.proofs.Requests.{AllDone, heard-ended, heard-same}
+use Rattle.history.proofs.Books.{no-books, one-waits, one-approved}
+use Rattle.history.proofs.Tied.{accountOf, NeverCloses, Latest, latest-changed, Deciding, fate-of, Kept, Tied}
 use Rattle.history.proofs.Silence.{TiedAfter, head-waits, head-few, open-books, ended-tied, pending-or-unanswered-tied, failed-tied, marked-totals}
-use Rattle.history.proofs.Approved.{approved-totals, approved-kind, approved-amount}
+use Rattle.history.proofs.Approved.{approval-read, approved-totals, approved-kind, approved-amount}
 
 -- the account after an answer that was accepted
 abbrev pub afterHeard : ℕ → Bool → List ℕ → Account → Account
@@ -51,66 +54,113 @@ maybe-closed : (l : ℕ) (good : Bool) (b : List ℕ) (a : Account) → isMatchi
 unfolding afterAnswer
 maybe-closed l good b a n d = rw (n, heard-same l good b l (a .requests) d)
 
+-- a request that waits is approved, by the answer or by the card after it
+module _ (l : ℕ) (s : State) (lent : Lent) (a : Account) (q : Asked) (fits : Fit (inPhase (Waiting (awaited.Request q)) s) lent)
+    (kept : Kept l (s .settings) (s .counts) (totalsOf (entriesOf (s .entries) (lent .journal))) (a .requests))
+    (f : Fate) (waits : isWaiting f ≡ true) (d : Deciding l (s .settings) (s .batch) (s .chip) f q a) where
+  pub approved-tied : (v : Approval) → ApprovalHolds v
+      → TiedAfter l (effects.approved q (approvedEntry q v) s (lent .journal)) (accountOf (approvedAsAsked (d .latest .head) ∷ d .latest .rest) (a .last))
+  unfolding effects.approved
+  approved-tied v g =
+      let latest = d .latest in
+      let t = approved-totals q v s lent fits g in
+      let k = approved-kind q v ∙ sym (d .asks .kind-is) in
+      let w = approved-amount q v ∙ sym (d .asks .amount-is) in
+      record {
+        kept =
+            record {
+              sendings-set = kept .sendings-set;
+              shaped = kept .shaped;
+              books =
+                  rw t
+                  (one-approved (s .counts) _ (latest .rest) (latest .head) (head-waits l s (lent .journal) a f 0 waits kept latest)
+                  (open-books l s (lent .journal) a f 0 waits kept latest) (approvedEntry q v) (amountIn (latest .head .message)) k w);
+            };
+        shape = (record { has-ended = refl; few = head-few l s (lent .journal) a f 0 waits kept latest }, latest .done);
+      }
+
 -- an answer to a card request
 module _ (l : ℕ) (good : Bool) (b : List ℕ) (read : readMessage b .outcome ≡ Read) (s : State) (lent : Lent) (a : Account) (q : Asked)
-    (fits : Fit (inPhase (Waiting (awaited.Request q)) s) lent) (h : Tied l (inPhase (Waiting (awaited.Request q)) s) (lent .journal) a) where
+    (fits : Fit (inPhase (Waiting (awaited.Request q)) s) lent)
+    (kept : Kept l (s .settings) (s .counts) (totalsOf (entriesOf (s .entries) (lent .journal))) (a .requests))
+    (d : Deciding l (s .settings) (s .batch) (s .chip) deciding q a) (phase : s .phase ≡ Waiting (awaited.Request q)) where
   abbrev latest : Latest l deciding 0 a
-  latest = h .shape .latest
+  latest = d .latest
 
   abbrev head : Request
   head = latest .head
 
-  approved-tied : approvalHolds (q .amount) (messageIn b) ≡ true → approves (messageIn b) ≡ true
-      → TiedAfter l (effects.approved q (approvedEntry q (messageIn b)) s (lent .journal)) (accountOf (approvedFor (amountIn (head .message)) head ∷ latest .rest) (a .last))
-  unfolding effects.approved
-  approved-tied n e =
-      let r = messageIn b in
-      let t = approved-totals b q s lent read fits n e in
-      let k = approved-kind q r ∙ sym (h .shape .asks .kind-is) in
-      let w = approved-amount q r ∙ sym (h .shape .asks .amount-is) in
-      let c = s .counts in
+  -- with a chip the card has the last word
+  consenting-tied : (v : Approval)
+      → Tied l (withChip (approvedBy v (s .chip)) s) (lent .journal) (accountOf (becomes consenting head ∷ latest .rest) (a .last))
+  consenting-tied v =
       record {
         kept =
             record {
-              sendings-set = h .kept .sendings-set;
-              shaped = h .kept .shaped;
+              sendings-set = kept .sendings-set;
+              shaped = kept .shaped;
               books =
-                  rw t
-                  (one-approved c _ (latest .rest) head (head-waits l s (lent .journal) a deciding 0 refl (h .kept) latest)
-                  (open-books l s (lent .journal) a deciding 0 refl (h .kept) latest) (approvedEntry q r) (amountIn (head .message)) k w);
+                  one-waits (s .counts) _ (latest .rest) head (head-waits l s (lent .journal) a deciding 0 refl kept latest)
+                  (open-books l s (lent .journal) a deciding 0 refl kept latest) (becomes consenting head) refl;
             };
-        shape = (record { has-ended = refl; few = head-few l s (lent .journal) a deciding 0 refl (h .kept) latest }, latest .done);
+        shape =
+            rw phase
+            (record {
+              latest =
+                  record {
+                    head = becomes consenting head;
+                    rest = latest .rest;
+                    requests-are = refl;
+                    fate-is = refl;
+                    sendings-are = latest .sendings-are;
+                    few = latest .few;
+                    done = latest .done;
+                  };
+              asks = d .asks;
+              chip-is = d .chip-is;
+              never-closes = d .never-closes;
+            });
       }
 
   request-decided : approvalHolds (q .amount) (messageIn b) ≡ true
       → TiedAfter l (onRequest good (messageIn b) q s (lent .journal)) (accountOf (decided good (messageIn b) head ∷ latest .rest) (a .last))
-  unfolding onRequest decided
+  unfolding onRequest granted decided
   request-decided n =
-      rw (approves-alike (messageIn b), mac-alike good (messageIn b)) (go (approves (messageIn b)) (goodMac good (messageIn b)) refl)
+      rw (approves-alike (messageIn b), mac-alike good (messageIn b), d .chip-is)
+      (go (approves (messageIn b)) (goodMac good (messageIn b)) (hasChip (s .chip)) refl)
     where
-      go : (x y : Bool) → approves (messageIn b) ≡ x
+      v : Approval
+      v = approvalOf (messageIn b)
+
+      go : (x y z : Bool) → approves (messageIn b) ≡ x
           → TiedAfter l
-          (cond x (cond y (effects.approved q (approvedEntry q (messageIn b)) s (lent .journal)) (changed (pendingOrUnanswered BadMac q s) (lent .journal)))
-          (changed (inPhase Resting (counted Declined s)) (lent .journal)))
+          (cond x
+          (cond y
+          (cond z (changed (withChip (approvedBy v (s .chip)) s) (lent .journal)) (effects.approved q (approvedEntry q v) s (lent .journal)))
+          (changed (pendingOrUnanswered BadMac q s) (lent .journal)))
+          (changed (state-effects.ended Declined s) (lent .journal)))
           (accountOf
-          (cond x (cond y (approvedFor (amountIn (head .message)) head) (history.pendingOrUnanswered head)) (becomes (ended declined) head)
+          (cond x (cond y (cond z (becomes consenting head) (approvedAsAsked head)) (history.pendingOrUnanswered head)) (becomes (ended declined) head)
           ∷ latest .rest)
           (a .last))
-      go true true e = approved-tied n e
-      go true false e =
-          pending-or-unanswered-tied l s (lent .journal) a deciding 0 refl (h .kept) latest BadMac q refl (h .shape .asks .kind-is)
-      go false y e = ended-tied l s (lent .journal) a deciding 0 refl (h .kept) latest declined refl
+      go true true true e = consenting-tied v
+      go true true false e = approved-tied l s lent a q fits kept deciding refl d v (approval-read b (q .amount) read n e)
+      go true false z e = pending-or-unanswered-tied l s (lent .journal) a deciding 0 refl kept latest BadMac q refl (d .asks .kind-is)
+      go false y z e = ended-tied l s (lent .journal) a deciding 0 refl kept latest declined refl
 
   request-answered : isAnswer (s .settings) (s .batch) (q .trace) (awaited.Request q) (messageIn b) ≡ true
       → TiedAfter l (onRequest good (messageIn b) q s (lent .journal)) (afterHeard l good b a)
   unfolding whenHeard isAnswer
   request-answered e =
-      let d = h .shape in
       let r = messageIn b in
       let w = awaited.Request q in
       let t = and-eq-true-iff (matchesSent (s .settings) (s .batch) (indicatorSent w) (q .trace) r) (holdsNamed w r) .0 e in
       let n = and-eq-true-iff (names (r .bitmap) 39) (approvalHolds (q .amount) r) .0 (t .1) in
-      rw (not-closed l good b a (d .never-closes), heard-latest latest l good b, request-accepted b (d .asks) read e)
+      rw (
+        not-closed l good b a (d .never-closes),
+        latest-changed latest (whenHeard l good b) (heard-ended l good b),
+        request-accepted b (d .asks) read e,
+      )
       (request-decided (n .1))
 
 -- an answer to a reversal
@@ -124,7 +174,7 @@ module _ (l : ℕ) (good : Bool) (b : List ℕ) (read : readMessage b .outcome �
       d : Latest l (out (h .shape .reversal)) (v .sendings) a
       d = h .shape .latest
 
-      go : (x : Bool) → Tied l (cond x (inPhase Resting (counted Reversed s)) (failed v s)) j
+      go : (x : Bool) → Tied l (cond x (state-effects.ended Reversed s) (failed v s)) j
           (accountOf (cond x (becomes (ended reversed) (d .head)) (history.failed l (d .head)) ∷ d .rest) (a .last))
       go true = ended-tied l s j a (out (h .shape .reversal)) (v .sendings) refl (h .kept) d reversed refl
       go false = failed-tied l s j a (out (h .shape .reversal)) (v .sendings) refl (h .kept) d v refl
@@ -136,7 +186,7 @@ module _ (l : ℕ) (good : Bool) (b : List ℕ) (read : readMessage b .outcome �
       let d = h .shape in
       rw (
         not-closed l good b a (d .never-closes),
-        heard-latest (d .latest) l good b,
+        latest-changed (d .latest) (whenHeard l good b) (heard-ended l good b),
         reversal-accepted v b (d .said) (reversal-typed (d .reversal) (d .said .indicator)) read e,
         ends-alike good (messageIn b),
       )
@@ -188,11 +238,13 @@ item-answered l good b s j a i h =
 
 pub answered-tied : (w : Awaited) (l : ℕ) (good : Bool) (b : List ℕ) → readMessage b .outcome ≡ Read
     → (s : State) (lent : Lent) (a : Account) → Fit (inPhase (Waiting w) s) lent → Tied l (inPhase (Waiting w) s) (lent .journal) a
+    → s .phase ≡ Waiting w → s .chip .approved ≡ false
     → isAnswer (s .settings) (s .batch) (traceSent (entriesOf (s .entries) (lent .journal)) w) w (messageIn b) ≡ true
     → TiedAfter l (answered good (messageIn b) w s (lent .journal)) (afterHeard l good b a)
 unfolding answered
-answered-tied (awaited.Request q) l good b r s lent a f h e = request-answered l good b r s lent a q f h e
-answered-tied (awaited.Reversal v) l good b r s lent a f h e = reversal-answered l good b r s (lent .journal) a v h e
-answered-tied (awaited.Settlement trace) l good b r s lent a f h e = settlement-answered l good b r s (lent .journal) a trace h e
-answered-tied (awaited.Item i) l good b r s lent a f h e = item-answered l good b s (lent .journal) a i h
-answered-tied (awaited.End trace) l good b r s lent a f h e = end-answered l good b r s (lent .journal) a trace h e
+answered-tied (awaited.Request q) l good b r s lent a f h p c e =
+    request-answered l good b r s lent a q f (h .kept) (fate-of l (s .settings) (s .batch) (s .chip) q a false c (h .shape)) p e
+answered-tied (awaited.Reversal v) l good b r s lent a f h p c e = reversal-answered l good b r s (lent .journal) a v h e
+answered-tied (awaited.Settlement trace) l good b r s lent a f h p c e = settlement-answered l good b r s (lent .journal) a trace h e
+answered-tied (awaited.Item i) l good b r s lent a f h p c e = item-answered l good b s (lent .journal) a i h
+answered-tied (awaited.End trace) l good b r s lent a f h p c e = end-answered l good b r s (lent .journal) a trace h e

@@ -19,12 +19,13 @@ use Rattle.kinds.specs.Kinds.{takesOriginal, originalKind}
 use Rattle.entry.specs.Entry.{entrySize}
 use Rattle.entry.specs.Form.{inForm}
 use Rattle.entry.specs.declared.Entry.{Entry}
-use Rattle.journal.specs.Journal.{entriesOf, firstOf, isOriginal, totalsOf, putEntry, withVoided}
+use Rattle.journal.specs.Journal.{entriesOf, firstOf, isOriginal, totalsOf, withVoided}
 use Rattle.journal.specs.Sums.{withEntry}
 use Rattle.journal.specs.declared.Found.{Found}
 use Rattle.journal.specs.declared.Found.the-variants.{At, Nowhere}
 use Rattle.journal.proofs.Entries.{put-appends, set-voided, length-set-byte}
 use Rattle.journal.proofs.Sums.{voided-totals, totals-changed, totals-last}
+use Rattle.state.specs.declared.Approval.{Approval}
 use Rattle.state.specs.declared.Request.{Request}
 use Rattle.state.specs.declared.Awaited.the-variants as awaited
 use Rattle.state.specs.declared.Phase.the-variants.{Waiting}
@@ -34,10 +35,10 @@ use Rattle.state.specs.Calls.{Lent}
 use Rattle.rules.specs.Rules.{requestKept}
 use Rattle.state_rules.specs.StateRules.{requestInForm}
 use Rattle.rules.proofs.InOrder.{Fit}
-use Rattle.state_rules.proofs.Holds.{request-holds}
+use Rattle.state_rules.proofs.Holds.{ApprovalHolds, request-holds}
 use Rattle.answer_match.specs.Match.{approves, approvalHolds}
-use Rattle.approval.specs.Approval.{approvedEntry}
-use Rattle.approval.proofs.Approval.{shaped, in-form}
+use Rattle.approval.specs.Approval.{approvalOf, approvedEntry}
+use Rattle.approval.proofs.Approval.{answer-holds, shaped, in-form}
 use Rattle.effect_definitions.specs.JournalEffects.{voidedAt, originalVoided, approved}
 use Rattle.history.specs.Words.{messageIn}
 
@@ -73,50 +74,49 @@ has-reference amount a h e =
     let t : (others && named) ≡ true = rw e at h in
     and-eq-true-iff others named .0 t .1
 
--- the entry of a request in form that an answer approves is in form
-entry-in-form : (b : List ℕ) (q : Request) → readMessage b .outcome ≡ Read → requestInForm q ≡ true
-    → approvalHolds (q .amount) (messageIn b) ≡ true → approves (messageIn b) ≡ true → inForm (approvedEntry q (messageIn b)) ≡ true
-entry-in-form b q r f h e =
+-- what an answer says that was read and approves is in form
+pub approval-read : (b : List ℕ) (amount : ℕ) → readMessage b .outcome ≡ Read → approvalHolds amount (messageIn b) ≡ true
+    → approves (messageIn b) ≡ true → ApprovalHolds (approvalOf (messageIn b))
+approval-read b amount r h e =
+    let n = has-reference amount (messageIn b) h e in
+    answer-holds (messageIn b) (date-packed b r) n (reference-length b r n) (reference-printable b r n) (authorisation-printable b r)
+
+-- the entry of a request in form and such an approval is in form
+entry-in-form : (q : Request) (v : Approval) → requestInForm q ≡ true → ApprovalHolds v → inForm (approvedEntry q v) ≡ true
+entry-in-form q v f h =
     let w = request-holds q f in
-    let n = has-reference (q .amount) (messageIn b) h e in
-    in-form q (messageIn b) (w .kind-listed) (w .trace-least) (w .trace-most) (w .amount-least) (w .amount-most)
-    (w .card-least) (w .card-most) (date-packed b r) n (reference-length b r n) (reference-printable b r n)
-    (authorisation-printable b r)
+    in-form q v (w .kind-listed) (w .trace-least) (w .trace-most) (w .amount-least) (w .amount-most) (w .card-least) (w .card-most) h
 
 -- the entries with that of an approval
-pub approved-entries : (b : List ℕ) (q : Request) (s : State) (lent : Lent) → readMessage b .outcome ≡ Read
-    → Fit (inPhase (Waiting (awaited.Request q)) s) lent → approvalHolds (q .amount) (messageIn b) ≡ true → approves (messageIn b) ≡ true
-    → entriesOf (s .entries + 1) (approved q (approvedEntry q (messageIn b)) s (lent .journal) .journal)
-    ≡ entriesOf (s .entries) (originalVoided q (entriesOf (s .entries) (lent .journal)) (lent .journal)) ++ (approvedEntry q (messageIn b) ∷ [])
-unfolding approved
-approved-entries b q s lent r h n e =
-    let c = s .entries in
-    let w = approvedEntry q (messageIn b) in
-    let j = lent .journal in
-    let k = originalVoided q (entriesOf c j) j in
-    let v = original-voided c q (entriesOf c j) j in
-    let p = place-left (s .settings .limit) c (entriesOf c j) q (h .order .phase-kept) in
-    let room : entrySize * c + entrySize ≤ length k = rw (v .room) (omega (arith, h .journal-room, p)) in
-    rw (add-one c) (put-appends c w k (shaped q (messageIn b)) (entry-in-form b q r (h .order .state .phase-form) n e) room)
+module _ (q : Request) (v : Approval) (s : State) (lent : Lent) (h : Fit (inPhase (Waiting (awaited.Request q)) s) lent) (g : ApprovalHolds v) where
+  pub approved-entries : entriesOf (s .entries + 1) (approved q (approvedEntry q v) s (lent .journal) .journal)
+      ≡ entriesOf (s .entries) (originalVoided q (entriesOf (s .entries) (lent .journal)) (lent .journal)) ++ (approvedEntry q v ∷ [])
+  unfolding approved
+  approved-entries =
+      let c = s .entries in
+      let j = lent .journal in
+      let k = originalVoided q (entriesOf c j) j in
+      let w = original-voided c q (entriesOf c j) j in
+      let p = place-left (s .settings .limit) c (entriesOf c j) q (h .order .phase-kept) in
+      let room : entrySize * c + entrySize ≤ length k = rw (w .room) (omega (arith, h .journal-room, p)) in
+      rw (add-one c) (put-appends c (approvedEntry q v) k (shaped q v g) (entry-in-form q v (h .order .state .phase-form) g) room)
 
-pub approved-totals : (b : List ℕ) (q : Request) (s : State) (lent : Lent) → readMessage b .outcome ≡ Read
-    → Fit (inPhase (Waiting (awaited.Request q)) s) lent → approvalHolds (q .amount) (messageIn b) ≡ true → approves (messageIn b) ≡ true
-    → totalsOf (entriesOf (s .entries + 1) (approved q (approvedEntry q (messageIn b)) s (lent .journal) .journal))
-    ≡ withEntry (totalsOf (entriesOf (s .entries) (lent .journal))) (approvedEntry q (messageIn b))
-approved-totals b q s lent r h n e =
-    let c = s .entries in
-    let j = lent .journal in
-    rw (
-      approved-entries b q s lent r h n e,
-      totals-last (entriesOf c (originalVoided q (entriesOf c j) j)) (approvedEntry q (messageIn b)),
-      original-voided c q (entriesOf c j) j .totals,
-    )
+  pub approved-totals : totalsOf (entriesOf (s .entries + 1) (approved q (approvedEntry q v) s (lent .journal) .journal))
+      ≡ withEntry (totalsOf (entriesOf (s .entries) (lent .journal))) (approvedEntry q v)
+  approved-totals =
+      let c = s .entries in
+      let j = lent .journal in
+      rw (
+        approved-entries,
+        totals-last (entriesOf c (originalVoided q (entriesOf c j) j)) (approvedEntry q v),
+        original-voided c q (entriesOf c j) j .totals,
+      )
 
 -- it has the request's kind and amount
-pub approved-kind : (q : Request) (a : Message) → approvedEntry q a .kind ≡ q .kind
+pub approved-kind : (q : Request) (v : Approval) → approvedEntry q v .kind ≡ q .kind
 unfolding approvedEntry
-approved-kind q a = refl
+approved-kind q v = refl
 
-pub approved-amount : (q : Request) (a : Message) → approvedEntry q a .amount ≡ q .amount
+pub approved-amount : (q : Request) (v : Approval) → approvedEntry q v .amount ≡ q .amount
 unfolding approvedEntry
-approved-amount q a = refl
+approved-amount q v = refl

@@ -18,7 +18,7 @@ use Rattle.state.specs.declared.Count.the-variants.{Sent, Approved, Declined, R
 use Rattle.state.specs.State.{noCounts, plus}
 use Rattle.call_definitions.specs.Events.{Event}
 use Rattle.history.specs.Words.{kindIn, isDebit, isCredit}
-use Rattle.history.specs.History.{Ending, approved, declined, reversed, given-up, unanswered, Fate, deciding, pending, out, ended, Request, asked, becomes, approvedFor, count, amount, endedAs, isWaiting, approvedDebit, approvedCredit}
+use Rattle.history.specs.History.{Ending, approved, declined, reversed, given-up, unanswered, Fate, deciding, consenting, pending, out, ended, Request, asked, becomes, approvedFor, count, amount, endedAs, isWaiting, approvedDebit, approvedCredit}
 use Rattle.history.specs.Demand.{countsOf, waiting, Balanced}
 
 -- the totals of the approved requests
@@ -51,6 +51,7 @@ countOf unanswered = Unanswered
 -- a request that waits is sent and not ended; one that has ended is one ending more
 waiting-counts : (f : Fate) (r : Request) (rs : List Request) → isWaiting f ≡ true → countsOf (becomes f r ∷ rs) ≡ plus Sent (countsOf rs)
 waiting-counts deciding r rs w = simp (zero-add, add-one)
+waiting-counts consenting r rs w = simp (zero-add, add-one)
 waiting-counts pending r rs w = simp (zero-add, add-one)
 waiting-counts (out v) r rs w = simp (zero-add, add-one)
 waiting-counts (ended e) r rs w = let z : _≡_ {A = ℕ} 0 1 = cc in absurd (omega arith)
@@ -65,6 +66,7 @@ ended-counts unanswered r rs = simp (zero-add, one-add, add-one)
 -- a request that is not approved enters no sum
 waits-unapproved : (f : Fate) → isWaiting f ≡ true → endedAs approved f ≡ false
 waits-unapproved deciding w = refl
+waits-unapproved consenting w = refl
 waits-unapproved pending w = refl
 waits-unapproved (out v) w = refl
 waits-unapproved (ended e) w = let z : _≡_ {A = ℕ} 0 1 = cc in absurd (omega arith)
@@ -126,6 +128,7 @@ one-fate : (f : Fate)
     → cond (endedAs approved f) 1 0 + cond (endedAs declined f) 1 0 + cond (endedAs reversed f) 1 0 + cond (endedAs given-up f) 1 0
     + cond (endedAs unanswered f) 1 0 + cond (isWaiting f) 1 0 ≡ 1
 one-fate deciding = refl
+one-fate consenting = refl
 one-fate pending = refl
 one-fate (out v) = refl
 one-fate (ended approved) = refl

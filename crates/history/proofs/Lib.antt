@@ -12,5 +12,7 @@ pub mod After
 pub mod Starts
 pub mod Settles
 pub mod Events
+pub mod Declined
 pub mod Theorem
+pub mod Consent
 pub mod NotEmpty

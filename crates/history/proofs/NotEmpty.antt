@@ -26,7 +26,7 @@ use Rattle.reading.specs.declared.Reading.{Reading}
 use Rattle.reading.specs.declared.ReadOutcome.{ReadOutcome as Judgement}
 use Rattle.reading.specs.declared.ReadOutcome.the-variants.{Read, Refused as Unread}
 use Rattle.entry.specs.Entry.{entrySize}
-use Rattle.journal.specs.Journal.{entriesOf, nextDue, totalsOf, sumsOf}
+use Rattle.journal.specs.Journal.{entriesOf, nextDue, sumsOf}
 use Rattle.journal.specs.declared.Found.{Found}
 use Rattle.journal.specs.declared.Found.the-variants.{At, Nowhere}
 use Rattle.state.specs.State.{fresh}
@@ -41,18 +41,17 @@ use Rattle.state.specs.declared.State.{State}
 use Rattle.rules.specs.Rules.{rules12, due}
 use Rattle.state_rules.specs.StateRules.{settingsInForm}
 use Rattle.rules.proofs.InOrder.{Fit}
-use Rattle.state_rules.proofs.Holds.{settings-hold}
-use Rattle.answer_match.specs.Match.{isAnswer}
+use Rattle.state_rules.proofs.Holds.{settings-hold, no-chip}
 use Rattle.call_definitions.specs.SignOn.{signedOnRules, signedOn}
 use Rattle.call_definitions.specs.Start.{originalOf, entryOf, startRules, start}
 use Rattle.call_definitions.specs.SendReversal.{sendReversalRules, sendFrom, sendReversal}
 use Rattle.call_definitions.specs.Settle.{settleRules, settle}
 use Rattle.call_definitions.specs.SendNextUpload.{sendNextUploadRules, sendsNext, uploadFrom, sendNextUpload}
-use Rattle.call_definitions.specs.Answer.{quietly, noAnswerRules, noAnswer, powerReturned, answeredIn, answerRules, answerIn, readIn, answer}
+use Rattle.call_definitions.specs.Answer.{quietly, noAnswerRules, noAnswer, powerReturned, cardRules, cardAgrees, cardDeclines, answeredIn, answerRules, answerIn, readIn, answer}
 use Rattle.call_theorems.specs.Ready.{Ready}
 use Rattle.call_theorems.proofs.Back.{ready-fits, fit-ready}
 use Rattle.call_theorems.proofs.Keeping.{keeping}
-use Rattle.call_definitions.specs.Events.{Event, signed-on, starts, answers, no-answer, power-returned, send-reversal, settles, send-next-upload, call}
+use Rattle.call_definitions.specs.Events.{Event, signed-on, starts, answers, no-answer, power-returned, card-agrees, card-declines, send-reversal, settles, send-next-upload, call}
 use Rattle.history.specs.History.{refused as declined, Call, History}
 use Rattle.history.specs.Demand.{Invocation, Run, givenBy, recorded, runs, begun, Each}
 use Rattle.history.specs.NotEmpty.{BuffersSuffice, NeverRefusedByRules12}
@@ -237,16 +236,18 @@ read-above (Unread n) h good a s lent = h
 
 -- a call of a terminal in order is not refused by 1 or 2
 call-above : (e : Event) (s : State) (lent : Lent) → Ready s lent → Above (call e s lent .outcome)
-unfolding signedOn start answer noAnswer powerReturned sendReversal settle sendNextUpload
+unfolding signedOn start answer noAnswer powerReturned cardAgrees cardDeclines sendReversal settle sendNextUpload
 call-above (signed-on batch) s lent h = judged-above s lent h (drop 2 (signedOnRules batch s lent)) _ refl tt
-call-above (starts d) s lent h =
+call-above (starts d b) s lent h =
     let es = entriesOf (s .entries) (lent .journal) in
-    judged-above s lent h (drop 2 (startRules d s es (entryOf (originalOf d es) es) lent)) _ refl tt
+    judged-above s lent h (drop 2 (startRules d b s es (entryOf (originalOf d es) es) lent)) _ refl tt
 call-above (answers b good) s lent h =
     judged-above s lent h [] (readIn (readMessage b .outcome) good (readMessage b .message) s lent) refl
     (read-above (readMessage b .outcome) (reading-above b) good (readMessage b .message) s lent)
 call-above no-answer s lent h = judged-above s lent h (drop 2 (noAnswerRules s lent)) _ refl tt
 call-above power-returned s lent h = judged-above s lent h [] _ refl tt
+call-above card-agrees s lent h = judged-above s lent h (drop 2 (cardRules s lent)) _ refl tt
+call-above card-declines s lent h = judged-above s lent h (drop 2 (cardRules s lent)) _ refl tt
 call-above send-reversal s lent h =
     judged-above s lent h (drop 2 (sendReversalRules s lent)) (sendFrom (s .phase) s lent) refl (send-above (s .phase) s lent)
 call-above settles s lent h = judged-above s lent h (drop 2 (settleRules s lent)) _ refl tt
@@ -280,6 +281,7 @@ fresh-fits x lent f r l =
                   next-most = omega arith;
                   sent-most = omega arith;
                   phase-form = refl;
+                  chip = no-chip Resting;
                   few = omega arith;
                   balance = refl;
                   approvals = refl;

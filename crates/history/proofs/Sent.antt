@@ -14,6 +14,7 @@ use Rattle.digits.proofs.Numbers.{digitsOf-digits}
 use Rattle.field.specs.Table.{among}
 use Rattle.message.specs.Message.{largest, fieldOf}
 use Rattle.message.specs.declared.Message.{Message}
+use Rattle.reading.specs.Reading.{readMessage}
 use Rattle.writing.specs.Writing.{messageBytes}
 use Rattle.parts.specs.Parts.{numberIn, partOf}
 use Rattle.parts.specs.declared.Part.the-variants as part
@@ -23,6 +24,8 @@ use Rattle.kinds.specs.Kinds.{isKind, indicatorOf}
 use Rattle.kinds.proofs.Types.{each-type, kind-small}
 use Rattle.entry.specs.declared.Entry.{Entry}
 use Rattle.kinds.specs.declared.Totals.{Totals}
+use Rattle.state.specs.State.{hasChip}
+use Rattle.state.specs.declared.Chip.{Chip}
 use Rattle.state.specs.declared.Request.{Request}
 use Rattle.state.specs.declared.Reversal.{Reversal}
 use Rattle.state.specs.declared.Settings.{Settings}
@@ -31,8 +34,10 @@ use Rattle.outgoing.specs.declared.Original.{Original}
 use Rattle.outgoing.specs.Outgoing.{requestFields, reversalFields, requestMessage, reversalMessage}
 use Rattle.outgoing.specs.Held.{CardHeld, OriginalHeld, SettingsHeld}
 use Rattle.outgoing.proofs.Leaving.{request-held, reversal-held, request-listed, reversal-listed}
+use Rattle.outgoing_theorems.specs.Theorems.{Reads}
+use Rattle.outgoing_theorems.proofs.Theorems.{request-chip}
 use Rattle.batch_messages.specs.BatchMessages.{field48, settlementFields, settlementMessage, itemFields, itemMessage, endFields, endMessage}
-use Rattle.history.specs.Words.{messageIn, kindIn, amountIn, isRequest, isReversal, isSettlement, isEnd}
+use Rattle.history.specs.Words.{messageIn, kindIn, amountIn, carriesChip, isRequest, isReversal, isSettlement, isEnd}
 use Rattle.batch_messages.proofs.Held.{field48-digits, settlement-held, settlement-listed, EntryHeld, item-held, end-held, upload-listed}
 use Rattle.history.proofs.Said.{handedOut, sent-reads, Says, number-read, says}
 
@@ -104,13 +109,24 @@ unfolding amountIn
 amount-said m n e = rw e
 
 module _ (x : Settings) (batch : Batch) (m : List ℕ) (room : largest ≤ length m) (small : batch .0 ≤ lastNumber) where
-  pub request-asks : (q : Request) (o : Original) → CardHeld x q → OriginalHeld (q .kind) o → RequestHolds q
-      → Asks x batch q (messageIn (handedOut (messageBytes (requestMessage x batch q o)) m))
+  request-read : (c : Chip) (q : Request) (o : Original) → CardHeld x c q → OriginalHeld (q .kind) o
+      → Reads (indicatorOf (q .kind)) (requestFields x batch c q o) (readMessage (handedOut (messageBytes (requestMessage x batch c q o)) m))
   unfolding requestMessage
-  request-asks q o c g h =
+  request-read c q o h g =
+      sent-reads (indicatorOf (q .kind)) (requestFields x batch c q o) m (request-listed (q .kind)) (request-held x batch c q o h g) room
+
+  -- a request carries field 55 where there is a chip
+  pub request-carries : (c : Chip) (q : Request) (o : Original) → CardHeld x c q → OriginalHeld (q .kind) o
+      → carriesChip (messageIn (handedOut (messageBytes (requestMessage x batch c q o)) m)) ≡ hasChip c
+  unfolding carriesChip
+  request-carries c q o h g = request-chip x batch c q o _ (request-read c q o h g) .named
+
+  pub request-asks : (c : Chip) (q : Request) (o : Original) → CardHeld x c q → OriginalHeld (q .kind) o → RequestHolds q
+      → Asks x batch q (messageIn (handedOut (messageBytes (requestMessage x batch c q o)) m))
+  request-asks c q o w g h =
       let i = indicatorOf (q .kind) in
-      let xs = requestFields x batch q o in
-      let r = sent-reads i xs m (request-listed (q .kind)) (request-held x batch q o c g) room in
+      let xs = requestFields x batch c q o in
+      let r = request-read c q o w g in
       let k = kind-small (q .kind) (h .kind-listed) in
       let s = says _ i xs r x batch (q .trace) (q .kind) 0 (refl, refl) (refl, refl) (refl, refl) (refl, refl) small k (omega arith) in
       let a = number-read _ i xs r 4 (digitsOf 12 (q .amount)) (omega arith) (omega arith) refl refl (digitsOf-digits 12 (q .amount))
@@ -123,12 +139,12 @@ module _ (x : Settings) (batch : Batch) (m : List ℕ) (room : largest ≤ lengt
         amount-bytes = ap (λ f. f .bytes) (r .fields 4 refl);
       }
 
-  pub reversal-says : (v : Reversal) → CardHeld x (v .request) → RequestHolds (v .request)
-      → Says x batch (v .request .trace) 0x0400 (v .request .kind) 0 (messageIn (handedOut (messageBytes (reversalMessage x batch v)) m))
+  pub reversal-says : (c : Chip) (v : Reversal) → CardHeld x c (v .request) → RequestHolds (v .request)
+      → Says x batch (v .request .trace) 0x0400 (v .request .kind) 0 (messageIn (handedOut (messageBytes (reversalMessage x batch c v)) m))
   unfolding reversalMessage
-  reversal-says v c h =
-      let xs = reversalFields x batch v in
-      says _ 0x0400 xs (sent-reads 0x0400 xs m reversal-listed (reversal-held x batch v c) room) x batch (v .request .trace)
+  reversal-says c v w h =
+      let xs = reversalFields x batch c v in
+      says _ 0x0400 xs (sent-reads 0x0400 xs m reversal-listed (reversal-held x batch c v w) room) x batch (v .request .trace)
       (v .request .kind) 0 (refl, refl) (refl, refl) (refl, refl) (refl, refl) small (kind-small (v .request .kind) (h .kind-listed)) (omega arith)
 
   pub settlement-settles : (trace : Trace) (t : Totals) → SettingsHeld x → Sayable t

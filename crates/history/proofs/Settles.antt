@@ -44,10 +44,10 @@ use Rattle.batch_messages.proofs.Held.{EntryHeld}
 use Rattle.history.proofs.Said.{handedOut, Says}
 use Rattle.history.proofs.Sent.{Typed, settlement-typed, item-typed, end-typed, Settles, Sayable, settlement-settles, item-says, end-says}
 use Rattle.history.proofs.Matching.{other-closes}
-use Rattle.history.proofs.Requests.{AllDone, none-reversing}
+use Rattle.history.proofs.Requests.{AllDone, none-reversing, none-consenting}
 use Rattle.history.proofs.Books.{requestSums}
 use Rattle.history.proofs.Tied.{Tied}
-use Rattle.history.proofs.After.{LawfulMessage, After, refused-after, judged-after, no, sent-other, idle}
+use Rattle.history.proofs.After.{LawfulMessage, After, judged-after, no, sent-other, idle}
 use Rattle.history.proofs.Starts.{fit-first}
 
 pub settings-held : (l : ℕ) (s : State) (lent : Lent) (a : Account) → Tied l s (lent .journal) a → Fit s lent → SettingsHeld (s .settings)
@@ -100,6 +100,8 @@ module _ (l : ℕ) (s : State) (j : List ℕ) (a : Account) (h : Tied l s j a) (
         no-request = no (t .is-request);
         no-settlement = λ x. none-reversing l (a .requests) done;
         reversals = no (t .is-reversal);
+        no-consent = no (t .is-request);
+        no-consent-settling = λ x. none-consenting l (a .requests) done;
       }
 
   -- an upload's message leaves
@@ -110,6 +112,8 @@ module _ (l : ℕ) (s : State) (j : List ℕ) (a : Account) (h : Tied l s j a) (
         no-request = no (t .is-request);
         no-settlement = no (t .is-settlement);
         reversals = no (t .is-reversal);
+        no-consent = no (t .is-request);
+        no-consent-settling = no (t .is-settlement);
       }
 
 pub settle-after : (l : ℕ) (s : State) (lent : Lent) (a : Account) → Tied l s (lent .journal) a → After l settles a (settle s lent)
@@ -124,7 +128,7 @@ settle-after l s lent a h =
     let f = fit-first s lent _ refl z in
     let w = settlement-settles (s .settings) (s .batch) (lent .message) (f .message-room) (f .order .state .batch-most) trace t
     (settings-held l s lent a h f) (sayable s lent f) in
-    let done = idle l (s .settings) (s .batch) a (s .phase) (passed 11 rs refl z) (passed 12 rs refl z) (h .shape) in
+    let done = idle l (s .settings) (s .batch) (s .chip) a (s .phase) (passed 11 rs refl z) (passed 12 rs refl z) (h .shape) in
     let b = handedOut (messageBytes (settlementMessage (s .settings) (s .batch) trace t)) (lent .message) in
     record {
       tied = settlement-tied l s (lent .journal) a h done b trace (w .said);

@@ -1,4 +1,5 @@
--- Demand 3, for every settings value, every journal and message buffer lent, and every list of the eight calls.
+-- Demand 3, and that the card has the last word, for every settings value, every journal and message buffer lent, and every list of the ten
+-- calls.
 use mathlib.Core.Path.{_≡_, refl, subst}
 use mathlib.Core.List.{List, [], _∷_}
 use mathlib.Core.Bool.{Bool, true}
@@ -9,29 +10,36 @@ use Rattle.state.specs.Calls.{lend}
 use Rattle.call_definitions.specs.Events.{call}
 use Rattle.call_definitions.specs.Shapes.{SettingsShaped, EventShaped}
 use Rattle.history.specs.Words.{messageIn, isRequest, isReversal, isSettlement}
-use Rattle.history.specs.History.{Given, History, Request, Account, account, batchOf}
+use Rattle.history.specs.History.{Given, quiet, History, Request, Account, account, batchOf}
 use Rattle.history.specs.Demand.{Invocation, Run, recorded, runs, begun, InvocationsShaped, Each, EachSent, EachRequest, inReversals, Carries, Demand3For, Demand3}
-use Rattle.history.proofs.Books.{balanced}
-use Rattle.history.proofs.Books.{no-books}
+use Rattle.history.specs.Consent.{consents, isDecline, DeclineIsReversed}
+use Rattle.history.proofs.Books.{balanced, no-books}
 use Rattle.history.proofs.Tied.{Tied, bounded}
 use Rattle.history.proofs.After.{LawfulMessage, Lawful}
 use Rattle.history.proofs.Events.{call-after}
+use Rattle.history.proofs.Declined.{Declined, declined-call}
 
 -- what holds after each call
-record Holds (l : ℕ) (r : Run) : Type 0 where
-  tied : Tied l (r .state) (r .journal) (account l (r .history))
-  lawful : Each (λ c h. Lawful (c .given) (account l h)) (r .history)
-  limited : Each (λ c h. EachRequest (λ q. q .sendings ≤ l) (batchOf l (c ∷ h))) (r .history)
+pub record Holds (l : ℕ) (r : Run) : Type 0 where
+  pub tied : Tied l (r .state) (r .journal) (account l (r .history))
+  pub lawful : Each (λ c h. Lawful (c .given) (account l h)) (r .history)
+  pub limited : Each (λ c h. EachRequest (λ q. q .sendings ≤ l) (batchOf l (c ∷ h))) (r .history)
+  pub declined : Each (λ c h. Declined (c .event) (c .given) l (account l h)) (r .history)
 
 begun-holds : (x : Settings) (j : List ℕ) → SettingsShaped x → Holds (x .sendings) (begun x j)
 begun-holds x j w =
-    record { tied = record { kept = record { sendings-set = refl; shaped = w; books = no-books }; shape = tt }; lawful = tt; limited = tt }
+    record { tied = record { kept = record { sendings-set = refl; shaped = w; books = no-books }; shape = tt }; lawful = tt; limited = tt; declined = tt }
 
 one-holds : (l : ℕ) (t : Invocation) (r : Run) → EventShaped (t .event) → Holds l r
     → Holds l (recorded t r (call (t .event) (r .state) (lend (r .journal) (t .message))))
 one-holds l t r w h =
     let k = call-after (t .event) l (r .state) (lend (r .journal) (t .message)) (account l (r .history)) w (h .tied) in
-    record { tied = k .tied; lawful = (k .lawful, h .lawful); limited = (bounded (k .tied) .few, h .limited) }
+    record {
+      tied = k .tied;
+      lawful = (k .lawful, h .lawful);
+      limited = (bounded (k .tied) .few, h .limited);
+      declined = (declined-call (t .event) _ l (r .state) (r .journal) (account l (r .history)) (h .tied), h .declined);
+    }
 
 all-hold : (ts : List Invocation) (l : ℕ) (r : Run) → InvocationsShaped ts → Holds l r → Holds l (runs ts r)
 all-hold [] l r w h = h
@@ -58,5 +66,28 @@ stands l r h =
       limited = h .limited;
     }
 
+pub every-holds : (x : Settings) (j : List ℕ) (ts : List Invocation) → SettingsShaped x → InvocationsShaped ts
+    → Holds (x .sendings) (runs ts (begun x j))
+every-holds x j ts w v = all-hold ts (x .sendings) (begun x j) v (begun-holds x j w)
+
 pub demand3 : Demand3
-demand3 x j ts w v = stands (x .sendings) (runs ts (begun x j)) (all-hold ts (x .sendings) (begun x j) v (begun-holds x j w))
+demand3 x j ts w v = stands (x .sendings) (runs ts (begun x j)) (every-holds x j ts w v)
+
+declines : (l : ℕ) (h : History) → Each (λ c h. Declined (c .event) (c .given) l (account l h)) h
+    → Each (λ c h. consents (batchOf l h) ≡ 1 → isDecline (c .event) ≡ true → c .given ≡ quiet → inReversals (batchOf l (c ∷ h)) ≡ 1) h
+declines l [] w = tt
+declines l (c ∷ h) w = (w .0, declines l h (w .1))
+
+pub decline-is-reversed : DeclineIsReversed
+decline-is-reversed x j ts w v =
+    let r = runs ts (begun x j) in
+    let l = x .sendings in
+    let h = every-holds x j ts w v in
+    let d = stands l r h in
+    record {
+      causes = declines l (r .history) (h .declined);
+      no-request = d .no-request;
+      no-settlement = d .no-settlement;
+      no-request-before = of-sent l isRequest (λ m rs. consents rs ≡ 0) (λ m a w. w .no-consent) (r .history) (h .lawful);
+      no-settlement-before = of-sent l isSettlement (λ m rs. consents rs ≡ 0) (λ m a w. w .no-consent-settling) (r .history) (h .lawful);
+    }

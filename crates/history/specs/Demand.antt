@@ -116,7 +116,7 @@ pub record Demand3For (l : ℕ) (r : Run) : Type 0 where
   pub reversals : EachSent l isReversal (λ m rs. inReversals rs ≡ 1) (r .history)
   pub limited : Each (λ c h. EachRequest (λ q. q .sendings ≤ l) (batchOf l (c ∷ h))) (r .history)
 
--- for every settings value, every journal and message buffer lent, and every list of the eight calls
+-- for every settings value, every journal and message buffer lent, and every list of the ten calls
 abbrev pub Demand3 : Type 0
 Demand3 = (x : Settings) (j : List ℕ) (ts : List Invocation) → SettingsShaped x → InvocationsShaped ts
     → Demand3For (x .sendings) (runs ts (begun x j))

@@ -6,8 +6,8 @@ use Prim.Native.Nat.{ℕ, _+_}
 use lib.Dec.{leb, eqb}
 use Rattle.message.specs.Message.{empty}
 use Rattle.message.specs.declared.Message.{Message}
-use Rattle.call_definitions.specs.Events.{Event, signed-on, starts, answers, no-answer, power-returned, send-reversal, settles, send-next-upload}
-use Rattle.history.specs.Words.{messageIn, kindIn, amountIn, isRequest, isReversal, isMatching, isApproval, macGood, endsIt, closesBatch, isDebit, isCredit}
+use Rattle.call_definitions.specs.Events.{Event, signed-on, starts, answers, no-answer, power-returned, card-agrees, card-declines, send-reversal, settles, send-next-upload}
+use Rattle.history.specs.Words.{messageIn, kindIn, amountIn, carriesChip, isRequest, isReversal, isMatching, isApproval, macGood, endsIt, closesBatch, isDebit, isCredit}
 
 -- what came back: the message to send, a quiet change or a refusal number
 pub data Given : Type 0 where
@@ -28,10 +28,10 @@ History = List Call
 pub data Ending : Type 0 where
   approved declined reversed given-up unanswered : Ending
 
--- what has become of a card request: it awaits its decision; its reversal is to be sent, or was sent and awaits its own decision;
--- or it has ended
+-- what has become of a card request: it awaits its decision; with a chip, it is approved by the centre and awaits the card's word; its
+-- reversal is to be sent, or was sent and awaits its own decision; or it has ended
 pub data Fate : Type 0 where
-  deciding pending : Fate
+  deciding consenting pending : Fate
   out : Message → Fate
   ended : Ending → Fate
 
@@ -79,22 +79,44 @@ failed l r = becomes (cond (leb l (r .sendings)) (ended given-up) pending) r
 -- no answer or power returned, by the request's fate
 unfoldable pub whenSilent : ℕ → Fate → Request → Request
 whenSilent l deciding r = pendingOrUnanswered r
+whenSilent l consenting r = becomes pending r
 whenSilent l pending r = r
 whenSilent l (out v) r = failed l r
 whenSilent l (ended e) r = r
 
--- an answer that was accepted decides the request or the reversal that it matches; a good 00 approves the amount asked for
+-- a request is approved for the amount asked for
+abbrev pub approvedAsAsked : Request → Request
+approvedAsAsked r = approvedFor (amountIn (r .message)) r
+
+-- an answer that was accepted decides the request or the reversal that it matches; a good 00 approves, but with a chip only once the
+-- card agrees
 unfoldable pub decided : Bool → Message → Request → Request
 decided good a r =
     cond (isApproval a)
-      (cond (macGood good a) (approvedFor (amountIn (r .message)) r) (pendingOrUnanswered r))
+      (cond (macGood good a) (cond (carriesChip (r .message)) (becomes consenting r) (approvedAsAsked r)) (pendingOrUnanswered r))
       (becomes (ended declined) r)
 
 unfoldable pub whenHeard : ℕ → Bool → List ℕ → Fate → Request → Request
 whenHeard l good b deciding r = cond (isMatching (r .message) b) (decided good (messageIn b) r) r
+whenHeard l good b consenting r = r
 whenHeard l good b pending r = r
 whenHeard l good b (out v) r = cond (isMatching v b) (cond (endsIt good (messageIn b)) (becomes (ended reversed) r) (failed l r)) r
 whenHeard l good b (ended e) r = r
+
+-- the card agrees, or declines
+unfoldable pub whenAgreed : Fate → Request → Request
+whenAgreed deciding r = r
+whenAgreed consenting r = approvedAsAsked r
+whenAgreed pending r = r
+whenAgreed (out v) r = r
+whenAgreed (ended e) r = r
+
+unfoldable pub whenDeclined : Fate → Request → Request
+whenDeclined deciding r = r
+whenDeclined consenting r = becomes pending r
+whenDeclined pending r = r
+whenDeclined (out v) r = r
+whenDeclined (ended e) r = r
 
 -- each request changes by its fate
 abbrev pub byFate : (Fate → Request → Request) → List Request → List Request
@@ -104,6 +126,7 @@ byFate f (r ∷ rs) = f (r .fate) r ∷ byFate f rs
 -- a reversal that is sent is that of the last start
 unfoldable pub reversing : Message → Fate → Fate
 reversing v deciding = deciding
+reversing v consenting = consenting
 reversing v pending = out v
 reversing v (out w) = out w
 reversing v (ended e) = ended e
@@ -124,10 +147,12 @@ afterAnswer l good b a =
 -- a quiet change, by what was handed in
 abbrev pub whenQuiet : ℕ → Event → Account → List Request
 whenQuiet l (signed-on batch) a = a .requests
-whenQuiet l (starts d) a = a .requests
+whenQuiet l (starts d b) a = a .requests
 whenQuiet l (answers b good) a = afterAnswer l good b a
 whenQuiet l no-answer a = byFate (whenSilent l) (a .requests)
 whenQuiet l power-returned a = byFate (whenSilent l) (a .requests)
+whenQuiet l card-agrees a = byFate whenAgreed (a .requests)
+whenQuiet l card-declines a = byFate whenDeclined (a .requests)
 whenQuiet l send-reversal a = a .requests
 whenQuiet l settles a = a .requests
 whenQuiet l send-next-upload a = a .requests
@@ -167,13 +192,15 @@ rank unanswered = 4
 
 abbrev pub endedAs : Ending → Fate → Bool
 endedAs e deciding = false
+endedAs e consenting = false
 endedAs e pending = false
 endedAs e (out v) = false
 endedAs e (ended x) = eqb (rank e) (rank x)
 
--- until its decision or, with a reversal, until its end
+-- until its decision, which with a chip is the card's consent, or, with a reversal, until its end
 abbrev pub isWaiting : Fate → Bool
 isWaiting deciding = true
+isWaiting consenting = true
 isWaiting pending = true
 isWaiting (out v) = true
 isWaiting (ended e) = false
@@ -181,6 +208,7 @@ isWaiting (ended e) = false
 -- between the cause of a reversal and its end
 abbrev pub inReversal : Fate → Bool
 inReversal deciding = false
+inReversal consenting = false
 inReversal pending = true
 inReversal (out v) = true
 inReversal (ended e) = false

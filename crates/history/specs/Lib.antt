@@ -1,4 +1,5 @@
 pub mod Words
 pub mod History
 pub mod Demand
+pub mod Consent
 pub mod NotEmpty

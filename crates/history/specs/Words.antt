@@ -47,6 +47,10 @@ isSettlement m = eqb (m .indicator) 0x0500
 unfoldable pub isEnd : Message → Bool
 isEnd m = eqb (m .indicator) 0x0320 && eqb (numeral (partOf m part.Management)) 202
 
+-- document 02, request 1: a request with a chip carries field 55
+unfoldable pub carriesChip : Message → Bool
+carriesChip m = names (m .bitmap) 55
+
 -- a field of the answer equals the one sent
 unfoldable pub sameField : ℕ → Message → Message → Bool
 sameField n m a = names (a .bitmap) n && sameBytes (fieldOf a n .bytes) (fieldOf m n .bytes)
@@ -129,6 +133,10 @@ datedKinds = 11 ∷ 20 ∷ 25 ∷ []
 
 abbrev pub authorisedKinds : List ℕ
 authorisedKinds = 11 ∷ 20 ∷ []
+
+-- a sale or a pre-authorisation may be paid with a chip
+abbrev pub chipKinds : List ℕ
+chipKinds = 10 ∷ 22 ∷ []
 
 -- types: 10 and 11 go as 0100; 20 to 23 as 0200; 25 as 0220
 unfoldable pub typeFor : ℕ → ℕ

@@ -1,7 +1,7 @@
 -- The journal is that of the approvals, after each call.
 use mathlib.Core.Path.{_≡_, refl, sym, ap, _∙_}
 use mathlib.Core.List.{List, [], _∷_, _++_}
-use mathlib.Core.Bool.{Bool, true, false, cond, not, _&&_, and-eq-true-iff, true≢false}
+use mathlib.Core.Bool.{Bool, true, false, cond, not, _&&_, _||_, and-eq-true-iff, true≢false}
 use Prim.Native.Nat.{ℕ, _+_}
 use native.Mathlib.Nat.{zero-add}
 use lib.Dec.{eqb, leb}
@@ -25,11 +25,12 @@ use Rattle.state.specs.declared.Awaited.the-variants as awaited
 use Rattle.state.specs.declared.Count.the-variants as count
 use Rattle.state.specs.declared.Phase.{Phase}
 use Rattle.state.specs.declared.Phase.the-variants.{Resting, Waiting, Pending, Settling, Uploading}
-use Rattle.state.specs.declared.Reason.the-variants.{Silence, BadMac}
+use Rattle.state.specs.declared.Reason.the-variants.{BadMac}
 use Rattle.state.specs.declared.Request.{Request}
 use Rattle.state.specs.declared.Reversal.{Reversal}
 use Rattle.state.specs.declared.State.{State}
-use Rattle.state.specs.State.{inPhase, counted, closed, waits}
+use Rattle.state.specs.State.{hasChip, asSent, approvedBy, inPhase, withChip, closed, waits}
+use Rattle.state_rules.specs.StateRules.{awaitsRequest, requestAwaited}
 use Rattle.state.specs.Calls.{Lent, Result, judged, refused}
 use Rattle.checks.specs.Checks.{firstBroken}
 use Rattle.checks.proofs.Choices.{passed}
@@ -38,20 +39,23 @@ use Rattle.rules.proofs.InOrder.{Fit, fit}
 use Rattle.state_rules.proofs.Holds.{request-holds}
 use Rattle.answer_match.specs.Match as match
 use Rattle.answer_match.specs.Match.{isAnswer, matchesSent, indicatorSent, holdsNamed, approves, goodMac, approvalHolds, endsReversal}
-use Rattle.approval.specs.Approval.{approvedEntry}
-use Rattle.effect_definitions.specs.StateEffects.{pendingOrUnanswered, failed, onReversal, onSettlement, onEnd}
-use Rattle.effect_definitions.specs.JournalEffects.{Changed, changed, marked, silent, silentIn, voidedAt, originalVoided, approved, onRequest, onItem, answered, resent}
+use Rattle.approval.specs.Approval.{approvalOf, approvedEntry}
+use Rattle.effect_definitions.specs.StateEffects as effects
+use Rattle.effect_definitions.specs.StateEffects.{pendingOrUnanswered, silenceOf, failed, onReversal, onSettlement, onEnd}
+use Rattle.effect_definitions.specs.JournalEffects.{Changed, changed, marked, silent, silentIn, voidedAt, originalVoided, approved, granted, onRequest, agreed, agreedIn, onItem, answered, resent}
 use Rattle.call_definitions.specs.SignOn.{signedOn}
 use Rattle.call_definitions.specs.Start.{start}
-use Rattle.call_definitions.specs.Answer.{traceSent, quietly, noAnswer, withoutPower, powerReturned, answersIn, answeredIn, answerRules, readIn, answer}
+use Rattle.call_definitions.specs.Answer.{traceSent, quietly, noAnswer, withoutPower, powerReturned, cardRules, cardAgrees, cardDeclines, answersIn, answeredIn, answerRules, readIn, answer}
 use Rattle.call_definitions.specs.SendReversal.{sendFrom, sendReversal}
 use Rattle.call_definitions.specs.Settle.{settle}
 use Rattle.call_definitions.specs.SendNextUpload.{sendsNext, uploadFrom, sendNextUpload}
-use Rattle.call_definitions.specs.Events.{Event, signed-on, starts, answers, no-answer, power-returned, send-reversal, settles, send-next-upload, call}
-use Rattle.history.specs.Words.{messageIn, isRequest, closesBatch}
+use Rattle.call_definitions.specs.Events.{Event, signed-on, starts, answers, no-answer, power-returned, card-agrees, card-declines, send-reversal, settles, send-next-upload, call}
+use Rattle.history.specs.Words.{messageIn, carriesChip, isRequest, closesBatch}
 use Rattle.history.proofs.Sent.{Typed, reversal-typed, settlement-typed, item-typed, end-typed}
 use Rattle.history.proofs.Matching.{approves-alike, mac-alike, settlement-closes, end-closes, other-closes}
-use Rattle.history.proofs.Approved.{approved-entries}
+use Rattle.history.proofs.Approved.{approval-read, approved-entries}
+use Rattle.history.proofs.Starts.{fit-first}
+use Rattle.history.proofs.Events.{consent-awaited}
 use Rattle.history_theorems.specs.Standing.{Standing}
 use Rattle.history_theorems.specs.Approvals.{Approval, whenHeard, whenGiven, AreEntries}
 use Rattle.history_theorems.proofs.Stands.{Names, Stands}
@@ -88,13 +92,13 @@ silent-booked : (w : Awaited) (s : State) (j : List ℕ) (xs : List Approval) �
 unfolding silent pendingOrUnanswered failed
 silent-booked (awaited.Request q) s j xs h = go (isNeverReversed (q .kind))
   where
-    go : (b : Bool) → Left (changed (cond b (inPhase Resting (counted count.Unanswered s))
-        (inPhase (Pending (record { request = q; reason = Silence; sendings = 0 })) s)) j) xs
+    go : (b : Bool) → Left (changed (cond b (effects.ended count.Unanswered s)
+        (inPhase (Pending (record { request = q; reason = silenceOf s; sendings = 0 })) (withChip (asSent (s .chip)) s))) j) xs
     go true = h
     go false = h
 silent-booked (awaited.Reversal v) s j xs h = go (leb (s .settings .sendings) (v .sendings))
   where
-    go : (b : Bool) → Left (changed (cond b (inPhase Resting (counted count.GivenUp s)) (inPhase (Pending v) s)) j) xs
+    go : (b : Bool) → Left (changed (cond b (effects.ended count.GivenUp s) (inPhase (Pending v) s)) j) xs
     go true = h
     go false = h
 silent-booked (awaited.Settlement t) s j xs h = h
@@ -142,11 +146,11 @@ module _ (b : List ℕ) (read : readMessage b .outcome ≡ Read) (s : State) (le
   unfolding requestKept originalUnvoided
   original-left = let t = simp and-eq-true-iff at (fits .order .phase-kept) in t .0 .1
 
-  approved-booked : Left (approved q (approvedEntry q (messageIn b)) s (lent .journal)) (xs ++ (approval ∷ []))
+  approved-booked : Left (approved q (approvedEntry q (approvalOf (messageIn b))) s (lent .journal)) (xs ++ (approval ∷ []))
   unfolding approved originalVoided
   approved-booked =
-      rw (approved-entries b q s lent read fits holds good)
-      (one-more approval (approvedEntry q (messageIn b)) (entriesOf (s .entries) (originalVoided q es (lent .journal))) xs
+      rw (approved-entries q (approvalOf (messageIn b)) s lent fits (approval-read b (q .amount) read holds good))
+      (one-more approval (approvedEntry q (approvalOf (messageIn b))) (entriesOf (s .entries) (originalVoided q es (lent .journal))) xs
       (voided-entries (takesOriginal (q .kind)) refl (originalFor (q .kind) (q .original .0) es) refl original-left)
       (entered q r said b read (answer-names .0) (answer-names .1) (request-holds q (fits .order .state .phase-form) .card-most)))
 
@@ -165,22 +169,29 @@ module _ (b : List ℕ) (good : Bool) (read : readMessage b .outcome ≡ Read) (
   same-approvals c t = rw (c, t)
 
   request-booked : (q : Request) → Fit (inPhase (Waiting (awaited.Request q)) s) lent → Typed true false false false (y .message)
-      → Names q (y .message) → approvalHolds (q .amount) a ≡ true → Heard (onRequest good a q s (lent .journal))
-  unfolding onRequest whenHeard pendingOrUnanswered
-  request-booked q f t n k =
-      rw (other-closes t a, t .is-request, approves-alike a, mac-alike good a)
-      (go (approves a) (goodMac good a) (isNeverReversed (q .kind)) refl)
+      → Names q (y .message) → carriesChip (y .message) ≡ hasChip (s .chip) → approvalHolds (q .amount) a ≡ true
+      → Heard (onRequest good a q s (lent .journal))
+  unfolding onRequest granted whenHeard pendingOrUnanswered
+  request-booked q f t n m k =
+      rw (other-closes t a, t .is-request, m, approves-alike a, mac-alike good a)
+      (go (approves a) (goodMac good a) (hasChip (s .chip)) (isNeverReversed (q .kind)) refl)
     where
-      go : (x z w : Bool) → approves a ≡ x → Left
+      go : (x z c w : Bool) → approves a ≡ x → Left
           (cond x
-          (cond z (approved q (approvedEntry q a) s (lent .journal))
-          (changed (cond w (inPhase Resting (counted count.Unanswered s)) (inPhase (Pending (record { request = q; reason = BadMac; sendings = 0 })) s)) (lent .journal)))
-          (changed (inPhase Resting (counted count.Declined s)) (lent .journal)))
-          (cond (x && z) (xs ++ (record { request = y .message; answer = a } ∷ [])) xs)
-      go true true w e = approved-booked b read s lent q (y .message) xs f n k e h
-      go true false true e = h
-      go true false false e = h
-      go false z w e = h
+          (cond z
+          (cond c (changed (withChip (approvedBy (approvalOf a) (s .chip)) s) (lent .journal)) (approved q (approvedEntry q (approvalOf a)) s (lent .journal)))
+          (changed (cond w (effects.ended count.Unanswered s)
+          (inPhase (Pending (record { request = q; reason = BadMac; sendings = 0 })) (withChip (asSent (s .chip)) s))) (lent .journal)))
+          (changed (effects.ended count.Declined s) (lent .journal)))
+          (cond (not c && (x && z)) (xs ++ (record { request = y .message; answer = a } ∷ [])) xs)
+      go true true true w e = h
+      go true true false w e = approved-booked b read s lent q (y .message) xs f n k e h
+      go true false true true e = h
+      go true false true false e = h
+      go true false false true e = h
+      go true false false false e = h
+      go false z true w e = h
+      go false z false w e = h
 
   reversal-booked : (v : Reversal) → Typed false true false false (y .message) → Heard (changed (onReversal good a v s) (lent .journal))
   unfolding onReversal failed
@@ -188,7 +199,7 @@ module _ (b : List ℕ) (good : Bool) (read : readMessage b .outcome ≡ Read) (
       rw (same-approvals (other-closes t a) (t .is-request)) (go (endsReversal good a) (leb (s .settings .sendings) (v .sendings)))
     where
       go : (x z : Bool)
-          → Booked (cond x (inPhase Resting (counted count.Reversed s)) (cond z (inPhase Resting (counted count.GivenUp s)) (inPhase (Pending v) s))) (lent .journal) xs
+          → Booked (cond x (effects.ended count.Reversed s) (cond z (effects.ended count.GivenUp s) (inPhase (Pending v) s))) (lent .journal) xs
       go true z = h
       go false true = h
       go false false = h
@@ -207,7 +218,7 @@ module _ (b : List ℕ) (good : Bool) (read : readMessage b .outcome ≡ Read) (
       let t = and-eq-true-iff (matchesSent (s .settings) (s .batch) (indicatorSent (awaited.Request q)) (q .trace) a)
       (holdsNamed (awaited.Request q) a) .0 e in
       let n = and-eq-true-iff (names (a .bitmap) 39) (approvalHolds (q .amount) a) .0 (t .1) in
-      request-booked q f (d .phase-is .1 .typed) (d .details .1) (n .1)
+      request-booked q f (d .phase-is .1 .typed) (d .details .says) (d .details .carries) (n .1)
   heard-booked (awaited.Reversal v) f d e = reversal-booked v (reversal-typed (y .message) (d .phase-is .1 .indicator))
   heard-booked (awaited.Settlement t) f d e =
       let k = settlement-typed (y .message) (d .phase-is .1 .indicator) in
@@ -218,6 +229,28 @@ module _ (b : List ℕ) (good : Bool) (read : readMessage b .outcome ≡ Read) (
   heard-booked (awaited.End t) f d e =
       let k = end-typed (y .message) (d .phase-is .1 .indicator) (d .phase-is .1 .code-number) in
       closed-booked (approves a) (end-closes k a) (k .is-request)
+
+-- the card's consent
+agreed-booked : (w : Awaited) (s : State) (lent : Lent) (y : Standing) (xs : List Approval) → Fit (inPhase (Waiting w) s) lent
+    → Stands (inPhase (Waiting w) s) (lent .journal) y → Booked s (lent .journal) xs → s .chip .approved ≡ true → awaitsRequest w ≡ true
+    → Left (agreed w s (lent .journal)) (xs ++ (record { request = y .message; answer = y .answer } ∷ []))
+unfolding agreed
+agreed-booked (awaited.Request q) s lent y xs f d h e r =
+    let g = d .details .granted e in
+    rw (g .answer-is, g .approval-is) (approved-booked (g .bytes) (g .read) s lent q (y .message) xs f (d .details .says) (g .holds) (g .good) h)
+agreed-booked (awaited.Reversal v) s lent y xs f d h e r = absurd (true≢false (sym r))
+agreed-booked (awaited.Settlement t) s lent y xs f d h e r = absurd (true≢false (sym r))
+agreed-booked (awaited.Item i) s lent y xs f d h e r = absurd (true≢false (sym r))
+agreed-booked (awaited.End t) s lent y xs f d h e r = absurd (true≢false (sym r))
+
+agreed-in : (p : Phase) (s : State) (lent : Lent) (y : Standing) (xs : List Approval) → Fit (inPhase p s) lent → Stands (inPhase p s) (lent .journal) y
+    → Booked s (lent .journal) xs → s .chip .approved ≡ true → requestAwaited p ≡ true
+    → Left (agreedIn p (inPhase p s) (lent .journal)) (xs ++ (record { request = y .message; answer = y .answer } ∷ []))
+agreed-in Resting s lent y xs f d h e r = absurd (true≢false (sym r))
+agreed-in (Waiting w) s lent y xs f d h e r = agreed-booked w (inPhase (Waiting w) s) lent y xs f d h e r
+agreed-in (Pending v) s lent y xs f d h e r = absurd (true≢false (sym r))
+agreed-in Settling s lent y xs f d h e r = absurd (true≢false (sym r))
+agreed-in Uploading s lent y xs f d h e r = absurd (true≢false (sym r))
 
 -- each call
 module _ (s : State) (lent : Lent) (y : Standing) (xs : List Approval) (d : Stands s (lent .journal) y) (h : Booked s (lent .journal) xs) where
@@ -248,7 +281,7 @@ module _ (s : State) (lent : Lent) (y : Standing) (xs : List Approval) (d : Stan
   upload-booked Uploading = next-booked (nextDue (due Uploading) (entriesOf (s .entries) (lent .journal))) s refl
 
 answered-in : (b : List ℕ) (good : Bool) → readMessage b .outcome ≡ Read → (p : Phase) (s : State) (lent : Lent) (y : Standing) (xs : List Approval)
-    → Fit (inPhase p s) lent → Stands (inPhase p s) (lent .journal) y → Booked s (lent .journal) xs → not (waits p) ≡ false
+    → Fit (inPhase p s) lent → Stands (inPhase p s) (lent .journal) y → Booked s (lent .journal) xs → (not (waits p) || s .chip .approved) ≡ false
     → answersIn p (entriesOf (s .entries) (lent .journal)) (inPhase p s) (messageIn b) ≡ true
     → Left (answeredIn p good (messageIn b) (inPhase p s) (lent .journal)) (whenHeard good (messageIn b) y xs)
 answered-in b good r Resting s lent y xs f d h w e = absurd (true≢false w)
@@ -267,9 +300,9 @@ read-booked (Refused n) b good r s lent y xs f d h = h
 
 pub call-booked : (e : Event) (s : State) (lent : Lent) (y : Standing) (xs : List Approval) → Stands s (lent .journal) y → Booked s (lent .journal) xs
     → BookedAfter e y xs (call e s lent)
-unfolding signedOn start answer noAnswer powerReturned sendReversal settle sendNextUpload
+unfolding signedOn start answer noAnswer powerReturned cardAgrees cardDeclines sendReversal settle sendNextUpload
 call-booked (signed-on batch) s lent y xs d h = judged-booked s lent y xs d h (signed-on batch) _ _ (λ z. h)
-call-booked (starts k) s lent y xs d h = judged-booked s lent y xs d h (starts k) _ _ (λ z. h)
+call-booked (starts k b) s lent y xs d h = judged-booked s lent y xs d h (starts k b) _ _ (λ z. h)
 call-booked (answers b good) s lent y xs d h =
     judged-booked s lent y xs d h (answers b good) (firstBroken (rules12 s lent)) (readIn (readMessage b .outcome) good (messageIn b) s lent)
     (λ z. read-booked (readMessage b .outcome) b good refl s lent y xs (fit s lent z) d h)
@@ -277,6 +310,15 @@ call-booked no-answer s lent y xs d h =
     judged-booked s lent y xs d h no-answer _ (quietly (silentIn (s .phase) s (lent .journal)) lent) (λ z. silent-in (s .phase) s (lent .journal) xs h)
 call-booked power-returned s lent y xs d h =
     judged-booked s lent y xs d h power-returned _ (withoutPower (silentIn (s .phase) s (lent .journal)) lent) (λ z. silent-in (s .phase) s (lent .journal) xs h)
+call-booked card-agrees s lent y xs d h =
+    let rs = cardRules s lent in
+    judged-booked s lent y xs d h card-agrees (firstBroken rs) (quietly (agreedIn (s .phase) s (lent .journal)) lent)
+    (λ z.
+    let f = fit-first s lent _ refl z in
+    let e : s .chip .approved ≡ true = not-false _ (passed 14 rs refl z) in
+    agreed-in (s .phase) s lent y xs f d h e (consent-awaited (s .phase) (s .chip) (f .order .state .chip) e))
+call-booked card-declines s lent y xs d h =
+    judged-booked s lent y xs d h card-declines _ (quietly (silentIn (s .phase) s (lent .journal)) lent) (λ z. silent-in (s .phase) s (lent .journal) xs h)
 call-booked send-reversal s lent y xs d h =
     judged-booked s lent y xs d h send-reversal _ (sendFrom (s .phase) s lent) (λ z. send-booked s lent y xs d h (s .phase))
 call-booked settles s lent y xs d h = judged-booked s lent y xs d h settles _ _ (λ z. h)

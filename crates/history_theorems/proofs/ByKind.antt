@@ -8,7 +8,7 @@ use lib.Dec.{eqb}
 use borrow.Author.Tests.{ne-eqb, eqb-true}
 use Rattle.digits.specs.Numbers.{digitsOf}
 use Rattle.field.specs.Table.{among}
-use Rattle.kinds.specs.Kinds.{isKind, indicatorOf, processingOf, conditionOf, takesOriginal, keysAuthorisation, keysDate}
+use Rattle.kinds.specs.Kinds.{isKind, indicatorOf, processingOf, conditionOf, takesOriginal, keysAuthorisation, keysDate, sendsChip}
 use Rattle.history.specs.Words.{typeFor, processingFor, conditionFor}
 use Rattle.history_theorems.specs.Requests.{isVoid}
 
@@ -36,6 +36,9 @@ void-is k = two k 21 23
 
 pub authorisation-keyed : (k : ℕ) → keysAuthorisation k ≡ among k (11 ∷ 20 ∷ [])
 authorisation-keyed k = two k 11 20
+
+pub chip-is : (k : ℕ) → sendsChip k ≡ among k (10 ∷ 22 ∷ [])
+chip-is k = two k 10 22
 
 pub date-keyed : (k : ℕ) → keysDate k ≡ among k (11 ∷ 20 ∷ 25 ∷ [])
 date-keyed k = rw (two k 11 20, one k 25) (joined k (11 ∷ 20 ∷ []) (25 ∷ []))

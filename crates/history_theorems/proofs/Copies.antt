@@ -2,7 +2,7 @@
 -- its count: so what is spelt from the entry is copied from these messages.
 use mathlib.Core.Path.{_≡_, refl, sym, ap, _∙_}
 use mathlib.Core.List.{List, [], _∷_, _++_}
-use mathlib.Core.Bool.{Bool, true, false, cond, _&&_, and-eq-true-iff, true≢false}
+use mathlib.Core.Bool.{Bool, true, false, cond, not, _&&_, and-eq-true-iff, true≢false}
 use Prim.Native.Nat.{ℕ, zero, suc, _*_, _/_, _≤_, _<_}
 use native.Mathlib.Omega.{arith}
 use lib.Dec.{eqb}
@@ -32,18 +32,19 @@ use Rattle.approval.specs.Cards.{cardOf}
 use Rattle.state.specs.declared.Awaited.{Awaited}
 use Rattle.state.specs.declared.Awaited.the-variants as awaited
 use Rattle.state.specs.declared.Card.{Card}
+use Rattle.state.specs.declared.Chip.{Chip}
 use Rattle.state.specs.declared.Phase.{Phase}
 use Rattle.state.specs.declared.Phase.the-variants.{Resting, Waiting, Pending, Settling, Uploading}
 use Rattle.state.specs.declared.Settings.{Settings}
 use Rattle.state.specs.declared.State.{State}
-use Rattle.call_definitions.specs.Events.{Event, signed-on, starts, answers, no-answer, power-returned, send-reversal, settles, send-next-upload}
-use Rattle.history.specs.Words.{messageIn, reads, amountIn, isRequest, isSettlement, sameField, isApproval, matchesMessage, holdsItsFields, isMatching, macGood, closesBatch}
+use Rattle.call_definitions.specs.Events.{Event, signed-on, starts, answers, no-answer, power-returned, card-agrees, card-declines, send-reversal, settles, send-next-upload}
+use Rattle.history.specs.Words.{messageIn, reads, amountIn, carriesChip, isRequest, isSettlement, sameField, isApproval, matchesMessage, holdsItsFields, isMatching, macGood, closesBatch}
 use Rattle.history.specs.History as history
 use Rattle.history.specs.History.{Given}
 use Rattle.history.proofs.NotEmpty.{reading-above}
 use Rattle.history.proofs.Sent.{reversal-typed, settlement-typed, item-typed, end-typed}
 use Rattle.history_theorems.specs.Standing as standing
-use Rattle.history_theorems.specs.Standing.{Standing, traceIn, whenClosed, whenDecided}
+use Rattle.history_theorems.specs.Standing.{Standing, traceIn, whenClosed, grants, whenDecided, whenAgreed}
 use Rattle.history_theorems.specs.Judged.{unread, numberOf, JudgedBy}
 use Rattle.history_theorems.specs.Approvals as approvals
 use Rattle.history_theorems.specs.Approvals.{Approval, AtPlace, IsEntry, AreEntries}
@@ -112,18 +113,18 @@ copied-place P zero (e ∷ es) (x ∷ xs) h k l s f = f x xs (h .0) (entry-copie
 copied-place P (suc i) (e ∷ es) (x ∷ xs) h k l s f = copied-place P i es xs (h .1) (k .1) (omega arith) s f
 
 -- a card request that is sent last is exact, by the phase
-module _ (x : Settings) (batch : Batch) (es : List Entry) (y : Standing) (asks : isRequest (y .message) ≡ true) (same : y .request ≡ y .message) where
+module _ (x : Settings) (batch : Batch) (c : Chip) (es : List Entry) (y : Standing) (asks : isRequest (y .message) ≡ true) (same : y .request ≡ y .message) where
   not-asked : isRequest (y .message) ≡ false → Exact (y .message)
   not-asked e = absurd (true≢false (sym asks ∙ e))
 
-  awaited-exact : (w : Awaited) → SentLast x batch es w y → AwaitedDetails x batch w y → Exact (y .message)
+  awaited-exact : (w : Awaited) → SentLast x batch es w y → AwaitedDetails x batch c w y → Exact (y .message)
   awaited-exact (awaited.Request q) h d =
-      let held = rw same at (d .0) in
+      let held = rw same at (d .card .plain) in
       record {
         card = q .card;
-        card-is = d .1 .card-is;
-        amount-is = rw (d .1 .amount-is) (held .1 .1 .0);
-        trace-is = rw (d .1 .trace-is) (held .1 .1 .1 .0);
+        card-is = d .says .card-is;
+        amount-is = rw (d .says .amount-is) (held .1 .1 .0);
+        trace-is = rw (d .says .trace-is) (held .1 .1 .1 .0);
       }
   awaited-exact (awaited.Reversal v) h d = not-asked (reversal-typed (y .message) (h .indicator) .is-request)
   awaited-exact (awaited.Settlement t) h d = not-asked (settlement-typed (y .message) (h .indicator) .is-request)
@@ -133,29 +134,31 @@ module _ (x : Settings) (batch : Batch) (es : List Entry) (y : Standing) (asks :
   idle-exact : y .awaited ≡ true → y .awaited ≡ false → Exact (y .message)
   idle-exact a e = absurd (true≢false (sym a ∙ e))
 
-  phase-exact : (p : Phase) → y .awaited ≡ true → PhaseStands x batch es p y → Details x batch p y → Exact (y .message)
+  phase-exact : (p : Phase) → y .awaited ≡ true → PhaseStands x batch es p y → Details x batch c p y → Exact (y .message)
   phase-exact Resting a h d = idle-exact a (h .awaits-is)
   phase-exact (Waiting w) a h d = awaited-exact w (h .1) d
   phase-exact (Pending v) a h d = idle-exact a (h .awaits-is)
   phase-exact Settling a h d = idle-exact a (h .awaits-is)
   phase-exact Uploading a h d = idle-exact a (h .awaits-is)
 
+-- a call that gives a quiet change is refused by no number
+quiet-number : (e : Event) (y : Standing) (reverses : Bool) → JudgedBy (numberOf e y reverses) e y history.quiet → numberOf e y reverses ≡ 0
+quiet-number e y reverses judged = go (eqb (numberOf e y reverses) 0) refl
+  where
+    go : (t : Bool) → eqb (numberOf e y reverses) 0 ≡ t → numberOf e y reverses ≡ 0
+    go true q = eqb-true _ 0 q
+    go false q =
+        let g = judged .refuses (eqb-false _ 0 q) in
+        let z : _≡_ {A = ℕ} 0 1 = cc in
+        absurd (omega arith)
+
 -- an answer that is heard quietly reads and matches
 module _ (b : List ℕ) (good reverses : Bool) (y : Standing)
     (judged : JudgedBy (numberOf (answers b good) y reverses) (answers b good) y history.quiet) where
-  heard-number : numberOf (answers b good) y reverses ≡ 0
-  heard-number = go (eqb (numberOf (answers b good) y reverses) 0) refl
-    where
-      go : (t : Bool) → eqb (numberOf (answers b good) y reverses) 0 ≡ t → numberOf (answers b good) y reverses ≡ 0
-      go true e = eqb-true _ 0 e
-      go false e =
-          let g = judged .refuses (eqb-false _ 0 e) in
-          let z : _≡_ {A = ℕ} 0 1 = cc in
-          absurd (omega arith)
-
-  heard-matches : (o : ReadOutcome) → readMessage b .outcome ≡ o → unread o (cond (y .awaited) (cond (isMatching (y .message) b) 0 22) 14) ≡ 0
+  heard-matches : (o : ReadOutcome) → readMessage b .outcome ≡ o
+      → unread o (cond (y .awaited && not (y .card)) (cond (isMatching (y .message) b) 0 22) 14) ≡ 0
       → (o ≡ Read) × (isMatching (y .message) b ≡ true)
-  heard-matches Read r e = (refl, go (y .awaited) (isMatching (y .message) b) e)
+  heard-matches Read r e = (refl, go (y .awaited && not (y .card)) (isMatching (y .message) b) e)
     where
       go : (a m : Bool) → _≡_ {A = ℕ} (cond a (cond m 0 22) 14) 0 → m ≡ true
       go true true e = refl
@@ -164,7 +167,7 @@ module _ (b : List ℕ) (good reverses : Bool) (y : Standing)
   heard-matches (Refused k) r e = let l : 3 ≤ k = rw r at (reading-above b) in absurd (omega arith)
 
   heard-reads : (readMessage b .outcome ≡ Read) × (isMatching (y .message) b ≡ true)
-  heard-reads = heard-matches (readMessage b .outcome) refl heard-number
+  heard-reads = heard-matches (readMessage b .outcome) refl (quiet-number (answers b good) y reverses judged)
 
 -- a matching approval of a card request has field 37, as many bytes as its count
 not-settlement : (m : Message) → isRequest m ≡ true → isSettlement m ≡ false
@@ -189,9 +192,11 @@ reference-whole : (b : List ℕ) → readMessage b .outcome ≡ Read → names (
 unfolding located formats
 reference-whole b r e = sym (read-keeps-formats b r 37 e .size-is)
 
--- the message sent last, where it is a card request, and those of the approvals
+-- the message sent last, where it is a card request, and those of the approvals; where the card's word is awaited, it is one, and its
+-- answer has a whole field 37
 pub record Exactly (y : Standing) (xs : List Approval) : Type 0 where
   pub last : isRequest (y .message) ≡ true → Exact (y .message)
+  pub granted : y .card ≡ true → (isRequest (y .message) ≡ true) × Whole (fieldOf (y .answer) 37)
   pub each : EachExact xs
 
 exact-more : (x : Approval) (xs : List Approval) → EachExact xs → Exact (x .request) → Whole (fieldOf (x .answer) 37) → EachExact (xs ++ (x ∷ []))
@@ -202,36 +207,73 @@ heard-each : (b : List ℕ) (good : Bool) (y : Standing) (xs : List Approval) �
     → Exactly y xs → EachExact (approvals.whenHeard good (messageIn b) y xs)
 unfolding approvals.whenHeard
 heard-each b good y xs m h =
-    go (closesBatch (y .message) a) (isRequest (y .message)) (isApproval a) (macGood good a) refl refl
+    go (closesBatch (y .message) a) (isRequest (y .message)) (carriesChip (y .message)) (isApproval a) (macGood good a) refl refl
   where
     a : Message
     a = messageIn b
 
-    go : (c r k g : Bool) → isRequest (y .message) ≡ r → isApproval a ≡ k
-        → EachExact (cond c [] (cond (r && (k && g)) (xs ++ (record { request = y .message; answer = a } ∷ [])) xs))
-    go true r k g e p = tt
-    go false true true true e p = exact-more _ xs (h .each) (h .last e) (reference-whole b (m .0) (names-reference (y .message) b (m .1) e p))
-    go false true true false e p = h .each
-    go false true false g e p = h .each
-    go false false k g e p = h .each
+    go : (c r i k g : Bool) → isRequest (y .message) ≡ r → isApproval a ≡ k
+        → EachExact (cond c [] (cond (r && (not i && (k && g))) (xs ++ (record { request = y .message; answer = a } ∷ [])) xs))
+    go true r i k g e p = tt
+    go false true false true true e p = exact-more _ xs (h .each) (h .last e) (reference-whole b (m .0) (names-reference (y .message) b (m .1) e p))
+    go false true false true false e p = h .each
+    go false true false false g e p = h .each
+    go false true true k g e p = h .each
+    go false false i k g e p = h .each
 
-heard-last : (a : Message) (y : Standing) (xs : List Approval) → Exactly y xs → isRequest (standing.whenHeard a y .message) ≡ true
-    → Exact (standing.whenHeard a y .message)
-unfolding standing.whenHeard whenClosed whenDecided
-heard-last a y xs h = go (closesBatch (y .message) a)
-  where
-    go : (c : Bool) → isRequest (cond c (whenClosed y) (whenDecided y) .message) ≡ true → Exact (cond c (whenClosed y) (whenDecided y) .message)
-    go true e = h .last e
-    go false e = h .last e
+module _ (b : List ℕ) (good : Bool) (y : Standing) (xs : List Approval) (h : Exactly y xs) where
+  heard-last : isRequest (standing.whenHeard good (messageIn b) y .message) ≡ true → Exact (standing.whenHeard good (messageIn b) y .message)
+  unfolding standing.whenHeard whenClosed whenDecided
+  heard-last = go (closesBatch (y .message) (messageIn b))
+    where
+      go : (c : Bool) → isRequest (cond c (whenClosed y) (whenDecided good (messageIn b) y) .message) ≡ true
+          → Exact (cond c (whenClosed y) (whenDecided good (messageIn b) y) .message)
+      go true e = h .last e
+      go false e = h .last e
+
+  heard-granted : (readMessage b .outcome ≡ Read) × (isMatching (y .message) b ≡ true) → standing.whenHeard good (messageIn b) y .card ≡ true
+      → (isRequest (standing.whenHeard good (messageIn b) y .message) ≡ true) × Whole (fieldOf (standing.whenHeard good (messageIn b) y .answer) 37)
+  unfolding standing.whenHeard whenClosed whenDecided grants
+  heard-granted m = go (closesBatch (y .message) (messageIn b))
+    where
+      a : Message
+      a = messageIn b
+
+      go : (c : Bool) → cond c (whenClosed y) (whenDecided good a y) .card ≡ true
+          → (isRequest (cond c (whenClosed y) (whenDecided good a y) .message) ≡ true) × Whole (fieldOf (cond c (whenClosed y) (whenDecided good a y) .answer) 37)
+      go true e = absurd (true≢false (sym e))
+      go false e =
+          let r = and-eq-true-iff (isRequest (y .message)) (carriesChip (y .message) && (isApproval a && macGood good a)) .0 e in
+          let i = and-eq-true-iff (carriesChip (y .message)) (isApproval a && macGood good a) .0 (r .1) in
+          let k = and-eq-true-iff (isApproval a) (macGood good a) .0 (i .1) in
+          (r .0, reference-whole b (m .0) (names-reference (y .message) b (m .1) (r .0) (k .0)))
+
+  -- the card agrees
+  agreed-exactly : y .card ≡ true → Exactly (whenAgreed y) (xs ++ (record { request = y .message; answer = y .answer } ∷ []))
+  unfolding whenAgreed
+  agreed-exactly e =
+      let g = h .granted e in
+      record { last = h .last; granted = λ q. absurd (true≢false (sym q)); each = exact-more _ xs (h .each) (h .last (g .0)) (g .1) }
+
+-- no word of a card is awaited then
+unawaited : (m a : Message) → false ≡ true → (isRequest m ≡ true) × Whole (fieldOf a 37)
+unawaited m a q = absurd (true≢false (sym q))
+
+card-awaited : (b : Bool) → _≡_ {A = ℕ} (cond b 0 14) 0 → b ≡ true
+card-awaited true e = refl
+card-awaited false e = absurd (omega arith)
 
 quiet-exactly : (e : Event) (y : Standing) (xs : List Approval) (reverses : Bool) → JudgedBy (numberOf e y reverses) e y history.quiet → Exactly y xs
     → Exactly (standing.whenQuiet e y) (approvals.whenQuiet e y xs)
-quiet-exactly (signed-on batch) y xs r j h = record { last = h .last; each = h .each }
-quiet-exactly (starts d) y xs r j h = h
+quiet-exactly (signed-on batch) y xs r j h = record { last = h .last; granted = h .granted; each = h .each }
+quiet-exactly (starts d b) y xs r j h = h
 quiet-exactly (answers b good) y xs r j h =
-    record { last = heard-last (messageIn b) y xs h; each = heard-each b good y xs (heard-reads b good r y j) h }
-quiet-exactly no-answer y xs r j h = record { last = h .last; each = h .each }
-quiet-exactly power-returned y xs r j h = record { last = h .last; each = h .each }
+    let m = heard-reads b good r y j in
+    record { last = heard-last b good y xs h; granted = heard-granted b good y xs h m; each = heard-each b good y xs m h }
+quiet-exactly no-answer y xs r j h = record { last = h .last; granted = unawaited (y .message) (y .answer); each = h .each }
+quiet-exactly power-returned y xs r j h = record { last = h .last; granted = unawaited (y .message) (y .answer); each = h .each }
+quiet-exactly card-agrees y xs r j h = agreed-exactly [] false y xs h (card-awaited (y .card) (quiet-number card-agrees y r j))
+quiet-exactly card-declines y xs r j h = record { last = h .last; granted = unawaited (y .message) (y .answer); each = h .each }
 quiet-exactly send-reversal y xs r j h = h
 quiet-exactly settles y xs r j h = h
 quiet-exactly send-next-upload y xs r j h = h
@@ -243,7 +285,8 @@ pub call-exactly : (e : Event) (y : Standing) (xs : List Approval) (reverses : B
     → Exactly y xs → Exactly (standing.whenGiven g e y) (approvals.whenGiven g e y xs)
 call-exactly e y xs r (history.sent b) s j d k h =
     record {
-      last = λ q. phase-exact (s .settings) (s .batch) _ (standing.whenSent (messageIn b) y) q (rw q) (s .phase) refl (d .phase-is) (d .details);
+      last = λ q. phase-exact (s .settings) (s .batch) (s .chip) _ (standing.whenSent (messageIn b) y) q (rw q) (s .phase) refl (d .phase-is) (d .details);
+      granted = unawaited (messageIn b) (y .answer);
       each = h .each;
     }
 call-exactly e y xs r history.quiet s j d k h =

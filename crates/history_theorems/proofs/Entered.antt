@@ -21,7 +21,7 @@ use Rattle.kinds.specs.Kinds.{takesOriginal, originalKind}
 use Rattle.entry.specs.declared.Entry.{Entry}
 use Rattle.state.specs.declared.Request.{Request}
 use Rattle.journal.specs.Journal.{isOriginal, hasTrace}
-use Rattle.approval.specs.Approval.{fieldOr, zeroFilled, approvedEntry}
+use Rattle.approval.specs.Approval.{fieldOr, zeroFilled, approvalOf, approvedEntry}
 use Rattle.approval.proofs.Approval.{card-front, field-there}
 use Rattle.history.specs.Words.{messageIn}
 use Rattle.history_theorems.specs.Approvals.{Approval, voids, IsEntry}
@@ -43,8 +43,8 @@ module _ (q : Request) (m : Message) (said : Names q m) where
     authorised true e = rw (e, eq-eqb 6 (length (fieldOf (messageIn b) 38 .bytes)) (sym (authorisation-length b read e)))
     authorised false e = rw e
 
-    pub entered : IsEntry (approvedEntry q (messageIn b)) (record { request = m; answer = messageIn b }) []
-    unfolding approvedEntry
+    pub entered : IsEntry (approvedEntry q (approvalOf (messageIn b))) (record { request = m; answer = messageIn b }) []
+    unfolding approvedEntry approvalOf
     entered =
         record {
           kind-is = sym (said .kind-is);

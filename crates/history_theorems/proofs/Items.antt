@@ -1,7 +1,7 @@
 -- What an upload sends, and the marks of the journal after each call.
 use mathlib.Core.Path.{_≡_, refl, sym, ap, subst, _∙_}
 use mathlib.Core.List.{List, [], _∷_, _++_}
-use mathlib.Core.Bool.{Bool, true, false, cond, not, _&&_, and-eq-true-iff, true≢false}
+use mathlib.Core.Bool.{Bool, true, false, cond, not, _&&_, _||_, and-eq-true-iff, true≢false}
 use Prim.Native.Nat.{ℕ, _+_, _≤_, _<_}
 use native.Mathlib.Omega.{arith}
 use lib.Dec.{eqb, leb}
@@ -40,19 +40,20 @@ use Rattle.batch_messages.specs.BatchMessages.{itemFields, itemMessage, endFiel
 use Rattle.batch_messages.proofs.Held.{EntryHeld, item-held, end-held, upload-listed}
 use Rattle.outgoing.specs.Held.{SettingsHeld}
 use Rattle.outgoing_theorems.specs.Theorems.{Reads}
-use Rattle.effect_definitions.specs.JournalEffects.{silentIn, resent}
+use Rattle.effect_definitions.specs.JournalEffects.{silentIn, agreedIn, resent}
 use Rattle.call_definitions.specs.SignOn.{signedOn}
 use Rattle.call_definitions.specs.Start.{start}
-use Rattle.call_definitions.specs.Answer.{quietly, noAnswerRules, noAnswer, withoutPower, powerReturned, answersIn, answeredIn, answerRules, readIn, answer}
+use Rattle.call_definitions.specs.Answer.{quietly, noAnswerRules, noAnswer, withoutPower, powerReturned, cardRules, cardAgrees, cardDeclines, answersIn, answeredIn, answerRules, readIn, answer}
 use Rattle.call_definitions.specs.SendReversal.{sendFrom, sendReversal}
 use Rattle.call_definitions.specs.Settle.{settle}
 use Rattle.call_definitions.specs.SendNextUpload.{sendsNext, sendNextUploadRules, uploadFrom, sendNextUpload}
-use Rattle.call_definitions.specs.Events.{Event, signed-on, starts, answers, no-answer, power-returned, send-reversal, settles, send-next-upload, call}
-use Rattle.history.specs.Words.{messageIn, kindIn, isRequest, isApproval, macGood, closesBatch, processingFor}
+use Rattle.call_definitions.specs.Events.{Event, signed-on, starts, answers, no-answer, power-returned, card-agrees, card-declines, send-reversal, settles, send-next-upload, call}
+use Rattle.history.specs.Words.{messageIn, kindIn, carriesChip, isRequest, isApproval, macGood, closesBatch, processingFor}
 use Rattle.history.specs.History as history
 use Rattle.history.specs.History.{Given, Account}
 use Rattle.history.proofs.Said.{handedOut, sent-reads}
 use Rattle.history.proofs.Settles.{settings-held, entry-held}
+use Rattle.history.proofs.Events.{consent-awaited}
 use Rattle.history.proofs.Starts.{fit-first}
 use Rattle.history.proofs.Tied.{Tied}
 use Rattle.history_theorems.specs.Standing.{Standing, traceIn}
@@ -66,7 +67,7 @@ use Rattle.history_theorems.proofs.Booked.{Booked}
 use Rattle.history_theorems.proofs.Copies.{Copied, EachExact, copied-place}
 use Rattle.history_theorems.proofs.ByKind.{processing-is}
 use Rattle.history_theorems.proofs.Progress.{IsMarked, Marks, marks-changed, marks-progress, placeOf, next-alike, MayLeaveAt, may-leave-at, few-leaves, few-changed, few-more, silent-few}
-use Rattle.history_theorems.proofs.Uploaded.{Uploads, silent-in, heard-uploads}
+use Rattle.history_theorems.proofs.Uploaded.{Uploads, silent-in, agreed-in, declined-same, heard-uploads}
 
 -- as an item leaves, its resends grow
 left-unsent : (e : Entry) (p : Progress) → e .mark ≡ 0 → IsMarked e p → IsMarked e (leaves p)
@@ -255,11 +256,11 @@ upload-from Uploading l t lent a y xs u tied d b k h f =
 
 -- an answer
 answered-in : (b : List ℕ) (good : Bool) → readMessage b .outcome ≡ Read → (p : Phase) (s : State) (lent : Lent) (y : Standing) (u : Upload)
-    → Fit (inPhase p s) lent → Stands (inPhase p s) (lent .journal) y → Uploads (inPhase p s) (lent .journal) u → not (waits p) ≡ false
+    → Fit (inPhase p s) lent → Stands (inPhase p s) (lent .journal) y → Uploads (inPhase p s) (lent .journal) u → (not (waits p) || s .chip .approved) ≡ false
     → answersIn p (entriesOf (s .entries) (lent .journal)) (inPhase p s) (messageIn b) ≡ true
     → (let c = answeredIn p good (messageIn b) (inPhase p s) (lent .journal) in Uploads (c .state) (c .journal) (whenHeard good (messageIn b) y u))
 answered-in b good r Resting s lent y u f d h w e = absurd (true≢false w)
-answered-in b good r (Waiting x) s lent y u f d h w e = heard-uploads b good r (inPhase (Waiting x) s) lent y u x f d h e
+answered-in b good r (Waiting x) s lent y u f d h w e = heard-uploads b good r (inPhase (Waiting x) s) lent y u x f d h refl e
 answered-in b good r (Pending v) s lent y u f d h w e = absurd (true≢false w)
 answered-in b good r Settling s lent y u f d h w e = absurd (true≢false w)
 answered-in b good r Uploading s lent y u f d h w e = absurd (true≢false w)
@@ -280,13 +281,13 @@ read-uploaded (Refused n) l b good r s lent y xs u f d h = refused-uploaded l y 
 module _ (l : ℕ) (s : State) (lent : Lent) (a : Account) (y : Standing) (xs : List Approval) (u : Upload) (tied : Tied l s (lent .journal) a)
     (d : Stands s (lent .journal) y) (booked : Booked s (lent .journal) xs) (exact : EachExact xs) (h : Uploads s (lent .journal) u) where
   pub call-uploaded : (e : Event) → Uploaded l e y xs u (call e s lent)
-  unfolding signedOn start answer noAnswer powerReturned sendReversal settle sendNextUpload
+  unfolding signedOn start answer noAnswer powerReturned cardAgrees cardDeclines sendReversal settle sendNextUpload
   call-uploaded (signed-on batch) =
       judged-uploaded l y xs u (signed-on batch) _ s lent _ h
       (λ z. quiet-uploaded l y xs u (signed-on batch) _ refl (record { marks = h .marks; item-is = h .item-is }))
-  call-uploaded (starts k) =
-      judged-uploaded l y xs u (starts k) _ s lent _ h
-      (λ z. sent-other l y xs u (starts k) _ (λ p. let q : _≡_ {A = ℕ} 0 1 = cc in omega arith) (record { marks = h .marks; item-is = tt }))
+  call-uploaded (starts k b) =
+      judged-uploaded l y xs u (starts k b) _ s lent _ h
+      (λ z. sent-other l y xs u (starts k b) _ (λ p. let q : _≡_ {A = ℕ} 0 1 = cc in omega arith) (record { marks = h .marks; item-is = tt }))
   call-uploaded (answers b good) =
       judged-uploaded l y xs u (answers b good) (firstBroken (rules12 s lent)) s lent (readIn (readMessage b .outcome) good (messageIn b) s lent) h
       (λ z. read-uploaded (readMessage b .outcome) l b good refl s lent y xs u (fit s lent z) d h)
@@ -302,6 +303,25 @@ module _ (l : ℕ) (s : State) (lent : Lent) (a : Account) (y : Standing) (xs : 
       (λ z.
       let k = silent-in l y u (s .phase) s lent (tied .kept .sendings-set) (fit s lent z) d h in
       quiet-uploaded l y xs u power-returned done refl (record { marks = k .marks; item-is = k .item-is }))
+  call-uploaded card-agrees =
+      let done = quietly (agreedIn (s .phase) s (lent .journal)) lent in
+      let rs = cardRules s lent in
+      judged-uploaded l y xs u card-agrees (firstBroken rs) s lent done h
+      (λ z.
+      let f = fit-first s lent _ refl z in
+      let e : s .chip .approved ≡ true = not-false _ (passed 14 rs refl z) in
+      let k = agreed-in (s .phase) s lent u f h e (consent-awaited (s .phase) (s .chip) (f .order .state .chip) e) in
+      quiet-uploaded l y xs u card-agrees done refl (record { marks = k .marks; item-is = k .item-is }))
+  call-uploaded card-declines =
+      let done = quietly (silentIn (s .phase) s (lent .journal)) lent in
+      let rs = cardRules s lent in
+      judged-uploaded l y xs u card-declines (firstBroken rs) s lent done h
+      (λ z.
+      let f = fit-first s lent _ refl z in
+      let e : s .chip .approved ≡ true = not-false _ (passed 14 rs refl z) in
+      let r = consent-awaited (s .phase) (s .chip) (f .order .state .chip) e in
+      let k = rw (declined-same (s .phase) l s (lent .journal) y u d r) at (silent-in l y u (s .phase) s lent (tied .kept .sendings-set) f d h) in
+      quiet-uploaded l y xs u card-declines done refl (record { marks = k .marks; item-is = k .item-is }))
   call-uploaded send-reversal =
       judged-uploaded l y xs u send-reversal _ s lent (sendFrom (s .phase) s lent) h (λ z. send-uploaded l y xs u (s .phase) s lent h)
   call-uploaded settles =
@@ -315,7 +335,7 @@ module _ (l : ℕ) (s : State) (lent : Lent) (a : Account) (y : Standing) (xs : 
 heard-few : (l : ℕ) (good : Bool) (m : Message) (y : Standing) (u : Upload) → EachFew l (u .progress) → EachFew l (whenHeard good m y u .progress)
 unfolding whenHeard
 heard-few l good m y u h =
-    go (closesBatch (y .message) m) (isRequest (y .message) && (isApproval m && macGood good m)) (isItem (y .message))
+    go (closesBatch (y .message) m) (isRequest (y .message) && (not (carriesChip (y .message)) && (isApproval m && macGood good m))) (isItem (y .message))
   where
     go : (a b c : Bool) → EachFew l (cond a (record { progress = []; item = u .item })
         (cond b (record { progress = u .progress ++ (unsent ∷ []); item = u .item }) (cond c (changed isAnswered u) u)) .progress)
@@ -334,10 +354,12 @@ silence-few l y u h = go (y .awaited && isItem (y .message))
 
 quiet-few : (l : ℕ) (e : Event) (y : Standing) (u : Upload) → EachFew l (u .progress) → EachFew l (whenQuiet l e y u .progress)
 quiet-few l (signed-on batch) y u h = h
-quiet-few l (starts d) y u h = h
+quiet-few l (starts d b) y u h = h
 quiet-few l (answers b good) y u h = heard-few l good (messageIn b) y u h
 quiet-few l no-answer y u h = silence-few l y u h
 quiet-few l power-returned y u h = silence-few l y u h
+quiet-few l card-agrees y u h = few-more l (u .progress) h
+quiet-few l card-declines y u h = h
 quiet-few l send-reversal y u h = h
 quiet-few l settles y u h = h
 quiet-few l send-next-upload y u h = h
@@ -351,10 +373,12 @@ sent-few : (l : ℕ) (e : Event) (xs : List Approval) (u : Upload)
     → (e ≡ send-next-upload → (i : ℕ) → nextItem xs (u .progress) ≡ at i → MayLeaveAt l i (u .progress)) → EachFew l (u .progress)
     → EachFew l (whenSent e xs u .progress)
 sent-few l (signed-on batch) xs u f h = h
-sent-few l (starts d) xs u f h = h
+sent-few l (starts d b) xs u f h = h
 sent-few l (answers b good) xs u f h = h
 sent-few l no-answer xs u f h = h
 sent-few l power-returned xs u f h = h
+sent-few l card-agrees xs u f h = h
+sent-few l card-declines xs u f h = h
 sent-few l send-reversal xs u f h = h
 sent-few l settles xs u f h = h
 sent-few l send-next-upload xs u f h = item-few l (nextItem xs (u .progress)) u (f refl) h

@@ -1,6 +1,6 @@
 -- Start, send reversal, settle and send next upload keep the invariant, and give what the history says.
 use mathlib.Core.Path.{_≡_, refl, sym, ap, _∙_}
-use mathlib.Core.List.{List, [], _∷_}
+use mathlib.Core.List.{List, [], _∷_, _++_}
 use mathlib.Core.Bool.{Bool, true, false, cond, not, true≢false}
 use Prim.Native.Nat.{ℕ, _+_, _≤_, _<_}
 use native.Mathlib.Omega.{arith}
@@ -14,10 +14,12 @@ use Rattle.numbers.specs.Numbers.{following}
 use Rattle.numbers.specs.declared.Trace.{Trace}
 use Rattle.digits.specs.Numbers.{digitsOf}
 use Rattle.digits.proofs.Numbers.{digitsOf-digits}
+use Rattle.field.specs.Bitmap.{names}
 use Rattle.message.specs.Build.{Item, has, digits, bytes, find}
 use Rattle.message.specs.Message.{Field, largest, fieldOf}
 use Rattle.message.specs.declared.Message.{Message}
 use Rattle.reading.specs.Reading.{readMessage}
+use Rattle.reading.specs.declared.Reading.{Reading}
 use Rattle.writing.specs.Writing.{messageBytes}
 use Rattle.entry.specs.Form.{inForm}
 use Rattle.entry.specs.declared.Entry.{Entry}
@@ -27,13 +29,14 @@ use Rattle.journal.specs.declared.Found.{Found}
 use Rattle.journal.specs.declared.Found.the-variants.{At as Place, Nowhere}
 use Rattle.journal.proofs.Entries.{set-resends}
 use Rattle.journal.proofs.Searches.{changed-same, every-at, next-at}
+use Rattle.state.specs.declared.Chip.{Chip}
 use Rattle.state.specs.declared.Phase.{Phase}
 use Rattle.state.specs.declared.Phase.the-variants.{Resting, Waiting, Pending, Settling, Uploading}
 use Rattle.state.specs.declared.Reversal.{Reversal}
 use Rattle.state.specs.declared.Settings.{Settings}
 use Rattle.state.specs.declared.State.{State}
 use Rattle.state.specs.State as state
-use Rattle.state.specs.State.{inPhase, took, waits, pends}
+use Rattle.state.specs.State.{chipBytes, hasChip, inPhase, took, waits, pends}
 use Rattle.state.specs.Calls.{Lent, Result}
 use Rattle.checks.specs.Checks.{firstBroken}
 use Rattle.rules.specs.Rules.{due}
@@ -44,7 +47,7 @@ use Rattle.traces.proofs.Free.{taken-range}
 use Rattle.outgoing.specs.Held.{CardHeld, SettingsHeld}
 use Rattle.outgoing.specs.Outgoing as outgoing
 use Rattle.outgoing.specs.Outgoing.{reasonCode, reversalFields, reversalMessage}
-use Rattle.outgoing.proofs.Leaving.{reversal-held, reversal-listed}
+use Rattle.outgoing.proofs.Leaving.{by-chip, reversal-held, reversal-listed}
 use Rattle.outgoing_theorems.specs.Theorems.{Reads}
 use Rattle.batch_messages.specs.BatchMessages.{settlementFields, settlementMessage, itemMessage, endFields, endMessage}
 use Rattle.batch_messages.proofs.Held.{settlement-held, settlement-listed, end-held, upload-listed}
@@ -54,7 +57,7 @@ use Rattle.call_definitions.specs.SendReversal.{sendReversalRules, sendFrom, se
 use Rattle.call_definitions.specs.Settle.{settleRules, settleNow, settle}
 use Rattle.call_definitions.specs.SendNextUpload.{sendNextUploadRules, sendsNext, uploadFrom, sendNextUpload}
 use Rattle.call_definitions.specs.Events.{send-reversal, settles, send-next-upload}
-use Rattle.history.specs.Words.{messageIn, isRequest, isSettlement}
+use Rattle.history.specs.Words.{messageIn, carriesChip, isRequest, isSettlement}
 use Rattle.history.specs.History.{Account}
 use Rattle.history.proofs.Said.{handedOut, sent-reads, number-read}
 use Rattle.history.proofs.Sent.{Typed, reversal-typed, settlement-typed, item-typed, end-typed, reversal-says, settlement-settles, item-says, end-says}
@@ -62,8 +65,8 @@ use Rattle.history.proofs.Tied.{Tied}
 use Rattle.history.proofs.Starts.{card-held}
 use Rattle.history.proofs.Settles.{settings-held, sayable, entry-held}
 use Rattle.history_theorems.specs.Standing.{Stage, running, settling, uploading, Standing, traceIn, isNew, next, whenSent}
-use Rattle.history_theorems.specs.Judged.{cardFields, EachOf, reversalPending, uploads, whenIdle, numberOf, isUpload}
-use Rattle.history_theorems.proofs.Stands.{At, Members, card-read, Stands, awaits, uploaded, pending-is}
+use Rattle.history_theorems.specs.Judged.{cardFields, chipField, NamesJust, EachOf, reversalPending, uploads, whenIdle, numberOf, isUpload}
+use Rattle.history_theorems.proofs.Stands.{At, Members, card-read, Stands, unapproved, idle-unapproved, awaits, uploaded, pending-is}
 use Rattle.history_theorems.proofs.Said.{Said, goes, judged-said, same-number}
 use Rattle.history_theorems.proofs.Quiet.{flip, never}
 
@@ -102,15 +105,16 @@ pub numbered : (s : State) (y : Standing) {x : Number} → x ≡ Is (s .batch .0
 numbered s y e h = e ∙ ap Is (h .1)
 
 -- what reuses a trace is not counted and takes none
-pub sent-members : (s : State) (m : Message) (y : Standing) (end : Bool) → Typed false end false false m → Members s y → Members s (whenSent m y)
+pub sent-members : (s : State) (m : Message) (y : Standing) (end : Bool) → Typed false end false false m → s .chip .approved ≡ false → Members s y
+    → Members s (whenSent m y)
 unfolding isNew
-sent-members s m y end k h = rw (k .is-request, k .is-settlement, k .is-end) h
+sent-members s m y end k u h = (h .0, h .1, rw (k .is-request) (h .2), rw (k .is-request, k .is-settlement, k .is-end) (h .3), u)
 
 -- a new message that is no card request takes its trace
-new-members : (s : State) (m : Message) (y : Standing) (trace : Trace) → isRequest m ≡ false → isNew m ≡ true → traceIn m ≡ trace .0 → Members s y
-    → Members (took trace s) (whenSent m y)
+new-members : (s : State) (m : Message) (y : Standing) (trace : Trace) → isRequest m ≡ false → isNew m ≡ true → traceIn m ≡ trace .0 → s .chip .approved ≡ false
+    → Members s y → Members (took trace s) (whenSent m y)
 unfolding next following
-new-members s m y trace e n t h = (h .0, h .1, rw e (h .2), rw (n, t))
+new-members s m y trace e n t u h = (h .0, h .1, rw e (h .2), rw (n, t), u)
 
 -- a resend changes neither trace nor kind of the entry
 module _ (n i : ℕ) (j : List ℕ) (below : i < length (entriesOf n j)) where
@@ -163,10 +167,33 @@ module _ (x : Settings) (batch : Batch) (m : List ℕ) (trace : Trace) where
       trace-read _ 0x0320 xs trace (sent-reads 0x0320 xs m upload-listed (end-held x batch h trace) room) refl refl l
 
 -- a reversal reads back to its fields
-reversal-reads : (x : Settings) (batch : Batch) (m : List ℕ) (v : Reversal) → CardHeld x (v .request) → largest ≤ length m
-    → Reads 0x0400 (reversalFields x batch v) (readMessage (handedOut (messageBytes (reversalMessage x batch v)) m))
+reversal-reads : (x : Settings) (batch : Batch) (m : List ℕ) (c : Chip) (v : Reversal) → CardHeld x c (v .request) → largest ≤ length m
+    → Reads 0x0400 (reversalFields x batch c v) (readMessage (handedOut (messageBytes (reversalMessage x batch c v)) m))
 unfolding reversalMessage
-reversal-reads x batch m v h r = sent-reads 0x0400 (reversalFields x batch v) m reversal-listed (reversal-held x batch v h) r
+reversal-reads x batch m c v h r = sent-reads 0x0400 (reversalFields x batch c v) m reversal-listed (reversal-held x batch c v h) r
+
+-- its reason
+reason-said : (x : Settings) (batch : Batch) (c : Chip) (v : Reversal) (r : Reading) → Reads 0x0400 (reversalFields x batch c v) r
+    → fieldOf (r .message) 39 ≡ bytes 39 (reasonCode (v .reason)) .field
+reason-said x batch c v r h =
+    by-chip
+    (λ ys. Reads 0x0400 ((outgoing.plainFields x batch c (v .request) ++ ys) ++ (bytes 39 (reasonCode (v .reason)) ∷ [])) r
+    → fieldOf (r .message) 39 ≡ bytes 39 (reasonCode (v .reason)) .field)
+    c (λ e h. h .fields 39 refl) (λ e h. h .fields 39 refl) h
+
+-- the fields that it names: those of its request, with a chip 55, and 39
+reversal-names : (x : Settings) (batch : Batch) (c : Chip) (v : Reversal) (request m : Message) → carriesChip request ≡ hasChip c
+    → ((n : ℕ) → 0 < n → n ≤ 64 → names (m .bitmap) n ≡ has (reversalFields x batch c v) n)
+    → NamesJust (cardFields ++ (chipField request ++ (39 ∷ []))) m
+reversal-names x batch c v request m e r = rw e (go (hasChip c) r)
+  where
+    go : (b : Bool)
+        → ((n : ℕ) → 0 < n → n ≤ 64
+        → names (m .bitmap) n
+        ≡ has ((outgoing.plainFields x batch c (v .request) ++ cond b (bytes 55 (chipBytes c) ∷ []) []) ++ (bytes 39 (reasonCode (v .reason)) ∷ [])) n)
+        → NamesJust (cardFields ++ (cond b (55 ∷ []) [] ++ (39 ∷ []))) m
+    go true r = r
+    go false r = r
 
 -- two messages that hold the same
 each-same : (ns : List ℕ) (m r : Message) (f : ℕ → Field) → EachOf (λ n. fieldOf m n ≡ f n) ns → EachOf (λ n. fieldOf r n ≡ f n) ns
@@ -181,25 +208,27 @@ module _ (l : ℕ) (t : State) (lent : Lent) (a : Account) (y : Standing) (n : �
   reversal-goes Resting tied h f w = absurd (true≢false w)
   reversal-goes (Waiting x) tied h f w = absurd (true≢false w)
   reversal-goes (Pending v) tied h f w =
-      let b = handedOut (messageBytes (reversalMessage (t .settings) (t .batch) (again v))) (lent .message) in
+      let b = handedOut (messageBytes (reversalMessage (t .settings) (t .batch) (t .chip) (again v))) (lent .message) in
       let held = card-held l t lent a v tied f in
-      let said = reversal-says (t .settings) (t .batch) (lent .message) (f .message-room) (f .order .state .batch-most) (again v) held
+      let said = reversal-says (t .settings) (t .batch) (lent .message) (f .message-room) (f .order .state .batch-most) (t .chip) (again v) held
       (reversal-holds v (f .order .state .phase-form)) in
       let k = reversal-typed (messageIn b) (said .indicator) in
-      let r = reversal-reads (t .settings) (t .batch) (lent .message) (again v) held (f .message-room) in
+      let r = reversal-reads (t .settings) (t .batch) (lent .message) (t .chip) (again v) held (f .message-room) in
+      let card = card-read (t .settings) (t .batch) (t .chip) (v .request) 0x0400 (bytes 39 (reasonCode (v .reason)) ∷ []) _ refl r in
       goes send-reversal y n (sendFrom (Pending v) (inPhase (Pending v) t) lent) none
       (record {
-        members = sent-members t (messageIn b) y true k (h .members);
+        members = sent-members t (messageIn b) y true k (unapproved (Pending v) (t .chip) (f .order .state .chip) refl) (h .members);
         phase-is = (sent-at (messageIn b) y running (rw (k .is-settlement) (h .phase-is .stage-is)), said);
         details = rw (k .is-request) (h .details);
       })
       (record {
         type-is = k .is-reversal;
-        named = r .named;
+        named = reversal-names (t .settings) (t .batch) (t .chip) (again v) (y .request) (messageIn b) (h .details .0 .carries) (r .named);
         same =
-            each-same cardFields (messageIn b) (y .request) (find (outgoing.cardFields (t .settings) (t .batch) (v .request)))
-            (card-read (t .settings) (t .batch) (v .request) 0x0400 (bytes 39 (reasonCode (v .reason)) ∷ []) _ r) (h .details .0);
-        reason-is = ap (λ (f : Field). f .bytes) (r .fields 39 refl) ∙ h .details .1;
+            each-same cardFields (messageIn b) (y .request) (find (outgoing.plainFields (t .settings) (t .batch) (t .chip) (v .request)))
+            (card .plain) (h .details .0 .plain);
+        chip-same = λ q. let k = sym (h .details .0 .carries) ∙ q in card .chip k ∙ sym (h .details .0 .chip k);
+        reason-is = ap (λ (f : Field). f .bytes) (reason-said (t .settings) (t .batch) (t .chip) (again v) _ r) ∙ h .details .1;
         batch-is = numbered t y (said .batch-number) (h .members);
       })
   reversal-goes Settling tied h f w = absurd (true≢false w)
@@ -218,7 +247,7 @@ module _ (l : ℕ) (t : State) (lent : Lent) (a : Account) (y : Standing) (n : �
       let r = resent-entry (t .entries) i (lent .journal) (next-at es i e .below) in
       goes send-next-upload y n (sendsNext (Place i) (inPhase Uploading t) lent) none
       (record {
-        members = sent-members t (messageIn b) y false k (h .members);
+        members = sent-members t (messageIn b) y false k (unapproved Uploading (t .chip) (f .order .state .chip) refl) (h .members);
         phase-is = (sent-at (messageIn b) y uploading (rw (k .is-settlement) (h .phase-is .stage-is)), rw (r .0, r .1) said);
         details = tt;
       })
@@ -236,7 +265,7 @@ module _ (l : ℕ) (t : State) (lent : Lent) (a : Account) (y : Standing) (n : �
       (taken-range (entriesOf (t .entries) (lent .journal)) (t .next .0) (f .order .state .next-least) (f .order .state .next-most) .1) in
       goes send-next-upload y n (sendsNext Nowhere (inPhase Uploading t) lent) none
       (record {
-        members = new-members t (messageIn b) y trace (k .is-request) (end-new (messageIn b) k) number (h .members);
+        members = new-members t (messageIn b) y trace (k .is-request) (end-new (messageIn b) k) number (unapproved Uploading (t .chip) (f .order .state .chip) refl) (h .members);
         phase-is = (sent-at (messageIn b) y uploading (rw (k .is-settlement) (h .phase-is .stage-is)), said);
         details = number;
       })
@@ -267,7 +296,7 @@ module _ (l : ℕ) (s : State) (lent : Lent) (a : Account) (y : Standing) (tied 
   awaits-here = awaits (s .settings) (s .batch) entries y (s .phase) (h .phase-is)
 
   pends-here : pends (s .phase) ≡ reverses
-  pends-here = pending-is l (s .settings) (s .batch) a (s .phase) (tied .shape)
+  pends-here = pending-is l (s .settings) (s .batch) (s .chip) a (s .phase) (tied .shape)
 
   -- send reversal
   reversal-number : cond (not (s .«signed_on»)) 10 (cond (waits (s .phase)) 11 (cond (not (pends (s .phase))) 14 0)) ≡ numberOf send-reversal y reverses
@@ -316,21 +345,23 @@ module _ (l : ℕ) (s : State) (lent : Lent) (a : Account) (y : Standing) (tied 
   settled = settleNow s settlement (totalsOf entries) lent
 
   pub settle-goes : numberOf settles y reverses ≡ 0 → Fit s lent → Said settles y (numberOf settles y reverses) settled
+  unfolding whenIdle
   settle-goes z f =
       let b = handedOut (messageBytes (settlementMessage (s .settings) (s .batch) settlement (totalsOf entries))) (lent .message) in
       let held = settings-held l s lent a tied f in
-      let w = settlement-settles (s .settings) (s .batch) (lent .message) (f .message-room) (f .order .state .batch-most) settlement (totalsOf entries)
+      let w = awaits-here ∙ idle-passed (y .signed) (y .awaited) _ z .waits-not in
+      let m = settlement-settles (s .settings) (s .batch) (lent .message) (f .message-room) (f .order .state .batch-most) settlement (totalsOf entries)
       held (sayable s lent f) in
-      let k = settlement-typed (messageIn b) (w .said .indicator) in
+      let k = settlement-typed (messageIn b) (m .said .indicator) in
       let number = settlement-trace (s .settings) (s .batch) (lent .message) settlement (totalsOf entries) held (f .message-room)
       (taken-range entries (s .next .0) (f .order .state .next-least) (f .order .state .next-most) .1) in
       goes settles y (numberOf settles y reverses) settled z
       (record {
-        members = new-members s (messageIn b) y settlement (k .is-request) (settlement-new (messageIn b) k) number (h .members);
-        phase-is = (sent-at (messageIn b) y settling (rw (k .is-settlement)), w .said);
+        members = new-members s (messageIn b) y settlement (k .is-request) (settlement-new (messageIn b) k) number (idle-unapproved (s .phase) (s .chip) (f .order .state .chip) w) (h .members);
+        phase-is = (sent-at (messageIn b) y settling (rw (k .is-settlement)), m .said);
         details = number;
       })
-      (k .is-settlement, numbered s y (w .said .batch-number) (h .members))
+      (k .is-settlement, numbered s y (m .said .batch-number) (h .members))
 
   pub settle-said : Said settles y (numberOf settles y reverses) (settle s lent)
   unfolding settle firstBroken

@@ -1,10 +1,10 @@
 -- Start keeps the invariant, and gives what the history says.
 use mathlib.Core.Path.{_≡_, refl, sym, ap, _∙_}
 use mathlib.Core.List.{List, [], _∷_, _++_}
-use mathlib.Core.Bool.{Bool, true, false, cond, not, _&&_, and-eq-true-iff, true≢false}
+use mathlib.Core.Bool.{Bool, true, false, cond, not, _&&_, _||_, and-eq-true-iff, true≢false}
 use Prim.Native.Nat.{ℕ, _+_, _-_, _≤_}
 use native.Mathlib.Omega.{arith}
-use lib.Dec.{leb}
+use lib.Dec.{leb, eqb}
 use lib.ListN.{length}
 use borrow.Author.Tests.{leb-true}
 use Rattle.numbers.specs.declared.Batch.{Batch}
@@ -14,6 +14,9 @@ use Rattle.journal.specs.Journal.{entriesOf, entryAt, isOriginal, originalFor, 
 use Rattle.journal.specs.declared.Found.{Found}
 use Rattle.journal.specs.declared.Found.the-variants.{At, Nowhere}
 use Rattle.journal.proofs.Searches.{first-at}
+use Rattle.elements.specs.Elements.{chipInForm}
+use Rattle.field.specs.Table.{among}
+use Rattle.state.specs.declared.Chip.{Chip}
 use Rattle.state.specs.declared.Phase.{Phase}
 use Rattle.state.specs.declared.Phase.the-variants.{Resting, Waiting, Pending, Settling, Uploading}
 use Rattle.state.specs.declared.Request.{Request}
@@ -34,32 +37,34 @@ use Rattle.parts.specs.declared.Part.the-variants as part
 use Rattle.kinds.specs.Kinds.{indicatorOf, takesOriginal, originalKind}
 use Rattle.numbers.specs.Limits.{lastNumber}
 use Rattle.numbers.specs.Numbers.{within, following}
-use Rattle.message.specs.Build.{has, find, digits}
+use Rattle.message.specs.Build.{has, find, digits, bytes}
 use Rattle.parts.specs.Layout.{widths}
 use Rattle.parts.proofs.Laid.{laid-digits}
 use Rattle.message.specs.Message.{largest}
 use Rattle.outgoing.specs.Held.{CardHeld, OriginalHeld}
+use Rattle.outgoing.specs.Outgoing as outgoing
 use Rattle.outgoing.specs.Outgoing.{field61, originalFields, requestFields, requestMessage}
-use Rattle.outgoing.proofs.Leaving.{request-held, request-listed}
+use Rattle.outgoing.proofs.Leaving.{by-chip, request-held, request-listed}
 use Rattle.outgoing.specs.declared.Original.{Original}
 use Rattle.effect_definitions.specs.StateEffects.{requested}
 use Rattle.desk.specs.declared.Desk.{Desk}
-use Rattle.desk.specs.DeskRules.{requestOf, restRules, deskRules, journalRules}
+use Rattle.desk.specs.DeskRules.{sendsField55, chipFrom, chipRules, requestOf, restRules, deskRules, journalRules}
 use Rattle.call_definitions.specs.Start.{originalOf, entryOf, namedBy, startRules, start}
 use Rattle.call_definitions.proofs.Refusals.{unbroken}
 use Rattle.call_definitions.proofs.Held.{may-send}
 use Rattle.call_definitions.specs.Events.{starts}
-use Rattle.history.specs.Words.{messageIn, isRequest}
+use Rattle.history.specs.Words.{messageIn, isRequest, chipKinds}
 use Rattle.history.specs.History as history
 use Rattle.history.specs.History.{Account}
 use Rattle.history.proofs.Said.{handedOut, sent-reads, number-read}
 use Rattle.history.proofs.Sent.{Asks, request-asks}
 use Rattle.history.proofs.Tied.{Tied}
-use Rattle.history.proofs.Starts.{request-form}
+use Rattle.history.proofs.Starts.{sent-unapproved, request-form}
 use Rattle.history_theorems.specs.Approvals.{originalIn}
 use Rattle.history_theorems.specs.Standing.{running, Standing, traceIn, isNew, next, whenSent}
 use Rattle.history_theorems.specs.Judged.{reversalPending, closes, numberOf, JudgedBy}
 use Rattle.history_theorems.proofs.Stands.{PhaseStands, Members, HoldsCard, card-read, Names, Stands, awaits, closing, pending-is}
+use Rattle.history_theorems.proofs.ByKind.{chip-is}
 use Rattle.history_theorems.proofs.Ledger.{original-trace}
 use Rattle.history_theorems.proofs.Said.{Said, goes, judged-said}
 use Rattle.history_theorems.proofs.Sends.{idle-number, sent-at, numbered}
@@ -84,15 +89,16 @@ first-within low high (r ∷ rs) w f =
     go true p q ih f = (p, q)
     go false p q ih f = ih f
 
--- 10 to 13 are the history's; what is left is refused by 15 to 21
-by-rest : (d : Desk) (y : Standing) (a b c e : Bool) (k r : ℕ) → cond a 10 (cond b 11 (cond c 12 (cond e 13 r))) ≡ k → (k ≡ 0 → ⊥)
-    → ((r ≡ 0 → ⊥) → (15 ≤ r) × (r ≤ 21))
-    → JudgedBy (cond a 10 (cond b 11 (cond c 12 (cond e 13 0)))) (starts d) y (history.refused k)
-by-rest d y true b c e k r p f g = record { refuses = λ u. ap history.refused (sym p); gives = λ z. absurd (omega arith) }
-by-rest d y false true c e k r p f g = record { refuses = λ u. ap history.refused (sym p); gives = λ z. absurd (omega arith) }
-by-rest d y false false true e k r p f g = record { refuses = λ u. ap history.refused (sym p); gives = λ z. absurd (omega arith) }
-by-rest d y false false false true k r p f g = record { refuses = λ u. ap history.refused (sym p); gives = λ z. absurd (omega arith) }
-by-rest d y false false false false k r p f g = record { refuses = λ u. absurd (u refl); gives = λ z. rw p at (g (λ q. f (sym p ∙ q))) }
+-- 23 and 10 to 13 are the history's; what is left is refused by 15 to 21
+by-rest : (d : Desk) (chip : List ℕ) (y : Standing) (t a b c e : Bool) (k r : ℕ)
+    → cond t 23 (cond a 10 (cond b 11 (cond c 12 (cond e 13 r)))) ≡ k → (k ≡ 0 → ⊥) → ((r ≡ 0 → ⊥) → (15 ≤ r) × (r ≤ 21))
+    → JudgedBy (cond t 23 (cond a 10 (cond b 11 (cond c 12 (cond e 13 0))))) (starts d chip) y (history.refused k)
+by-rest d chip y true a b c e k r p f g = record { refuses = λ u. ap history.refused (sym p); gives = λ z. absurd (omega arith) }
+by-rest d chip y false true b c e k r p f g = record { refuses = λ u. ap history.refused (sym p); gives = λ z. absurd (omega arith) }
+by-rest d chip y false false true c e k r p f g = record { refuses = λ u. ap history.refused (sym p); gives = λ z. absurd (omega arith) }
+by-rest d chip y false false false true e k r p f g = record { refuses = λ u. ap history.refused (sym p); gives = λ z. absurd (omega arith) }
+by-rest d chip y false false false false true k r p f g = record { refuses = λ u. ap history.refused (sym p); gives = λ z. absurd (omega arith) }
+by-rest d chip y false false false false false k r p f g = record { refuses = λ u. absurd (u refl); gives = λ z. rw p at (g (λ q. f (sym p ∙ q))) }
 
 -- nothing is awaited and the batch is not closing
 runs-on : (x : Settings) (batch : Batch) (es : List Entry) (y : Standing) (p : Phase) → waits p ≡ false → state.closes p ≡ false
@@ -103,20 +109,21 @@ runs-on x batch es y (Pending v) w c h = h .stage-is
 runs-on x batch es y Settling w c h = absurd (true≢false c)
 runs-on x batch es y Uploading w c h = absurd (true≢false c)
 
--- rules after four that are not broken
-none-after : (a b c e : Bool) (r : ℕ) → cond a 10 (cond b 11 (cond c 12 (cond e 13 r))) ≡ 0
-    → (b ≡ false) × (e ≡ false) × _≡_ {A = ℕ} (cond a 10 (cond b 11 (cond c 12 (cond e 13 0)))) 0
-none-after true b c e r z = absurd (omega arith)
-none-after false true c e r z = absurd (omega arith)
-none-after false false true e r z = absurd (omega arith)
-none-after false false false true r z = absurd (omega arith)
-none-after false false false false r z = (refl, refl, refl)
+-- rules after five that are not broken
+none-after : (t a b c e : Bool) (r : ℕ) → cond t 23 (cond a 10 (cond b 11 (cond c 12 (cond e 13 r)))) ≡ 0
+    → (b ≡ false) × (e ≡ false) × _≡_ {A = ℕ} (cond t 23 (cond a 10 (cond b 11 (cond c 12 (cond e 13 0))))) 0
+none-after true a b c e r z = absurd (omega arith)
+none-after false true b c e r z = absurd (omega arith)
+none-after false false true c e r z = absurd (omega arith)
+none-after false false false true e r z = absurd (omega arith)
+none-after false false false false true r z = absurd (omega arith)
+none-after false false false false false r z = (refl, refl, refl)
 
 -- a card request is counted, and takes its trace
-request-members : (s : State) (m : Message) (y : Standing) (q : Request) → isRequest m ≡ true → traceIn m ≡ q .trace .0 → Members s y
-    → Members (requested s q) (whenSent m y)
+request-members : (s : State) (m : Message) (y : Standing) (c : Chip) (q : Request) → isRequest m ≡ true → traceIn m ≡ q .trace .0
+    → c .approved ≡ false → Members s y → Members (requested s c q) (whenSent m y)
 unfolding isNew next following
-request-members s m y q e t h = (h .0, h .1, rw e (ap (λ (n : ℕ). n + 1) (h .2)), rw (e, t))
+request-members s m y c q e t u h = (h .0, h .1, rw e (ap (λ (n : ℕ). n + 1) (h .2)), rw (e, t), u)
 
 trace-said : (m : Message) (n : ℕ) → partOf m part.Trace ≡ Is n → traceIn m ≡ n
 unfolding traceIn
@@ -126,6 +133,15 @@ original-said : (m : Message) (n : ℕ) → partOf m part.OriginalTrace ≡ Is n
 unfolding originalIn
 original-said m n e = rw e
 
+-- field 61 of a void
+original-there : (x : Settings) (batch : Batch) (c : Chip) (q : Request) (o : Original) → takesOriginal (q .kind) ≡ true
+    → (has (requestFields x batch c q o) 61 ≡ true) × (find (requestFields x batch c q o) 61 ≡ digits 61 (field61 o) .field)
+original-there x batch c q o t =
+    by-chip
+    (λ ys. (has ((outgoing.plainFields x batch c q ++ ys) ++ originalFields (q .kind) o) 61 ≡ true)
+    × (find ((outgoing.plainFields x batch c q ++ ys) ++ originalFields (q .kind) o) 61 ≡ digits 61 (field61 o) .field))
+    c (λ e. (rw t, rw t)) (λ e. (rw t, rw t))
+
 -- an original that is found has the trace by which it was looked for
 found-trace : (kind x : ℕ) (es : List Entry) (f : Found) → originalFor kind x es ≡ f → nowhere f ≡ false → entryOf f es .trace .0 ≡ x
 found-trace kind x es (At i) e n =
@@ -133,15 +149,26 @@ found-trace kind x es (At i) e n =
     original-trace (originalKind kind) x (entryAt es i) (rw z at (first-at (isOriginal (originalKind kind) x) 0 es i e .holds))
 found-trace kind x es Nowhere e n = absurd (true≢false n)
 
--- a request holds what every card request holds
-request-card : (x : Settings) (batch : Batch) (m : List ℕ) (q : Request) (o : Original) → CardHeld x q → OriginalHeld (q .kind) o → largest ≤ length m
-    → HoldsCard x batch q (messageIn (handedOut (messageBytes (requestMessage x batch q o)) m))
-unfolding requestMessage
-request-card x batch m q o c g room =
-    card-read x batch q (indicatorOf (q .kind)) (originalFields (q .kind) o) _
-    (sent-reads (indicatorOf (q .kind)) (requestFields x batch q o) m (request-listed (q .kind)) (request-held x batch q o c g) room)
+-- what a request names of an earlier one is no field 55
+no-chip : (kind : ℕ) (o : Original) → has (originalFields kind o) 55 ≡ false
+no-chip kind o = go (takesOriginal kind) (eqb kind 25) (eqb kind 11 || eqb kind 20)
+  where
+    go : (a b c : Bool) → has (cond a (bytes 37 (o .reference) ∷ bytes 38 (o .authorisation) ∷ digits 61 (field61 o) ∷ [])
+        (cond b (bytes 37 (o .reference) ∷ digits 61 (field61 o) ∷ []) (cond c (bytes 38 (o .authorisation) ∷ digits 61 (field61 o) ∷ []) []))) 55 ≡ false
+    go true b c = refl
+    go false true c = refl
+    go false false true = refl
+    go false false false = refl
 
-module _ (l : ℕ) (s : State) (lent : Lent) (a : Account) (y : Standing) (tied : Tied l s (lent .journal) a) (h : Stands s (lent .journal) y) (d : Desk)
+-- a request holds what every card request holds
+request-card : (x : Settings) (batch : Batch) (m : List ℕ) (c : Chip) (q : Request) (o : Original) → CardHeld x c q → OriginalHeld (q .kind) o
+    → largest ≤ length m → HoldsCard x batch c q (messageIn (handedOut (messageBytes (requestMessage x batch c q o)) m))
+unfolding requestMessage
+request-card x batch m c q o h g room =
+    card-read x batch c q (indicatorOf (q .kind)) (originalFields (q .kind) o) _ (no-chip (q .kind) o)
+    (sent-reads (indicatorOf (q .kind)) (requestFields x batch c q o) m (request-listed (q .kind)) (request-held x batch c q o h g) room)
+
+module _ (l : ℕ) (s : State) (lent : Lent) (a : Account) (y : Standing) (tied : Tied l s (lent .journal) a) (h : Stands s (lent .journal) y) (d : Desk) (chip : List ℕ)
     (authorisation : length (d .authorisation) ≡ 6) (reference : length (d .reference) ≡ 12) where
   abbrev pub entries : List Entry
   entries = entriesOf (s .entries) (lent .journal)
@@ -155,48 +182,60 @@ module _ (l : ℕ) (s : State) (lent : Lent) (a : Account) (y : Standing) (tied 
   abbrev pub named : Original
   named = namedBy d (s .batch) original
 
+  abbrev pub sentChip : Chip
+  sentChip = chipFrom d chip
+
   -- the rules after 13
   abbrev pub own : List Rule
   own = deskRules d (s .settings .refund) ++ journalRules d s (totalsOf entries) (originalOf d entries) original
 
   abbrev pub number : ℕ
-  number = numberOf (starts d) y (reversalPending (a .requests))
+  number = numberOf (starts d chip) y (reversalPending (a .requests))
 
-  pub number-is : cond (not (s .«signed_on»)) 10 (cond (waits (s .phase)) 11 (cond (pends (s .phase)) 12 (cond (state.closes (s .phase)) 13 0)))
+  -- rule 23
+  abbrev pub broken : Bool
+  broken = sendsField55 d && not (chipInForm chip)
+
+  pub number-is : cond broken 23 (cond (not (s .«signed_on»)) 10 (cond (waits (s .phase)) 11 (cond (pends (s .phase)) 12 (cond (state.closes (s .phase)) 13 0))))
       ≡ number
   number-is =
       let here = awaits (s .settings) (s .batch) entries y (s .phase) (h .phase-is) in
-      idle-number (s .«signed_on») (waits (s .phase)) y _ (cond (reversalPending (a .requests)) 12 (cond (closes (y .stage)) 13 0)) (h .members .0) here
+      rw (chip-is (d .kind))
+      (ap (λ (n : ℕ). cond (d .chip && among (d .kind) chipKinds && not (chipInForm chip)) 23 n)
+      (idle-number (s .«signed_on») (waits (s .phase)) y _ (cond (reversalPending (a .requests)) 12 (cond (closes (y .stage)) 13 0)) (h .members .0) here
       (λ w.
       rw (
-        pending-is l (s .settings) (s .batch) a (s .phase) (tied .shape),
+        pending-is l (s .settings) (s .batch) (s .chip) a (s .phase) (tied .shape),
         closing (s .settings) (s .batch) entries y (s .phase) w (h .phase-is),
-      ))
+      ))))
 
-  start-refused : (firstBroken (restRules s ++ own) ≡ 0 → ⊥) → JudgedBy number (starts d) y (history.refused (firstBroken (restRules s ++ own)))
+  abbrev pub rest : List Rule
+  rest = chipRules d chip ++ (restRules s ++ own)
+
+  start-refused : (firstBroken rest ≡ 0 → ⊥) → JudgedBy number (starts d chip) y (history.refused (firstBroken rest))
   unfolding firstBroken
   start-refused f =
       rw (← number-is)
-      (by-rest d y (not (s .«signed_on»)) (waits (s .phase)) (pends (s .phase)) (state.closes (s .phase)) _ (firstBroken own) refl f
+      (by-rest d chip y broken (not (s .«signed_on»)) (waits (s .phase)) (pends (s .phase)) (state.closes (s .phase)) _ (firstBroken own) refl f
       (first-within 15 21 own refl))
 
   -- what the request says of itself; a void names the trace of its original
-  original-named : takesOriginal (d .kind) ≡ true → firstBroken (startRules d s entries original lent) ≡ 0 → named .trace .0 ≡ d .original .0
+  original-named : takesOriginal (d .kind) ≡ true → firstBroken (startRules d chip s entries original lent) ≡ 0 → named .trace .0 ≡ d .original .0
   unfolding originalOf
   original-named t u =
-      let n : nowhere (originalFor (d .kind) (d .original .0) entries) ≡ false = rw t at (unbroken d s original lent u .found t) in
+      let n : nowhere (originalFor (d .kind) (d .original .0) entries) ≡ false = rw t at (unbroken d chip s original lent u .found t) in
       rw t (found-trace (d .kind) (d .original .0) entries (originalFor (d .kind) (d .original .0) entries) refl n)
 
-  names-request : firstBroken (startRules d s entries original lent) ≡ 0 → Fit s lent
-      → Asks (s .settings) (s .batch) request (messageIn (handedOut (messageBytes (requestMessage (s .settings) (s .batch) request named)) (lent .message)))
-      → CardHeld (s .settings) request → OriginalHeld (request .kind) named
-      → Names request (messageIn (handedOut (messageBytes (requestMessage (s .settings) (s .batch) request named)) (lent .message)))
+  names-request : firstBroken (startRules d chip s entries original lent) ≡ 0 → Fit s lent
+      → Asks (s .settings) (s .batch) request (messageIn (handedOut (messageBytes (requestMessage (s .settings) (s .batch) sentChip request named)) (lent .message)))
+      → CardHeld (s .settings) sentChip request → OriginalHeld (request .kind) named
+      → Names request (messageIn (handedOut (messageBytes (requestMessage (s .settings) (s .batch) sentChip request named)) (lent .message)))
   unfolding requestMessage within
   names-request u f asks c g =
       let i = indicatorOf (d .kind) in
-      let xs = requestFields (s .settings) (s .batch) request named in
-      let r = sent-reads i xs (lent .message) (request-listed (d .kind)) (request-held (s .settings) (s .batch) request named c g) (f .message-room) in
-      let w = request-holds request (request-form l d s lent a tied authorisation reference u f) in
+      let xs = requestFields (s .settings) (s .batch) sentChip request named in
+      let r = sent-reads i xs (lent .message) (request-listed (d .kind)) (request-held (s .settings) (s .batch) sentChip request named c g) (f .message-room) in
+      let w = request-holds request (request-form l d chip s lent a tied authorisation reference u f) in
       let trace = number-read _ i xs r 11 (digitsOf 6 (request .trace .0)) (omega arith) (omega arith) refl refl
       (digitsOf-digits 6 (request .trace .0)) 0 6 (request .trace .0) (omega arith) refl (omega arith) (omega (arith, w .trace-most)) in
       record {
@@ -209,33 +248,43 @@ module _ (l : ℕ) (s : State) (lent : Lent) (a : Account) (y : Standing) (tied 
             let z = original-named t u in
             let k : within 1 (d .original .0) lastNumber ≡ true = rw t at (w .original-form) in
             let most = leb-true (d .original .0) lastNumber (and-eq-true-iff (leb 1 (d .original .0)) (leb (d .original .0) lastNumber) .0 k .1) in
-            let held : has xs 61 ≡ true = rw t in
-            let found : find xs 61 ≡ digits 61 (field61 named) .field = rw t in
-            let part = number-read _ i xs r 61 (field61 named) (omega arith) (omega arith) held found
+            let y = original-there (s .settings) (s .batch) sentChip request named t in
+            let part = number-read _ i xs r 61 (field61 named) (omega arith) (omega arith) (y .0) (y .1)
             (laid-digits (widths 61) (named .batch .0 ∷ named .trace .0 ∷ named .date ∷ [])) 6 6 (named .trace .0) (omega arith) refl (omega arith)
             (omega arith) in
             original-said _ (named .trace .0) part ∙ z ∙ sym (rw t);
       }
 
   abbrev pub done : Result
-  done = sends (messageBytes (requestMessage (s .settings) (s .batch) request named)) (requested s request) lent
+  done = sends (messageBytes (requestMessage (s .settings) (s .batch) sentChip request named)) (requested s sentChip request) lent
 
-  pub start-goes : firstBroken (restRules s ++ own) ≡ 0 → firstBroken (startRules d s entries original lent) ≡ 0 → Fit s lent
-      → Said (starts d) y number done
+  pub start-goes : firstBroken rest ≡ 0 → firstBroken (startRules d chip s entries original lent) ≡ 0 → Fit s lent
+      → Said (starts d chip) y number done
   unfolding firstBroken
   start-goes z u f =
-      let w = may-send d s lent (tied .kept .shaped .terminal-length) (tied .kept .shaped .merchant-length) reference authorisation
-      (taken entries (s .next .0)) (unbroken d s original lent u) in
-      let b = handedOut (messageBytes (requestMessage (s .settings) (s .batch) request named)) (lent .message) in
-      let asks = request-asks (s .settings) (s .batch) (lent .message) (f .message-room) (f .order .state .batch-most) request named (w .card) (w .original)
-      (request-holds request (request-form l d s lent a tied authorisation reference u f)) in
+      let w = may-send d chip s lent (tied .kept .shaped .terminal-length) (tied .kept .shaped .merchant-length) reference authorisation
+      (taken entries (s .next .0)) (unbroken d chip s original lent u) in
+      let b = handedOut (messageBytes (requestMessage (s .settings) (s .batch) sentChip request named)) (lent .message) in
+      let asks = request-asks (s .settings) (s .batch) (lent .message) (f .message-room) (f .order .state .batch-most) sentChip request named (w .card) (w .original)
+      (request-holds request (request-form l d chip s lent a tied authorisation reference u f)) in
       let said = names-request u f asks (w .card) (w .original) in
-      let p = none-after (not (s .«signed_on»)) (waits (s .phase)) (pends (s .phase)) (state.closes (s .phase)) (firstBroken own) z in
+      let card = request-card (s .settings) (s .batch) (lent .message) sentChip request named (w .card) (w .original) (f .message-room) in
+      let p = none-after broken (not (s .«signed_on»)) (waits (s .phase)) (pends (s .phase)) (state.closes (s .phase)) (firstBroken own) z in
       let stage = runs-on (s .settings) (s .batch) entries y (s .phase) (p .0) (p .1) (h .phase-is) in
-      goes (starts d) y number done (sym number-is ∙ p .2)
-      (record { members = request-members s (messageIn b) y request (asks .typed .is-request) (said .trace-is) (h .members); phase-is = (sent-at (messageIn b) y running (rw (asks .typed .is-settlement) stage), asks); details = (rw (asks .typed .is-request) (request-card (s .settings) (s .batch) (lent .message) request named (w .card) (w .original) (f .message-room)), said) })
+      goes (starts d chip) y number done (sym number-is ∙ p .2)
+      (record {
+        members = request-members s (messageIn b) y sentChip request (asks .typed .is-request) (said .trace-is) (sent-unapproved d chip) (h .members);
+        phase-is = (sent-at (messageIn b) y running (rw (asks .typed .is-settlement) stage), asks);
+        details =
+            record {
+              card = rw (asks .typed .is-request) card;
+              says = said;
+              carries = card .carries;
+              granted = λ q. absurd (true≢false (sym q ∙ sent-unapproved d chip));
+            };
+      })
       (asks .typed .is-request, numbered s y (asks .said .batch-number) (h .members))
 
-  pub start-said : Said (starts d) y number (start d s lent)
+  pub start-said : Said (starts d chip) y number (start d chip s lent)
   unfolding start
-  start-said = judged-said (starts d) y number s lent h (restRules s ++ own) done start-refused start-goes
+  start-said = judged-said (starts d chip) y number s lent h rest done start-refused start-goes

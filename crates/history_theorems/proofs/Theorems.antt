@@ -17,7 +17,7 @@ use Rattle.call_theorems.specs.Facts.{Leaves}
 use Rattle.call_theorems.proofs.Facts.{sent-reads}
 use Rattle.call_theorems.proofs.Steady.{settings-stay}
 use Rattle.outgoing_theorems.specs.Theorems as outgoing
-use Rattle.call_definitions.specs.Events.{Event, signed-on, starts, answers, no-answer, power-returned, send-reversal, settles, send-next-upload, call}
+use Rattle.call_definitions.specs.Events.{Event, signed-on, starts, answers, no-answer, power-returned, card-agrees, card-declines, send-reversal, settles, send-next-upload, call}
 use Rattle.desk.specs.declared.Desk.{Desk}
 use Rattle.call_definitions.specs.Shapes.{SettingsShaped, EventShaped}
 use Rattle.history.specs.Words.{messageIn, isRequest}
@@ -37,7 +37,7 @@ use Rattle.history_theorems.specs.Traces.{IsTaken, TracesTaken}
 use Rattle.history_theorems.specs.Uploads.{nextItem, upload, SendsNext, EachFew, UploadsInOrder, FewResends}
 use Rattle.history_theorems.proofs.Stands.{Stands}
 use Rattle.history_theorems.proofs.Said.{Said}
-use Rattle.history_theorems.proofs.Quiet.{signed-said, answer-said, silence-said, power-said}
+use Rattle.history_theorems.proofs.Quiet.{signed-said, answer-said, silence-said, power-said, agrees-said, declines-said}
 use Rattle.history_theorems.proofs.Sends.{reversal-said, settle-said, upload-said}
 use Rattle.history_theorems.proofs.Starts.{start-said}
 use Rattle.history_theorems.proofs.Booked.{Booked, call-booked}
@@ -51,10 +51,12 @@ use Rattle.history_theorems.proofs.Settled.{call-settled}
 call-said : (e : Event) (l : ℕ) (s : State) (lent : Lent) (a : Account) (y : Standing) → EventShaped e → Tied l s (lent .journal) a → Stands s (lent .journal) y
     → Said e y (numberOf e y (reversalPending (a .requests))) (call e s lent)
 call-said (signed-on batch) l s lent a y w t h = signed-said l s lent a y t h batch
-call-said (starts d) l s lent a y w t h = start-said l s lent a y t h d (w .0) (w .1)
+call-said (starts d b) l s lent a y w t h = start-said l s lent a y t h d b (w .0) (w .1)
 call-said (answers b good) l s lent a y w t h = answer-said b good s lent y (reversalPending (a .requests)) h
 call-said no-answer l s lent a y w t h = silence-said l s lent a y t h
 call-said power-returned l s lent a y w t h = power-said l s lent a y t h
+call-said card-agrees l s lent a y w t h = agrees-said l s lent a y t h
+call-said card-declines l s lent a y w t h = declines-said l s lent a y t h
 call-said send-reversal l s lent a y w t h = reversal-said l s lent a y t h
 call-said settles l s lent a y w t h = settle-said l s lent a y t h
 call-said send-next-upload l s lent a y w t h = upload-said l s lent a y t h
@@ -94,8 +96,8 @@ SettledCall x l c h = (b : List ℕ) → c .event ≡ settles → c .given ≡ h
 
 -- a start is refused by its number, or sends its message
 abbrev StartedCall : Settings → ℕ → Call → history.History → Type 0
-StartedCall x l c h = (d : Desk) → c .event ≡ starts d → (c .given ≡ history.refused 1 → ⊥) → (c .given ≡ history.refused 2 → ⊥)
-    → numberOf (c .event) (standing h) (reversalPending (batchOf l h)) ≡ 0 → StartJudged x (standing h) (approvals h) d (c .given)
+StartedCall x l c h = (d : Desk) (chip : List ℕ) → c .event ≡ starts d chip → (c .given ≡ history.refused 1 → ⊥) → (c .given ≡ history.refused 2 → ⊥)
+    → numberOf (c .event) (standing h) (reversalPending (batchOf l h)) ≡ 0 → StartJudged x (standing h) (approvals h) d chip (c .given)
 
 started-with : (l : ℕ) (c : Call) (h : history.History) {z x : Settings} → z ≡ x → StartedCall z l c h → StartedCall x l c h
 started-with l c h e s = rw e at s
@@ -126,11 +128,11 @@ begun-holds x j w =
     record {
       settings-are = refl;
       tied = record { kept = record { sendings-set = refl; shaped = w; books = no-books }; shape = tt };
-      stands = record { members = (refl, refl, refl, fresh-next); phase-is = record { awaits-is = refl; stage-is = refl }; details = tt };
+      stands = record { members = (refl, refl, refl, fresh-next, refl); phase-is = record { awaits-is = refl; stage-is = refl }; details = tt };
       each = tt;
       reads = tt;
       booked = tt;
-      exactly = record { last = λ e. absurd (true≢false (sym e)); each = tt };
+      exactly = record { last = λ e. absurd (true≢false (sym e)); granted = λ e. absurd (true≢false (sym e)); each = tt };
       traced = tt;
       started = tt;
       uploads = record { marks = tt; item-is = tt };

@@ -25,11 +25,10 @@ use Rattle.checks.specs.Checks.{Rule, firstBroken}
 use Rattle.rules.specs.Rules.{rules12, due}
 use Rattle.rules.proofs.InOrder.{Fit}
 use Rattle.desk.specs.declared.Desk.{Desk}
-use Rattle.desk.specs.DeskRules.{restRules}
 use Rattle.call_definitions.specs.Start.{start}
 use Rattle.call_definitions.specs.Settle.{settleRules, settle}
 use Rattle.call_definitions.specs.SendNextUpload.{sendNextUploadRules, sendsNext, uploadFrom, sendNextUpload}
-use Rattle.call_definitions.specs.Events.{Event, signed-on, starts, answers, no-answer, power-returned, send-reversal, settles, send-next-upload, call}
+use Rattle.call_definitions.specs.Events.{Event, signed-on, starts, answers, no-answer, power-returned, card-agrees, card-declines, send-reversal, settles, send-next-upload, call}
 use Rattle.call_definitions.specs.Shapes.{EventShaped}
 use Rattle.history.specs.Words.{messageIn, isReversal}
 use Rattle.history.specs.History as history
@@ -43,7 +42,7 @@ use Rattle.history_theorems.specs.Traces.{isUsed, after, IsTaken}
 use Rattle.history_theorems.proofs.Stands.{Stands}
 use Rattle.history_theorems.proofs.Said.{givenIn, Said, judged-as}
 use Rattle.history_theorems.proofs.Sends.{item-goes, end-goes, settled, settle-goes, settle-number}
-use Rattle.history_theorems.proofs.Starts.{own, done, start-goes}
+use Rattle.history_theorems.proofs.Starts.{rest, done, start-goes}
 use Rattle.history_theorems.proofs.Booked.{Booked}
 
 -- the search for a free trace: what it passes over stands in the journal
@@ -178,13 +177,13 @@ module _ (l : ℕ) (s : State) (lent : Lent) (a : Account) (y : Standing) (xs : 
       go j true e = let w = rw g at (j .gives (eqb-true n 0 e)) in absurd (true≢false (sym q ∙ reversal-old b (w .type-is)))
       go j false e = unsent y xs r n (j .refuses (eqb-false n 0 e)) b g q
 
-  start-traced : (k : Desk) → length (k .authorisation) ≡ 6 → length (k .reference) ≡ 12 → Traced y xs (start k s lent)
+  start-traced : (k : Desk) (chip : List ℕ) → length (k .authorisation) ≡ 6 → length (k .reference) ≡ 12 → Traced y xs (start k chip s lent)
   unfolding start
-  start-traced k u v =
-      judged-traced y xs s lent (restRules s ++ own l s lent a y tied d k u v) (done l s lent a y tied d k u v)
+  start-traced k chip u v =
+      judged-traced y xs s lent (rest l s lent a y tied d k chip u v) (done l s lent a y tied d k chip u v)
       (λ z e f.
-      takes-trace y xs (done l s lent a y tied d k u v) _ (taken (entriesOf (s .entries) (lent .journal)) (s .next .0)) refl
-      (start-goes l s lent a y tied d k u v z e f .stands .details .1 .trace-is) (takes s lent y xs f d h))
+      takes-trace y xs (done l s lent a y tied d k chip u v) _ (taken (entriesOf (s .entries) (lent .journal)) (s .next .0)) refl
+      (start-goes l s lent a y tied d k chip u v z e f .stands .details .says .trace-is) (takes s lent y xs f d h))
 
   settle-traced : Traced y xs (settle s lent)
   unfolding settle firstBroken
@@ -233,10 +232,12 @@ pub call-traced : (e : Event) (l : ℕ) (s : State) (lent : Lent) (a : Account) 
     → Tied l s (lent .journal) a → Stands s (lent .journal) y → Booked s (lent .journal) xs
     → Said e y (numberOf e y (reversalPending (a .requests))) (call e s lent) → Traced y xs (call e s lent)
 call-traced (signed-on batch) l s lent a y xs w t d h k = judged-quiet y xs (signed-on batch) _ _ k (λ g. g)
-call-traced (starts u) l s lent a y xs w t d h k = start-traced l s lent a y xs t d h u (w .0) (w .1)
+call-traced (starts u b) l s lent a y xs w t d h k = start-traced l s lent a y xs t d h u b (w .0) (w .1)
 call-traced (answers b good) l s lent a y xs w t d h k = judged-quiet y xs (answers b good) _ _ k (λ g. g)
 call-traced no-answer l s lent a y xs w t d h k = judged-quiet y xs no-answer _ _ k (λ g. g)
 call-traced power-returned l s lent a y xs w t d h k = judged-quiet y xs power-returned _ _ k (λ g. g)
+call-traced card-agrees l s lent a y xs w t d h k = judged-quiet y xs card-agrees _ _ k (λ g. g)
+call-traced card-declines l s lent a y xs w t d h k = judged-quiet y xs card-declines _ _ k (λ g. g)
 call-traced send-reversal l s lent a y xs w t d h k = reversal-traced l s lent a y xs t d h _ _ k
 call-traced settles l s lent a y xs w t d h k = settle-traced l s lent a y xs t d h
 call-traced send-next-upload l s lent a y xs w t d h k = upload-traced l s lent a y xs t d h

@@ -22,24 +22,29 @@ use Rattle.state.specs.declared.Awaited.the-variants as awaited
 use Rattle.state.specs.declared.Count.the-variants as count
 use Rattle.state.specs.declared.Phase.{Phase}
 use Rattle.state.specs.declared.Phase.the-variants.{Resting, Waiting, Pending, Settling, Uploading}
-use Rattle.state.specs.declared.Reason.the-variants.{Silence, BadMac}
+use Rattle.state.specs.declared.Reason.the-variants.{BadMac}
 use Rattle.state.specs.declared.Request.{Request}
 use Rattle.state.specs.declared.Reversal.{Reversal}
+use Rattle.state.specs.declared.Approval.{Approval}
 use Rattle.state.specs.declared.State.{State}
-use Rattle.state.specs.State.{inPhase, counted, closed}
+use Rattle.state.specs.State.{hasChip, asSent, approvedBy, approvalIn, inPhase, withChip, closed}
+use Rattle.state_rules.specs.StateRules.{awaitsRequest, requestAwaited}
+use Rattle.state_rules.proofs.Holds.{ApprovalHolds}
 use Rattle.state.specs.Calls.{Lent}
 use Rattle.rules.specs.Rules.{due}
 use Rattle.rules.proofs.InOrder.{Fit}
 use Rattle.answer_match.specs.Match as match
 use Rattle.answer_match.specs.Match.{isAnswer, matchesSent, indicatorSent, holdsNamed, approves, goodMac, approvalHolds, endsReversal}
-use Rattle.approval.specs.Approval.{approvedEntry}
-use Rattle.effect_definitions.specs.StateEffects.{pendingOrUnanswered, failed, onReversal, onSettlement, onEnd}
-use Rattle.effect_definitions.specs.JournalEffects.{Changed, changed, marked, silentMark, silent, silentIn, voidedAt, originalVoided, approved, onRequest, onItem, answered}
+use Rattle.approval.specs.Approval.{approvalOf, approvedEntry}
+use Rattle.effect_definitions.specs.StateEffects as effects
+use Rattle.effect_definitions.specs.StateEffects.{pendingOrUnanswered, silenceOf, failed, onReversal, onSettlement, onEnd}
+use Rattle.effect_definitions.specs.JournalEffects.{Changed, changed, marked, silentMark, silent, silentIn, voidedAt, originalVoided, approved, granted, onRequest, agreed, agreedIn, onItem, answered}
 use Rattle.call_definitions.specs.Answer.{traceSent}
-use Rattle.history.specs.Words.{messageIn, isRequest, isEnd, closesBatch}
+use Rattle.history.specs.Words.{messageIn, carriesChip, isRequest, isEnd, closesBatch}
 use Rattle.history.proofs.Sent.{Typed, reversal-typed, settlement-typed, item-typed, end-typed}
 use Rattle.history.proofs.Matching.{approves-alike, mac-alike, settlement-closes, end-closes, other-closes}
-use Rattle.history.proofs.Approved.{approved-entries}
+use Rattle.history.proofs.Approved.{approval-read, approved-entries}
+use Rattle.call_theorems.proofs.Approving.{consent-holds}
 use Rattle.history_theorems.specs.Standing.{Standing}
 use Rattle.history_theorems.specs.Judged.{isUpload}
 use Rattle.history_theorems.specs.Uploads as uploads
@@ -138,13 +143,13 @@ module _ (l : ℕ) (y : Standing) (u : Upload) where
     unfolding silent pendingOrUnanswered failed
     silent-uploads (awaited.Request q) f d h = rw (not-item (request-other (y .message) (d .phase-is .1 .typed .is-request))) (go (isNeverReversed (q .kind)))
       where
-        go : (b : Bool) → Left (changed (cond b (inPhase Resting (counted count.Unanswered s))
-            (inPhase (Pending (record { request = q; reason = Silence; sendings = 0 })) s)) j) u
+        go : (b : Bool) → Left (changed (cond b (effects.ended count.Unanswered s)
+            (inPhase (Pending (record { request = q; reason = silenceOf s; sendings = 0 })) (withChip (asSent (s .chip)) s))) j) u
         go true = record { marks = h .marks; item-is = tt }
         go false = record { marks = h .marks; item-is = tt }
     silent-uploads (awaited.Reversal v) f d h = rw (not-item (typed-other (y .message) 0x0400 (d .phase-is .1 .indicator) refl)) (go (leb (s .settings .sendings) (v .sendings)))
       where
-        go : (b : Bool) → Left (changed (cond b (inPhase Resting (counted count.GivenUp s)) (inPhase (Pending v) s)) j) u
+        go : (b : Bool) → Left (changed (cond b (effects.ended count.GivenUp s) (inPhase (Pending v) s)) j) u
         go true = record { marks = h .marks; item-is = tt }
         go false = record { marks = h .marks; item-is = tt }
     silent-uploads (awaited.Settlement t) f d h =
@@ -182,9 +187,61 @@ voided-marks n q j ps h = go (takesOriginal (q .kind)) (originalFor (q .kind) (q
     go true Nowhere = h
     go false f = h
 
-approved-unsent : (q : Request) (a : Message) → IsMarked (approvedEntry q a) unsent
+approved-unsent : (q : Request) (v : Approval) → IsMarked (approvedEntry q v) unsent
 unfolding approvedEntry
-approved-unsent q a = (refl, refl)
+approved-unsent q v = (refl, refl)
+
+approved-uploads : (q : Request) (v : Approval) (s : State) (lent : Lent) (u : Upload) → Fit (inPhase (Waiting (awaited.Request q)) s) lent
+    → ApprovalHolds v → Marks (entriesOf (s .entries) (lent .journal)) (u .progress)
+    → Left (approved q (approvedEntry q v) s (lent .journal)) (record { progress = u .progress ++ (unsent ∷ []); item = u .item })
+unfolding approved
+approved-uploads q v s lent u f g h =
+    let j = lent .journal in
+    record {
+      marks =
+          rw (approved-entries q v s lent f g)
+          (marks-more (approvedEntry q v) (entriesOf (s .entries) (originalVoided q (entriesOf (s .entries) j) j)) (u .progress)
+          (voided-marks (s .entries) q j (u .progress) h) (approved-unsent q v));
+      item-is = tt;
+    }
+
+-- the card's consent
+agreed-awaited : (w : Awaited) (s : State) (lent : Lent) (u : Upload) → Fit (inPhase (Waiting w) s) lent → Uploads (inPhase (Waiting w) s) (lent .journal) u
+    → s .chip .approved ≡ true → awaitsRequest w ≡ true
+    → Left (agreed w s (lent .journal)) (record { progress = u .progress ++ (unsent ∷ []); item = u .item })
+unfolding agreed
+agreed-awaited (awaited.Request q) s lent u f h e r =
+    approved-uploads q (approvalIn (s .chip)) s lent u f (consent-holds (Waiting (awaited.Request q)) (s .chip) (f .order .state .chip) e) (h .marks)
+agreed-awaited (awaited.Reversal v) s lent u f h e r = absurd (true≢false (sym r))
+agreed-awaited (awaited.Settlement t) s lent u f h e r = absurd (true≢false (sym r))
+agreed-awaited (awaited.Item i) s lent u f h e r = absurd (true≢false (sym r))
+agreed-awaited (awaited.End t) s lent u f h e r = absurd (true≢false (sym r))
+
+pub agreed-in : (p : Phase) (s : State) (lent : Lent) (u : Upload) → Fit (inPhase p s) lent → Uploads (inPhase p s) (lent .journal) u
+    → s .chip .approved ≡ true → requestAwaited p ≡ true
+    → Left (agreedIn p (inPhase p s) (lent .journal)) (record { progress = u .progress ++ (unsent ∷ []); item = u .item })
+agreed-in Resting s lent u f h e r = absurd (true≢false (sym r))
+agreed-in (Waiting w) s lent u f h e r = agreed-awaited w (inPhase (Waiting w) s) lent u f h e r
+agreed-in (Pending v) s lent u f h e r = absurd (true≢false (sym r))
+agreed-in Settling s lent u f h e r = absurd (true≢false (sym r))
+agreed-in Uploading s lent u f h e r = absurd (true≢false (sym r))
+
+-- a card that declines is no silent item
+declined-awaited : (w : Awaited) (l : ℕ) (s : State) (j : List ℕ) (y : Standing) (u : Upload) → Stands (inPhase (Waiting w) s) j y → awaitsRequest w ≡ true
+    → whenSilent l y u ≡ u
+declined-awaited (awaited.Request q) l s j y u d r = not-item l y u (request-other (y .message) (d .phase-is .1 .typed .is-request))
+declined-awaited (awaited.Reversal v) l s j y u d r = absurd (true≢false (sym r))
+declined-awaited (awaited.Settlement t) l s j y u d r = absurd (true≢false (sym r))
+declined-awaited (awaited.Item i) l s j y u d r = absurd (true≢false (sym r))
+declined-awaited (awaited.End t) l s j y u d r = absurd (true≢false (sym r))
+
+pub declined-same : (p : Phase) (l : ℕ) (s : State) (j : List ℕ) (y : Standing) (u : Upload) → Stands (inPhase p s) j y → requestAwaited p ≡ true
+    → whenSilent l y u ≡ u
+declined-same Resting l s j y u d r = absurd (true≢false (sym r))
+declined-same (Waiting w) l s j y u d r = declined-awaited w l s j y u d r
+declined-same (Pending v) l s j y u d r = absurd (true≢false (sym r))
+declined-same Settling l s j y u d r = absurd (true≢false (sym r))
+declined-same Uploading l s j y u d r = absurd (true≢false (sym r))
 
 -- an accepted answer
 module _ (b : List ℕ) (good : Bool) (read : readMessage b .outcome ≡ Read) (s : State) (lent : Lent) (y : Standing) (u : Upload) where
@@ -202,37 +259,33 @@ module _ (b : List ℕ) (good : Bool) (read : readMessage b .outcome ≡ Read) (
   unfolding whenHeard
   same-upload c t i = rw (c, t, i)
 
-  approved-uploads : (q : Request) → Fit (inPhase (Waiting (awaited.Request q)) s) lent → approvalHolds (q .amount) a ≡ true → approves a ≡ true
-      → Marks (entriesOf (s .entries) journal) (u .progress)
-      → Left (approved q (approvedEntry q a) s journal) (record { progress = u .progress ++ (unsent ∷ []); item = u .item })
-  unfolding approved
-  approved-uploads q f k e h =
-      record {
-        marks =
-            rw (approved-entries b q s lent read f k e)
-            (marks-more (approvedEntry q a) (entriesOf (s .entries) (originalVoided q (entriesOf (s .entries) journal) journal)) (u .progress)
-            (voided-marks (s .entries) q journal (u .progress) h) (approved-unsent q a));
-        item-is = tt;
-      }
-
   request-uploads : (q : Request) → Fit (inPhase (Waiting (awaited.Request q)) s) lent → Typed true false false false (y .message)
-      → approvalHolds (q .amount) a ≡ true → Marks (entriesOf (s .entries) journal) (u .progress) → Heard (onRequest good a q s journal)
-  unfolding onRequest whenHeard pendingOrUnanswered
-  request-uploads q f t k h =
-      rw (other-closes t a, t .is-request, approves-alike a, mac-alike good a, request-other (y .message) (t .is-request))
-      (go (approves a) (goodMac good a) (isNeverReversed (q .kind)) refl)
+      → carriesChip (y .message) ≡ hasChip (s .chip) → s .phase ≡ Waiting (awaited.Request q) → approvalHolds (q .amount) a ≡ true
+      → Marks (entriesOf (s .entries) journal) (u .progress) → Heard (onRequest good a q s journal)
+  unfolding onRequest granted whenHeard pendingOrUnanswered
+  request-uploads q f t m phase k h =
+      rw (other-closes t a, t .is-request, m, approves-alike a, mac-alike good a, request-other (y .message) (t .is-request))
+      (go (approves a) (goodMac good a) (hasChip (s .chip)) (isNeverReversed (q .kind)) refl)
     where
-      go : (x z w : Bool) → approves a ≡ x → Left
+      stays : ItemIs (s .phase) u
+      stays = rw phase tt
+
+      go : (x z c w : Bool) → approves a ≡ x → Left
           (cond x
-          (cond z (approved q (approvedEntry q a) s journal)
-          (changed (cond w (inPhase Resting (counted count.Unanswered s)) (inPhase (Pending (record { request = q; reason = BadMac; sendings = 0 })) s)) journal))
-          (changed (inPhase Resting (counted count.Declined s)) journal))
-          (cond (x && z) (record { progress = u .progress ++ (unsent ∷ []); item = u .item }) u)
-      go true true w e =
-          approved-uploads q f k e h
-      go true false true e = record { marks = h; item-is = tt }
-      go true false false e = record { marks = h; item-is = tt }
-      go false z w e = record { marks = h; item-is = tt }
+          (cond z
+          (cond c (changed (withChip (approvedBy (approvalOf a) (s .chip)) s) journal) (approved q (approvedEntry q (approvalOf a)) s journal))
+          (changed (cond w (effects.ended count.Unanswered s)
+          (inPhase (Pending (record { request = q; reason = BadMac; sendings = 0 })) (withChip (asSent (s .chip)) s))) journal))
+          (changed (effects.ended count.Declined s) journal))
+          (cond (not c && (x && z)) (record { progress = u .progress ++ (unsent ∷ []); item = u .item }) u)
+      go true true true w e = record { marks = h; item-is = stays }
+      go true true false w e = approved-uploads q (approvalOf a) s lent u f (approval-read b (q .amount) read k e) h
+      go true false true true e = record { marks = h; item-is = tt }
+      go true false true false e = record { marks = h; item-is = tt }
+      go true false false true e = record { marks = h; item-is = tt }
+      go true false false false e = record { marks = h; item-is = tt }
+      go false z true w e = record { marks = h; item-is = tt }
+      go false z false w e = record { marks = h; item-is = tt }
 
   reversal-uploads : (v : Reversal) → Typed false true false false (y .message) → y .message .indicator ≡ 0x0400
       → Marks (entriesOf (s .entries) journal) (u .progress) → Heard (changed (onReversal good a v s) journal)
@@ -242,7 +295,7 @@ module _ (b : List ℕ) (good : Bool) (read : readMessage b .outcome ≡ Read) (
       (go (endsReversal good a) (leb (s .settings .sendings) (v .sendings)))
     where
       go : (x z : Bool)
-          → Uploads (cond x (inPhase Resting (counted count.Reversed s)) (cond z (inPhase Resting (counted count.GivenUp s)) (inPhase (Pending v) s))) journal u
+          → Uploads (cond x (effects.ended count.Reversed s) (cond z (effects.ended count.GivenUp s) (inPhase (Pending v) s))) journal u
       go true z = record { marks = h; item-is = tt }
       go false true = record { marks = h; item-is = tt }
       go false false = record { marks = h; item-is = tt }
@@ -272,23 +325,23 @@ module _ (b : List ℕ) (good : Bool) (read : readMessage b .outcome ≡ Read) (
       })
 
   pub heard-uploads : (w : Awaited) → Fit (inPhase (Waiting w) s) lent → Stands (inPhase (Waiting w) s) journal y → Uploads (inPhase (Waiting w) s) journal u
-      → isAnswer (s .settings) (s .batch) (traceSent (entriesOf (s .entries) journal) w) w a ≡ true → Heard (answered good a w s journal)
+      → s .phase ≡ Waiting w → isAnswer (s .settings) (s .batch) (traceSent (entriesOf (s .entries) journal) w) w a ≡ true → Heard (answered good a w s journal)
   unfolding answered isAnswer onSettlement onEnd
-  heard-uploads (awaited.Request q) f d h e =
+  heard-uploads (awaited.Request q) f d h p e =
       let t = and-eq-true-iff (matchesSent (s .settings) (s .batch) (indicatorSent (awaited.Request q)) (q .trace) a)
       (holdsNamed (awaited.Request q) a) .0 e in
       let n = and-eq-true-iff (names (a .bitmap) 39) (approvalHolds (q .amount) a) .0 (t .1) in
-      request-uploads q f (d .phase-is .1 .typed) (n .1) (h .marks)
-  heard-uploads (awaited.Reversal v) f d h e =
+      request-uploads q f (d .phase-is .1 .typed) (d .details .carries) p (n .1) (h .marks)
+  heard-uploads (awaited.Reversal v) f d h p e =
       let i = d .phase-is .1 .indicator in reversal-uploads v (reversal-typed (y .message) i) i (h .marks)
-  heard-uploads (awaited.Settlement t) f d h e =
+  heard-uploads (awaited.Settlement t) f d h p e =
       let i = d .phase-is .1 .indicator in
       let k = settlement-typed (y .message) i in
       closed-uploads (match.closesBatch a) (settlement-closes k a) (k .is-request) (typed-other (y .message) 0x0500 i refl) (h .marks)
-  heard-uploads (awaited.Item i) f d h e =
+  heard-uploads (awaited.Item i) f d h p e =
       let said = d .phase-is .1 in
       item-uploads i (item-typed (y .message) (said .indicator) (said .code-number)) (said .indicator) (h .item-is) (h .marks)
-  heard-uploads (awaited.End t) f d h e =
+  heard-uploads (awaited.End t) f d h p e =
       let said = d .phase-is .1 in
       let k = end-typed (y .message) (said .indicator) (said .code-number) in
       closed-uploads (approves a) (end-closes k a) (k .is-request) (end-other (y .message) (k .is-end)) (h .marks)

@@ -2,7 +2,7 @@
 -- that approved it hold.
 use mathlib.Core.Path.{_≡_}
 use mathlib.Core.List.{List, [], _∷_, _++_}
-use mathlib.Core.Bool.{Bool, false, cond, _&&_, _||_}
+use mathlib.Core.Bool.{Bool, false, cond, not, _&&_, _||_}
 use Prim.Native.Nat.{ℕ, zero, suc}
 use lib.Dec.{eqb}
 use lib.ListN.{length, take}
@@ -15,9 +15,9 @@ use Rattle.parts.specs.declared.Part.the-variants as part
 use Rattle.entry.specs.declared.Entry.{Entry}
 use Rattle.journal.specs.Journal.{entriesOf}
 use Rattle.state.specs.declared.Settings.{Settings}
-use Rattle.call_definitions.specs.Events.{Event, signed-on, starts, answers, no-answer, power-returned, send-reversal, settles, send-next-upload}
+use Rattle.call_definitions.specs.Events.{Event, signed-on, starts, answers, no-answer, power-returned, card-agrees, card-declines, send-reversal, settles, send-next-upload}
 use Rattle.call_definitions.specs.Shapes.{SettingsShaped}
-use Rattle.history.specs.Words.{messageIn, kindIn, amountIn, isRequest, isApproval, macGood, closesBatch}
+use Rattle.history.specs.Words.{messageIn, kindIn, amountIn, carriesChip, isRequest, isApproval, macGood, closesBatch}
 use Rattle.history.specs.History.{Given, sent, quiet, refused, History}
 use Rattle.history.specs.Demand.{Invocation, runs, begun, InvocationsShaped}
 use Rattle.history_theorems.specs.Standing.{Standing, traceIn, standing}
@@ -27,18 +27,21 @@ pub record Approval : Type 0 where
   pub request : Message
   pub answer : Message
 
--- a good 00 approves the card request that was sent last; an answer that closes the batch empties the list
+-- a good 00 approves the card request that was sent last, if it has no chip; an answer that closes the batch empties the list
 unfoldable pub whenHeard : Bool → Message → Standing → List Approval → List Approval
 whenHeard good a x xs =
     cond (closesBatch (x .message) a) []
-      (cond (isRequest (x .message) && (isApproval a && macGood good a)) (xs ++ (record { request = x .message; answer = a } ∷ [])) xs)
+      (cond (isRequest (x .message) && (not (carriesChip (x .message)) && (isApproval a && macGood good a))) (xs ++ (record { request = x .message; answer = a } ∷ [])) xs)
 
+-- the card's consent approves the request that was sent last, by the answer before it
 abbrev pub whenQuiet : Event → Standing → List Approval → List Approval
 whenQuiet (signed-on batch) x xs = xs
-whenQuiet (starts d) x xs = xs
+whenQuiet (starts d b) x xs = xs
 whenQuiet (answers b good) x xs = whenHeard good (messageIn b) x xs
 whenQuiet no-answer x xs = xs
 whenQuiet power-returned x xs = xs
+whenQuiet card-agrees x xs = xs ++ (record { request = x .message; answer = x .answer } ∷ [])
+whenQuiet card-declines x xs = xs
 whenQuiet send-reversal x xs = xs
 whenQuiet settles x xs = xs
 whenQuiet send-next-upload x xs = xs

@@ -1,7 +1,7 @@
 -- The fields of the messages sent, by number and value, from what the desk keyed, the settings and the history (document 01, "Kinds" and
 -- "Calls").
 use mathlib.Core.List.{List, [], _∷_, _++_}
-use mathlib.Core.Bool.{cond}
+use mathlib.Core.Bool.{Bool, cond, _&&_}
 use Prim.Native.Nat.{ℕ}
 use lib.Dec.{eqb}
 use lib.ListN.{replicate}
@@ -13,7 +13,7 @@ use Rattle.message.specs.Message.{fieldOf}
 use Rattle.message.specs.declared.Message.{Message}
 use Rattle.state.specs.declared.Settings.{Settings}
 use Rattle.desk.specs.declared.Desk.{Desk}
-use Rattle.history.specs.Words.{kindIn, authorisedKinds, processingFor, conditionFor}
+use Rattle.history.specs.Words.{kindIn, authorisedKinds, chipKinds, processingFor, conditionFor}
 use Rattle.history.specs.History.{Request, count, amount, approvedDebit, approvedCredit}
 use Rattle.history_theorems.specs.Standing.{traceIn}
 use Rattle.history_theorems.specs.Approvals.{Approval, authorisationIn}
@@ -30,15 +30,24 @@ yuan = 0x31 ∷ 0x35 ∷ 0x36 ∷ []
 abbrev pub copied : ℕ → Message → Item
 copied n m = record { number = n; field = fieldOf m n }
 
--- every card request holds 2, 3, 4, 11, 22, 25, 41, 42, 49, 60, 64; field 22 is 012, the management code 000, and 64 leaves as eight zero
--- bytes
-abbrev pub requestItems : Settings → ℕ → ℕ → ℕ → Item → Item → List Item
-requestItems x batch trace kind card amount =
+-- document 02, request 1: with a chip field 22 is 052, and 55 is the desk's
+abbrev pub sendsChip : Desk → Bool
+sendsChip d = d .chip && among (d .kind) chipKinds
+
+abbrev pub entryMode : Bool → Item
+entryMode chip = digits 22 (cond chip (0 ∷ 5 ∷ 2 ∷ []) (0 ∷ 1 ∷ 2 ∷ []))
+
+abbrev pub chipItems : Desk → List ℕ → List Item
+chipItems d b = cond (sendsChip d) (bytes 55 b ∷ []) []
+
+-- every card request holds 2, 3, 4, 11, 22, 25, 41, 42, 49, 60, 64; the management code is 000, and 64 leaves as eight zero bytes
+abbrev pub requestItems : Settings → ℕ → ℕ → ℕ → Bool → Item → Item → List Item
+requestItems x batch trace kind chip card amount =
     card
     ∷ digits 3 (processingFor kind)
     ∷ amount
     ∷ digits 11 (digitsOf 6 trace)
-    ∷ digits 22 (0 ∷ 1 ∷ 2 ∷ [])
+    ∷ entryMode chip
     ∷ digits 25 (conditionFor kind)
     ∷ bytes 41 (x .terminal)
     ∷ bytes 42 (x .merchant)

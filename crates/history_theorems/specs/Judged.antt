@@ -17,16 +17,18 @@ use Rattle.parts.specs.Parts.{partOf}
 use Rattle.parts.specs.declared.Part.the-variants as part
 use Rattle.numbers.specs.declared.Batch.{Batch}
 use Rattle.state.specs.declared.Settings.{Settings}
-use Rattle.call_definitions.specs.Events.{Event, signed-on, starts, answers, no-answer, power-returned, send-reversal, settles, send-next-upload}
+use Rattle.elements.specs.Elements.{chipInForm}
+use Rattle.call_definitions.specs.Events.{Event, signed-on, starts, answers, no-answer, power-returned, card-agrees, card-declines, send-reversal, settles, send-next-upload}
 use Rattle.call_definitions.specs.Shapes.{SettingsShaped}
-use Rattle.history.specs.Words.{messageIn, isRequest, isReversal, isSettlement, isMatching}
-use Rattle.history.specs.History.{Given, sent, quiet, refused, Fate, deciding, pending, out, ended, Request, batchOf, count}
+use Rattle.history.specs.Words.{messageIn, carriesChip, isRequest, isReversal, isSettlement, isMatching, chipKinds}
+use Rattle.history.specs.History.{Given, sent, quiet, refused, Fate, deciding, consenting, pending, out, ended, Request, batchOf, count}
 use Rattle.history.specs.Demand.{Invocation, runs, begun, InvocationsShaped, Each}
 use Rattle.history_theorems.specs.Standing.{Stage, running, settling, uploading, Standing, standing}
 
 -- a reversal is to be sent
 abbrev pub isPending : Fate → Bool
 isPending deciding = false
+isPending consenting = false
 isPending pending = true
 isPending (out v) = false
 isPending (ended e) = false
@@ -56,11 +58,14 @@ whenIdle x n = cond (not (x .signed)) 10 (cond (x .awaited) 11 n)
 -- the number by which a call is refused, 0 for none; at a start those up to 13
 abbrev pub numberOf : Event → Standing → Bool → ℕ
 numberOf (signed-on batch) x reverses = cond (x .awaited) 11 (cond (leb 1 (batch .0) && leb (batch .0) 999999) 0 16)
-numberOf (starts d) x reverses = whenIdle x (cond reverses 12 (cond (closes (x .stage)) 13 0))
+numberOf (starts d b) x reverses =
+    cond (d .chip && among (d .kind) chipKinds && not (chipInForm b)) 23 (whenIdle x (cond reverses 12 (cond (closes (x .stage)) 13 0)))
 numberOf (answers b good) x reverses =
-    unread (readMessage b .outcome) (cond (x .awaited) (cond (isMatching (x .message) b) 0 22) 14)
+    unread (readMessage b .outcome) (cond (x .awaited && not (x .card)) (cond (isMatching (x .message) b) 0 22) 14)
 numberOf no-answer x reverses = cond (x .awaited) 0 14
 numberOf power-returned x reverses = 0
+numberOf card-agrees x reverses = cond (x .card) 0 14
+numberOf card-declines x reverses = cond (x .card) 0 14
 numberOf send-reversal x reverses = whenIdle x (cond reverses 0 14)
 numberOf settles x reverses = whenIdle x (cond reverses 12 (cond (uploads (x .stage)) 13 0))
 numberOf send-next-upload x reverses = whenIdle x (cond (uploads (x .stage)) 0 14)
@@ -75,9 +80,12 @@ Sends p batch (sent b) = (p (messageIn b) ≡ true) × (partOf (messageIn b) par
 Sends p batch quiet = ⊥
 Sends p batch (refused n) = ⊥
 
--- the fields of every card request
+-- the fields of every card request, and the one that it has with a chip
 abbrev pub cardFields : List ℕ
 cardFields = 2 ∷ 3 ∷ 4 ∷ 11 ∷ 22 ∷ 25 ∷ 41 ∷ 42 ∷ 49 ∷ 60 ∷ 64 ∷ []
+
+abbrev pub chipField : Message → List ℕ
+chipField m = cond (carriesChip m) (55 ∷ []) []
 
 -- a message names exactly these fields
 abbrev pub NamesJust : List ℕ → Message → Type 0
@@ -91,8 +99,9 @@ EachOf P (n ∷ ns) = P n × EachOf P ns
 -- the reversal is 0400 with the request's fields other than 37, 38, 61, plus 39 = reason
 pub record Reverses (m : Message) (x : Standing) : Type 0 where
   pub type-is : isReversal m ≡ true
-  pub named : NamesJust (cardFields ++ (39 ∷ [])) m
+  pub named : NamesJust (cardFields ++ (chipField (x .request) ++ (39 ∷ []))) m
   pub same : EachOf (λ n. fieldOf m n ≡ fieldOf (x .request) n) cardFields
+  pub chip-same : carriesChip (x .request) ≡ true → fieldOf m 55 ≡ fieldOf (x .request) 55
   pub reason-is : fieldOf m 39 .bytes ≡ x .reason
   pub batch-is : partOf m part.Batch ≡ Is (x .batch)
 
@@ -110,10 +119,12 @@ StartsOr batch (refused n) = (15 ≤ n) × (n ≤ 21)
 -- what a call gives that is not refused by its number
 abbrev pub Gives : Event → Standing → Given → Type 0
 Gives (signed-on batch) x g = g ≡ quiet
-Gives (starts d) x g = StartsOr (x .batch) g
+Gives (starts d b) x g = StartsOr (x .batch) g
 Gives (answers b good) x g = g ≡ quiet
 Gives no-answer x g = g ≡ quiet
 Gives power-returned x g = g ≡ quiet
+Gives card-agrees x g = g ≡ quiet
+Gives card-declines x g = g ≡ quiet
 Gives send-reversal x g = SendsReversal x g
 Gives settles x g = Sends isSettlement (x .batch) g
 Gives send-next-upload x g = Sends isUpload (x .batch) g

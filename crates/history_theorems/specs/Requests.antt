@@ -22,7 +22,7 @@ use Rattle.history.specs.Demand.{Invocation, runs, begun, InvocationsShaped, Ea
 use Rattle.history_theorems.specs.Standing.{Standing, traceIn, standing}
 use Rattle.history_theorems.specs.Approvals.{Approval, approvals, voidedBy, AtPlace}
 use Rattle.history_theorems.specs.Judged.{reversalPending, numberOf}
-use Rattle.history_theorems.specs.Fields.{copied, requestItems, keyedItems, originalItems}
+use Rattle.history_theorems.specs.Fields.{copied, sendsChip, chipItems, requestItems, keyedItems, originalItems}
 
 -- a void of an approved request
 unfoldable pub isVoid : ℕ → Bool
@@ -91,30 +91,30 @@ startNumber x y vs d =
                 (cond (passes d vs debitKinds || passes d vs creditKinds) 21 0))))))
 
 -- the message: card and amount as the desk keyed them, or at a void those of the approval that it names
-pub record SaysRequest (x : Settings) (y : Standing) (vs : List Approval) (d : Desk) (b : List ℕ) : Type 0 where
+pub record SaysRequest (x : Settings) (y : Standing) (vs : List Approval) (d : Desk) (chip b : List ℕ) : Type 0 where
   pub keyed : isVoid (d .kind) ≡ false
       → Reads (typeFor (d .kind))
-      (requestItems x (y .batch) (traceIn (messageIn b)) (d .kind) (digits 2 (digitsOf (d .card .length) (d .card .number)))
-      (digits 4 (digitsOf 12 (d .amount))) ++ keyedItems d)
+      (requestItems x (y .batch) (traceIn (messageIn b)) (d .kind) (sendsChip d) (digits 2 (digitsOf (d .card .length) (d .card .number)))
+      (digits 4 (digitsOf 12 (d .amount))) ++ (chipItems d chip ++ keyedItems d))
       (readMessage b)
   pub original : isVoid (d .kind) ≡ true
       → (i : ℕ) × AtPlace i
       (λ v. (isNamed d v ≡ true)
       × Reads (typeFor (d .kind))
-      (requestItems x (y .batch) (traceIn (messageIn b)) (d .kind) (copied 2 (v .request)) (copied 4 (v .request)) ++ originalItems (y .batch) v)
+      (requestItems x (y .batch) (traceIn (messageIn b)) (d .kind) false (copied 2 (v .request)) (copied 4 (v .request)) ++ originalItems (y .batch) v)
       (readMessage b))
       vs
 
 -- a start is refused by its number, or sends its message
-pub record StartJudged (x : Settings) (y : Standing) (vs : List Approval) (d : Desk) (g : Given) : Type 0 where
+pub record StartJudged (x : Settings) (y : Standing) (vs : List Approval) (d : Desk) (chip : List ℕ) (g : Given) : Type 0 where
   pub refuses : (startNumber x y vs d ≡ 0 → ⊥) → g ≡ refused (startNumber x y vs d)
-  pub sends : startNumber x y vs d ≡ 0 → (b : List ℕ) × (g ≡ sent b) × SaysRequest x y vs d b
+  pub sends : startNumber x y vs d ≡ 0 → (b : List ℕ) × (g ≡ sent b) × SaysRequest x y vs d chip b
 
 -- every start that 1, 2 and 10 to 13 let pass, of every list of calls from a fresh terminal of any settings
 abbrev pub StartsJudged : Type 0
 StartsJudged = (x : Settings) (j : List ℕ) (ts : List Invocation) → SettingsShaped x → InvocationsShaped ts
     → Each
-    (λ c h. (d : Desk) → c .event ≡ starts d → (c .given ≡ refused 1 → ⊥) → (c .given ≡ refused 2 → ⊥)
+    (λ c h. (d : Desk) (chip : List ℕ) → c .event ≡ starts d chip → (c .given ≡ refused 1 → ⊥) → (c .given ≡ refused 2 → ⊥)
     → numberOf (c .event) (standing h) (reversalPending (batchOf (x .sendings) h)) ≡ 0
-    → StartJudged x (standing h) (approvals h) d (c .given))
+    → StartJudged x (standing h) (approvals h) d chip (c .given))
     (runs ts (begun x j) .history)

@@ -1,4 +1,5 @@
--- Where a terminal stands after some calls, in the history's words: signed on or off, the last message sent and whether it is awaited,
+-- Where a terminal stands after some calls, in the history's words: signed on or off, the last message sent and whether its answer or,
+-- after an approval with a chip, the card's word is awaited,
 -- how far the batch is in closing, its number, how many card requests have left in it, the last of them, the reason of its reversal
 -- should it be reversed, and the last trace taken.
 use mathlib.Core.List.{List, [], _∷_}
@@ -10,8 +11,8 @@ use Rattle.message.specs.Message.{empty}
 use Rattle.message.specs.declared.Message.{Message}
 use Rattle.parts.specs.Parts.{partOf}
 use Rattle.parts.specs.declared.Part.the-variants as part
-use Rattle.call_definitions.specs.Events.{Event, signed-on, starts, answers, no-answer, power-returned, send-reversal, settles, send-next-upload}
-use Rattle.history.specs.Words.{messageIn, isRequest, isSettlement, isEnd, closesBatch}
+use Rattle.call_definitions.specs.Events.{Event, signed-on, starts, answers, no-answer, power-returned, card-agrees, card-declines, send-reversal, settles, send-next-upload}
+use Rattle.history.specs.Words.{messageIn, carriesChip, isRequest, isSettlement, isEnd, isApproval, macGood, closesBatch}
 use Rattle.history.specs.History.{Given, sent, quiet, refused, History}
 
 -- the batch is running, its settlement has been sent, or it is being uploaded
@@ -24,6 +25,9 @@ pub record Standing : Type 0 where
   -- the last message sent, and whether it is awaited
   pub message : Message
   pub awaited : Bool
+  -- the card's word is awaited; the last answer accepted
+  pub card : Bool
+  pub answer : Message
   pub stage : Stage
   -- the batch number, the card requests that have left in this batch, and the last of them
   pub batch : ℕ
@@ -50,7 +54,7 @@ next x = cond (ltb x 999999) (x + 1) 1
 abbrev pub whenSent : Message → Standing → Standing
 whenSent m x =
     record {
-      signed = x .signed; message = m; awaited = true; stage = cond (isSettlement m) settling (x .stage); batch = x .batch;
+      signed = x .signed; message = m; awaited = true; card = false; answer = x .answer; stage = cond (isSettlement m) settling (x .stage); batch = x .batch;
       requests = cond (isRequest m) (x .requests + 1) (x .requests); request = cond (isRequest m) m (x .request); reason = x .reason;
       taken = cond (isNew m) (traceIn m) (x .taken) }
 
@@ -58,26 +62,37 @@ whenSent m x =
 unfoldable pub whenClosed : Standing → Standing
 whenClosed x =
     record {
-      signed = false; message = x .message; awaited = false; stage = running; batch = next (x .batch); requests = 0;
+      signed = false; message = x .message; awaited = false; card = false; answer = x .answer; stage = running; batch = next (x .batch); requests = 0;
       request = x .request; reason = x .reason; taken = x .taken }
 
+-- a good 00 to a request with a chip: the card's word is awaited
+unfoldable pub grants : Bool → Message → Message → Bool
+grants good a m = isRequest m && (carriesChip m && (isApproval a && macGood good a))
+
 -- any other to a settlement starts the upload; a card request that an answer makes doubtful is reversed for its MAC, A0
-unfoldable pub whenDecided : Standing → Standing
-whenDecided x =
+unfoldable pub whenDecided : Bool → Message → Standing → Standing
+whenDecided good a x =
     record {
-      signed = x .signed; message = x .message; awaited = false; stage = cond (isSettlement (x .message)) uploading (x .stage);
+      signed = x .signed; message = x .message; awaited = grants good a (x .message); card = grants good a (x .message); answer = a; stage = cond (isSettlement (x .message)) uploading (x .stage);
       batch = x .batch; requests = x .requests; request = x .request;
       reason = cond (isRequest (x .message)) (0x41 ∷ 0x30 ∷ []) (x .reason); taken = x .taken }
 
-unfoldable pub whenHeard : Message → Standing → Standing
-whenHeard a x = cond (closesBatch (x .message) a) (whenClosed x) (whenDecided x)
+unfoldable pub whenHeard : Bool → Message → Standing → Standing
+whenHeard good a x = cond (closesBatch (x .message) a) (whenClosed x) (whenDecided good a x)
 
--- silence, with power or without; one that makes an awaited card request doubtful is the reason 98
+-- the card agrees
+unfoldable pub whenAgreed : Standing → Standing
+whenAgreed x =
+    record {
+      signed = x .signed; message = x .message; awaited = false; card = false; answer = x .answer; stage = x .stage; batch = x .batch;
+      requests = x .requests; request = x .request; reason = x .reason; taken = x .taken }
+
+-- silence, with power or without; one that makes an awaited card request doubtful is the reason 98, or 06 where the card's word is awaited
 abbrev pub whenSilent : Bool → Standing → Standing
 whenSilent power x =
     record {
-      signed = power && x .signed; message = x .message; awaited = false; stage = x .stage; batch = x .batch; requests = x .requests;
-      request = x .request; reason = cond (x .awaited && isRequest (x .message)) (0x39 ∷ 0x38 ∷ []) (x .reason); taken = x .taken }
+      signed = power && x .signed; message = x .message; awaited = false; card = false; answer = x .answer; stage = x .stage; batch = x .batch; requests = x .requests;
+      request = x .request; reason = cond (x .card) (0x30 ∷ 0x36 ∷ []) (cond (x .awaited && isRequest (x .message)) (0x39 ∷ 0x38 ∷ []) (x .reason)); taken = x .taken }
 
 -- the batch number is adopted only if no card request has left in this batch, nothing is awaited and the batch is not closing; a reversal
 -- that is to be sent is one of a card request that left
@@ -93,16 +108,18 @@ adopts x = eqb (x .requests) 0 && not (x .awaited) && runs (x .stage)
 abbrev pub whenSigned : ℕ → Standing → Standing
 whenSigned n x =
     record {
-      signed = true; message = x .message; awaited = x .awaited; stage = x .stage; batch = cond (adopts x) n (x .batch);
+      signed = true; message = x .message; awaited = x .awaited; card = x .card; answer = x .answer; stage = x .stage; batch = cond (adopts x) n (x .batch);
       requests = x .requests; request = x .request; reason = x .reason; taken = x .taken }
 
 -- a quiet change, by what was handed in
 abbrev pub whenQuiet : Event → Standing → Standing
 whenQuiet (signed-on batch) x = whenSigned (batch .0) x
-whenQuiet (starts d) x = x
-whenQuiet (answers b good) x = whenHeard (messageIn b) x
+whenQuiet (starts d b) x = x
+whenQuiet (answers b good) x = whenHeard good (messageIn b) x
 whenQuiet no-answer x = whenSilent true x
 whenQuiet power-returned x = whenSilent false x
+whenQuiet card-agrees x = whenAgreed x
+whenQuiet card-declines x = whenSilent true x
 whenQuiet send-reversal x = x
 whenQuiet settles x = x
 whenQuiet send-next-upload x = x
@@ -116,6 +133,6 @@ whenGiven (refused n) e x = x
 abbrev pub standing : History → Standing
 standing [] =
     record {
-      signed = false; message = empty; awaited = false; stage = running; batch = 1; requests = 0; request = empty; reason = [];
+      signed = false; message = empty; awaited = false; card = false; answer = empty; stage = running; batch = 1; requests = 0; request = empty; reason = [];
       taken = 0 }
 standing (c ∷ h) = whenGiven (c .given) (c .event) (standing h)

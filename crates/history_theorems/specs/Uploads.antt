@@ -9,9 +9,9 @@ use Rattle.message.specs.declared.Message.{Message}
 use Rattle.reading.specs.Reading.{readMessage}
 use Rattle.outgoing_theorems.specs.Theorems.{Reads}
 use Rattle.state.specs.declared.Settings.{Settings}
-use Rattle.call_definitions.specs.Events.{Event, signed-on, starts, answers, no-answer, power-returned, send-reversal, settles, send-next-upload}
+use Rattle.call_definitions.specs.Events.{Event, signed-on, starts, answers, no-answer, power-returned, card-agrees, card-declines, send-reversal, settles, send-next-upload}
 use Rattle.call_definitions.specs.Shapes.{SettingsShaped}
-use Rattle.history.specs.Words.{messageIn, isRequest, isApproval, macGood, isEnd, closesBatch, isDebit, isCredit}
+use Rattle.history.specs.Words.{messageIn, carriesChip, isRequest, isApproval, macGood, isEnd, closesBatch, isDebit, isCredit}
 use Rattle.history.specs.History.{Given, sent, quiet, refused, History}
 use Rattle.history.specs.Demand.{Invocation, runs, begun, InvocationsShaped, Each}
 use Rattle.history_theorems.specs.Standing.{Standing, traceIn, standing}
@@ -88,10 +88,12 @@ withItem (at i) u = record { progress = changeAt i leaves (u .progress); item = 
 
 abbrev pub whenSent : Event → List Approval → Upload → Upload
 whenSent (signed-on batch) xs u = u
-whenSent (starts d) xs u = u
+whenSent (starts d b) xs u = u
 whenSent (answers b good) xs u = u
 whenSent no-answer xs u = u
 whenSent power-returned xs u = u
+whenSent card-agrees xs u = u
+whenSent card-declines xs u = u
 whenSent send-reversal xs u = u
 whenSent settles xs u = u
 whenSent send-next-upload xs u = withItem (nextItem xs (u .progress)) u
@@ -110,15 +112,17 @@ whenSilent l x u = cond (x .awaited && isItem (x .message)) (changed (falls-sile
 unfoldable pub whenHeard : Bool → Message → Standing → Upload → Upload
 whenHeard good a x u =
     cond (closesBatch (x .message) a) (record { progress = []; item = u .item })
-      (cond (isRequest (x .message) && (isApproval a && macGood good a)) (record { progress = u .progress ++ (unsent ∷ []); item = u .item })
+      (cond (isRequest (x .message) && (not (carriesChip (x .message)) && (isApproval a && macGood good a))) (record { progress = u .progress ++ (unsent ∷ []); item = u .item })
         (cond (isItem (x .message)) (changed isAnswered u) u))
 
 abbrev pub whenQuiet : ℕ → Event → Standing → Upload → Upload
 whenQuiet l (signed-on batch) x u = u
-whenQuiet l (starts d) x u = u
+whenQuiet l (starts d b) x u = u
 whenQuiet l (answers b good) x u = whenHeard good (messageIn b) x u
 whenQuiet l no-answer x u = whenSilent l x u
 whenQuiet l power-returned x u = whenSilent l x u
+whenQuiet l card-agrees x u = record { progress = u .progress ++ (unsent ∷ []); item = u .item }
+whenQuiet l card-declines x u = u
 whenQuiet l send-reversal x u = u
 whenQuiet l settles x u = u
 whenQuiet l send-next-upload x u = u

@@ -1,10 +1,11 @@
 // The image of the state: its bytes, of one length, with the version of the format at the front. WIDTHS is the layout: a row for each
-// number of the state.
+// number of the state. After the rows stands a region of bytes, those of the chip.
 use image_definitions::Reading;
 use numbers::Batch;
 use numbers::Trace;
 use state::Awaited;
 use state::Card;
+use state::Chip;
 use state::Counts;
 use state::Phase;
 use state::Reason;
@@ -13,20 +14,30 @@ use state::Reversal;
 use state::Settings;
 use state::State;
 ghost use mathlib.Core.Path.{_≡_};
+ghost use mathlib.Core.List.{_++_};
 ghost use Prim.Native.Nat.{_+_, _%_, _^_, _≤_};
-ghost use lib.ListN.{length, drop};
-ghost use lib.Seq.{paste};
+ghost use lib.ListN.{length, take, drop};
+ghost use Rattle.digits.specs.Lists.{sameBytes};
 ghost use Rattle.field.specs.Bitmap.{wordOf};
-ghost use Rattle.image_definitions.specs.Layout.{widths, rows, size, bytesOf, numbersIn};
-ghost use Rattle.image_definitions.specs.Image.{reasonValue, requestValues, reversalValues, plainValues, awaitedValues, phaseValues, signedValue, memberValues, settingsValues, countsValues, valuesOf, image, merchantOf, settingsOf, countsOf, requestOf, reasonOf, reversalOf, phaseOf, stateOf, refused, readImage};
+ghost use Rattle.image_definitions.specs.Layout.{widths, regionOffset, size, bytesOf, numbersIn};
+ghost use Rattle.image_definitions.specs.Image.{reasonValue, requestValues, reversalValues, plainValues, awaitedValues, phaseValues, flagValue, memberValues, settingsValues, countsValues, chipValues, valuesOf, rowBytes, regionOf, image, merchantOf, settingsOf, countsOf, requestOf, reasonOf, reversalOf, phaseOf, chipIn, stateOf, refused, readImage};
 
 // The bytes of an image.
-pub const SIZE: usize = 106;
+pub const SIZE: usize = 383;
 
 // The version of the format.
-const VERSION: u64 = 1;
+const VERSION: u64 = 2;
 
-pub const ROWS: usize = 27;
+pub const ROWS: usize = 29;
+
+// Where the region stands, and its parts after field 55: date, authorisation, reference.
+const REGION: usize = 108;
+
+const DATE: usize = 363;
+
+const AUTHORISATION: usize = 365;
+
+const REFERENCE: usize = 371;
 
 // The bytes of each number, in the image's order.
 const WIDTHS: [usize; ROWS] = [
@@ -57,36 +68,30 @@ const WIDTHS: [usize; ROWS] = [
     1, // reason of its reversal
     1, // sendings of its reversal
     4, // trace of a settlement or an upload's end, place of an item
+    1, // length of the chip's field 55
+    1, // approved
 ];
 
 // The image of a state.
 pub fn image_of(s: State) -> [u8; SIZE]
     ensures { λ r. ⌜ r ≡ image s ⌝ }
 {
-    let values = values_of(s);
-    let widths = WIDTHS;
-    let mut out = [0u8; SIZE];
-    let mut at = 0;
-    let mut k = 0;
-    while k < ROWS {
-        let end = at + widths[k];
-        put_number(values[k], &mut out[at..end]);
-        at = end;
-        k += 1;
-    }
-    out
+    let chip = s.chip;
+    let rows = row_bytes(s);
+    with_region(chip, put(&rows, 0, [0u8; SIZE]))
 }
 
-// The state whose image these bytes are; all others are refused.
+// The state whose image these bytes are; all others are refused. The region is carried as it stands, so the rows decide.
 pub fn read(b: &[u8]) -> Reading
     ensures { λ r. ⌜ r ≡ readImage (now (b .entry)) ⌝ }
 {
     if b.len() != SIZE {
         return refused();
     }
-    let state = state_of(numbers_in(b));
-    let again = image_of(state);
-    if digits::same(b, &again) {
+    let numbers = numbers_in(b);
+    let state = state_of(numbers, &b[REGION..]);
+    let again = values_of(state);
+    if same_numbers(&numbers, &again) {
         return Reading {
             accepted: true,
             state: state,
@@ -109,6 +114,49 @@ fn refused() -> Reading
         accepted: false,
         state: State::new(settings),
     }
+}
+
+// The bytes of the rows.
+fn row_bytes(s: State) -> [u8; REGION]
+    ensures { λ r. ⌜ r ≡ rowBytes s ⌝ }
+{
+    let values = values_of(s);
+    let widths = WIDTHS;
+    let mut out = [0u8; REGION];
+    let mut at = 0;
+    let mut k = 0;
+    while k < ROWS {
+        let end = at + widths[k];
+        put_number(values[k], &mut out[at..end]);
+        at = end;
+        k += 1;
+    }
+    out
+}
+
+// The bytes with the region of a chip.
+fn with_region(c: Chip, b: [u8; SIZE]) -> [u8; SIZE]
+    ensures { λ r. ⌜ r ≡ take regionOffset b ++ regionOf c ⌝ }
+{
+    let field55 = c.bytes;
+    let date = c.date;
+    let authorisation = c.authorisation;
+    let reference = c.reference;
+    let to363 = put(&field55, REGION, b);
+    let to365 = put(&date, DATE, to363);
+    let to371 = put(&authorisation, AUTHORISATION, to365);
+    put(&reference, REFERENCE, to371)
+}
+
+// The bytes with others from a place on.
+fn put(x: &[u8], at: usize, b: [u8; SIZE]) -> [u8; SIZE]
+    requires { ⌜ at + length (now x) ≤ size ⌝ }
+    ensures { λ r. ⌜ r ≡ take at b ++ (now (x .entry) ++ drop (at + length (now (x .entry))) b) ⌝ }
+{
+    let mut out = b;
+    let end = at + x.len();
+    bytes::copy(x, &mut out[at..end]);
+    out
 }
 
 // Fills out with the last bytes of a number.
@@ -138,6 +186,23 @@ fn number_in(b: &[u8], at: usize, width: usize) -> u64
     word
 }
 
+// Whether two slices hold the same numbers.
+fn same_numbers(a: &[u64], b: &[u64]) -> bool
+    ensures { λ r. ⌜ r ≡ sameBytes (now (a .entry)) (now (b .entry)) ⌝ }
+{
+    if a.len() != b.len() {
+        return false;
+    }
+    let mut i = 0;
+    while i < a.len() {
+        if a[i] != b[i] {
+            return false;
+        }
+        i += 1;
+    }
+    true
+}
+
 // The number of each row.
 fn numbers_in(b: &[u8]) -> [u64; ROWS]
     requires { ⌜ length (now b) ≡ size ⌝ }
@@ -156,36 +221,50 @@ fn numbers_in(b: &[u8]) -> [u64; ROWS]
     numbers
 }
 
-// The numbers of a state: the version in the first row, and the others put after it.
+// The number of each row, of a state.
 pub fn values_of(s: State) -> [u64; ROWS]
     ensures { λ r. ⌜ r ≡ valuesOf s ⌝ }
 {
     let settings = s.settings;
     let counts = s.counts;
+    let chip = s.chip;
     let phase = s.phase;
     let x = settings_values(settings);
     let m = member_values(s);
     let c = counts_values(counts);
     let p = phase_values(phase);
-    let to1 = [VERSION; ROWS];
-    let to7 = put_values(&x, 1, to1);
-    let to11 = put_values(&m, 7, to7);
-    let to17 = put_values(&c, 11, to11);
-    put_values(&p, 17, to17)
-}
-
-// The numbers with others from a row on.
-fn put_values(x: &[u64], at: usize, v: [u64; ROWS]) -> [u64; ROWS]
-    requires { ⌜ at + length (now x) ≤ rows ⌝ }
-    ensures { λ r. ⌜ r ≡ paste v at (now (x .entry)) (length (now (x .entry))) ⌝ }
-{
-    let mut out = v;
-    let mut i = 0;
-    while i < x.len() {
-        out[at + i] = x[i];
-        i += 1;
-    }
-    out
+    let k = chip_values(chip);
+    [
+        VERSION,
+        x[0],
+        x[1],
+        x[2],
+        x[3],
+        x[4],
+        x[5],
+        m[0],
+        m[1],
+        m[2],
+        m[3],
+        c[0],
+        c[1],
+        c[2],
+        c[3],
+        c[4],
+        c[5],
+        p[0],
+        p[1],
+        p[2],
+        p[3],
+        p[4],
+        p[5],
+        p[6],
+        p[7],
+        p[8],
+        p[9],
+        k[0],
+        k[1],
+    ]
 }
 
 fn settings_values(x: Settings) -> [u64; 6]
@@ -210,15 +289,15 @@ fn member_values(s: State) -> [u64; 4]
     let batch = s.batch;
     let next = s.next;
     [
-        signed_value(s.signed_on),
+        flag_value(s.signed_on),
         batch.0 as u64,
         next.0 as u64,
         s.entries as u64,
     ]
 }
 
-fn signed_value(on: bool) -> u64
-    ensures { λ r. ⌜ r ≡ signedValue on ⌝ }
+fn flag_value(on: bool) -> u64
+    ensures { λ r. ⌜ r ≡ flagValue on ⌝ }
 {
     if on { 1 } else { 0 }
 }
@@ -234,6 +313,13 @@ fn counts_values(c: Counts) -> [u64; 6]
         c.given_up as u64,
         c.unanswered as u64,
     ]
+}
+
+// Length of field 55, approved.
+fn chip_values(c: Chip) -> [u64; 2]
+    ensures { λ r. ⌜ r ≡ chipValues c ⌝ }
+{
+    [c.length as u64, flag_value(c.approved)]
 }
 
 fn phase_values(p: Phase) -> [u64; 10]
@@ -300,16 +386,19 @@ fn reason_value(r: Reason) -> u64
     match r {
         Reason::Silence => 0,
         Reason::BadMac => 1,
+        Reason::CardDeclined => 2,
     }
 }
 
-// The state that the numbers of the rows say.
-fn state_of(v: [u64; ROWS]) -> State
-    ensures { λ r. ⌜ r ≡ stateOf v ⌝ }
+// The state that the numbers of the rows and the region say.
+fn state_of(v: [u64; ROWS], region: &[u8]) -> State
+    requires { ⌜ length (now region) + regionOffset ≡ size ⌝ }
+    ensures { λ r. ⌜ r ≡ stateOf v (now (region .entry)) ⌝ }
 {
     let settings = settings_of(&v[1..7]);
     let counts = counts_of(&v[11..17]);
     let phase = phase_of(&v[17..27]);
+    let chip = chip_in(&v[27..29], region);
     let batch = Batch(low32(v[8]));
     let next = Trace(low32(v[9]));
     State {
@@ -319,6 +408,7 @@ fn state_of(v: [u64; ROWS]) -> State
         next: next,
         entries: low16(v[10]),
         counts: counts,
+        chip: chip,
         phase: phase,
     }
 }
@@ -359,6 +449,29 @@ fn counts_of(v: &[u64]) -> Counts
         reversed: low32(v[3]),
         given_up: low32(v[4]),
         unanswered: low32(v[5]),
+    }
+}
+
+// The chip in its two rows and the region.
+fn chip_in(v: &[u64], region: &[u8]) -> Chip
+    requires { ⌜ (length (now v) ≡ 2) × (length (now region) + regionOffset ≡ size) ⌝ }
+    ensures { λ r. ⌜ r ≡ chipIn (now (v .entry)) (now (region .entry)) ⌝ }
+{
+    let mut field55 = [0u8; 255];
+    let mut date = [0u8; 2];
+    let mut authorisation = [0u8; 6];
+    let mut reference = [0u8; 12];
+    bytes::copy(&region[0..255], &mut field55);
+    bytes::copy(&region[255..257], &mut date);
+    bytes::copy(&region[257..263], &mut authorisation);
+    bytes::copy(&region[263..275], &mut reference);
+    Chip {
+        length: low8(v[0]),
+        bytes: field55,
+        approved: v[1] == 1,
+        date: date,
+        authorisation: authorisation,
+        reference: reference,
     }
 }
 
@@ -424,6 +537,9 @@ fn reason_of(x: u64) -> Reason
 {
     if x == 1 {
         return Reason::BadMac;
+    }
+    if x == 2 {
+        return Reason::CardDeclined;
     }
     Reason::Silence
 }

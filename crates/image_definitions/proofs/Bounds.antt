@@ -12,8 +12,9 @@ use Rattle.digits.proofs.Lists.{all-at, getD-past}
 use Rattle.state.specs.declared.Phase.the-variants.{Resting}
 use Rattle.image_definitions.specs.Layout.{widths, rows, bytesOf}
 use Rattle.image_definitions.specs.Image.{rowsFrom, settingsOf, countsOf, requestOf, reversalOf, phasesOf, stateOf}
-use Rattle.image_definitions.specs.Sized.{SizedSettings, SizedCounts, SizedRequest, SizedReversal, SizedPhase, Sized}
+use Rattle.image_definitions.specs.Sized.{Bytes, SizedSettings, SizedCounts, SizedRequest, SizedReversal, SizedPhase, Sized}
 use Rattle.image_definitions.proofs.Laid.{length-bytesOf, append-bytes, bytesOf-bytes}
+use Rattle.image_definitions.proofs.Region.{sized-chip}
 
 pub rows-at : (at n : ℕ) (v : List ℕ) (i : ℕ) → i < n → getD (rowsFrom at n v) i 0 ≡ getD v (at + i) 0
 rows-at at n v i h = getD-take n _ i 0 h ∙ getD-drop at v i 0
@@ -63,16 +64,17 @@ module _ (v : List ℕ) (amount : getD v 2 0 < 2 ^ 64) (card : getD v 3 0 < 2 ^ 
   sized-phase (suc (suc (suc (suc (suc (suc (suc (suc zero)))))))) = tt
   sized-phase (suc (suc (suc (suc (suc (suc (suc (suc (suc p))))))))) = tt
 
--- numbers that fit their rows say a state within its sizes
-pub sized-state : (v : List ℕ) → ((i : ℕ) → getD v i 0 < 256 ^ getD widths i 0) → Sized (stateOf v)
+-- numbers that fit their rows, and bytes, say a state within its sizes
+pub sized-state : (v r : List ℕ) → ((i : ℕ) → getD v i 0 < 256 ^ getD widths i 0) → Bytes r → Sized (stateOf v r)
 unfolding widths stateOf
-sized-state v below =
+sized-state v r below s =
     record {
       settings = sized-settings (rowsFrom 1 6 v) (rw (rows-at 1 6 v 2 (omega arith)) (below 3));
       batch = omega arith;
       next = omega arith;
       entries = omega arith;
       counts = sized-counts (rowsFrom 11 6 v);
+      chip = sized-chip (rowsFrom 27 2 v) r s;
       phase =
           sized-phase (rowsFrom 17 10 v) (rw (rows-at 17 10 v 2 (omega arith)) (below 19)) (rw (rows-at 17 10 v 3 (omega arith)) (below 20))
           (getD (rowsFrom 17 10 v) 0 0);

@@ -6,7 +6,7 @@ use native.Mathlib.Nat.{pow-suc, pow-zero}
 use native.Mathlib.Numerals.{add-one}
 use native.Mathlib.Omega.{arith}
 use lib.ListN.{length, getD, take, drop, set, length-append, length-drop, length-set, drop-of-length-le}
-use lib.Seq.{getD-at, getD-drop, getD-set-same, drop-at, drop-cons, drop-drop, drop-length, drop-set-lt, length-take-le, take-all, take-at, take-suc, take-suc-set, append-snoc}
+use lib.Seq.{getD-at, getD-drop, getD-set-same, drop-at, drop-cons, drop-drop, drop-length, drop-set-lt, length-take-le, take-add, take-all, take-at, take-suc, take-suc-set, append-snoc}
 use borrow.Rule.Slice.PartMut.{putMid, same-len-mid}
 use Rattle.field.specs.Bitmap.{wordOf}
 use Rattle.parts.specs.Layout.{sum}
@@ -78,17 +78,25 @@ fits-append [] (x ∷ xs) vs ys f g = absurd f
 fits-append (w ∷ ws) [] vs ys f g = absurd f
 fits-append (w ∷ ws) (x ∷ xs) vs ys f g = (f .0, fits-append ws xs vs ys (f .1) g)
 
--- numbers that fit, laid and read, are the numbers
-pub numbers-laid : (ws xs : List ℕ) → Fits ws xs → numbersIn ws (laidIn ws xs) ≡ xs
-numbers-laid [] [] f = refl
-numbers-laid [] (x ∷ xs) f = absurd f
-numbers-laid (w ∷ ws) [] f = absurd f
-numbers-laid (w ∷ ws) (x ∷ xs) f =
+-- numbers that fit, laid and read, are the numbers, whatever stands after them
+pub numbers-laid : (ws xs rest : List ℕ) → Fits ws xs → numbersIn ws (laidIn ws xs ++ rest) ≡ xs
+numbers-laid [] [] rest f = refl
+numbers-laid [] (x ∷ xs) rest f = absurd f
+numbers-laid (w ∷ ws) [] rest f = absurd f
+numbers-laid (w ∷ ws) (x ∷ xs) rest f =
     rw (
-      word-bytes w x (laidIn ws xs) (f .0),
-      drop-at (bytesOf w x) (laidIn ws xs) w (length-bytesOf w x),
-      numbers-laid ws xs (f .1),
+      append-assoc (bytesOf w x) (laidIn ws xs) rest,
+      word-bytes w x (laidIn ws xs ++ rest) (f .0),
+      drop-at (bytesOf w x) (laidIn ws xs ++ rest) w (length-bytesOf w x),
+      numbers-laid ws xs rest (f .1),
     )
+
+-- the numbers that bytes say, laid again, are those bytes
+pub laid-numbers : (ws b : List ℕ) → Bytes b → sum ws ≤ length b → laidIn ws (numbersIn ws b) ≡ take (sum ws) b
+laid-numbers [] b s h = refl
+laid-numbers (w ∷ ws) b s h =
+    let l : sum ws ≤ length (drop w b) = rw length-drop (omega (arith, h)) in
+    rw (bytes-word w b s (omega (arith, h)), laid-numbers ws (drop w b) (drop-bytes w b s) l) (sym (take-add w (sum ws) b))
 
 -- a number read fits its width
 pub numbers-below : (ws b : List ℕ) → Bytes b → (i : ℕ) → getD (numbersIn ws b) i 0 < 256 ^ getD ws i 0

@@ -1,5 +1,6 @@
 -- Laws of the image, for other crates to cite.
 pub mod Laid
+pub mod Region
 pub mod Values
 pub mod Bounds
 pub mod Theorems

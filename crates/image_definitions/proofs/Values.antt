@@ -1,29 +1,31 @@
 -- The numbers of a state say that state, and fit their rows.
 use mathlib.Core.Path.{_≡_, refl, ap, _∙_}
-use mathlib.Core.List.{List, _++_, append-nil}
+use mathlib.Core.List.{List, [], _∷_, _++_, append-nil}
 use mathlib.Core.Bool.{Bool, true, false}
 use Prim.Native.Nat.{ℕ, _^_, _<_}
 use native.Mathlib.Nat.{mod-eq-of-lt}
 use native.Mathlib.Omega.{arith}
-use lib.Dec.{eqb, lit<}
-use lib.ListN.{length, take, drop, replicate, take-append-drop, length-append, length-drop}
-use lib.Seq.{paste, take-all, take-at, take-length, drop-at}
+use lib.Dec.{lit<}
+use lib.ListN.{length, getD, take, drop, replicate, take-append-drop, length-append, length-drop}
+use lib.Seq.{take-all, take-at, drop-at}
 use borrow.Rule.Slice.PartMut.{putMid}
 use Rattle.field.specs.Bitmap.{wordOf}
 use Rattle.state.specs.declared.Request.{Request}
 use Rattle.state.specs.declared.Reason.{Reason}
-use Rattle.state.specs.declared.Reason.the-variants.{Silence, BadMac}
+use Rattle.state.specs.declared.Reason.the-variants.{Silence, BadMac, CardDeclined}
 use Rattle.state.specs.declared.Reversal.{Reversal}
 use Rattle.state.specs.declared.Awaited.the-variants as awaited
 use Rattle.state.specs.declared.Phase.{Phase}
 use Rattle.state.specs.declared.Phase.the-variants.{Resting, Waiting, Pending, Settling, Uploading}
 use Rattle.state.specs.declared.Settings.{Settings}
 use Rattle.state.specs.declared.Counts.{Counts}
+use Rattle.state.specs.declared.Chip.{Chip}
 use Rattle.state.specs.declared.State.{State}
-use Rattle.image_definitions.specs.Layout.{widths, rows, bytesOf}
-use Rattle.image_definitions.specs.Image.{version, reasonValue, requestValues, reversalValues, plainValues, phaseValues, signedValue, memberValues, settingsValues, countsValues, valuesOf, merchantOf, rowsFrom, settingsOf, countsOf, requestOf, reasonOf, reversalOf, phaseOf, stateOf}
-use Rattle.image_definitions.specs.Sized.{Bytes, SizedSettings, SizedCounts, SizedRequest, SizedReversal, SizedPhase, Sized}
+use Rattle.image_definitions.specs.Layout.{widths, bytesOf}
+use Rattle.image_definitions.specs.Image.{version, reasonValue, requestValues, reversalValues, plainValues, phaseValues, flagValue, memberValues, settingsValues, countsValues, chipValues, valuesOf, regionOf, merchantOf, rowsFrom, settingsOf, countsOf, requestOf, reasonOf, reversalOf, phaseOf, stateOf}
+use Rattle.image_definitions.specs.Sized.{Bytes, SizedSettings, SizedCounts, SizedChip, SizedRequest, SizedReversal, SizedPhase, Sized}
 use Rattle.image_definitions.proofs.Laid.{Fits, fits-append, length-bytesOf, bytes-word, word-below, drop-bytes}
+use Rattle.image_definitions.proofs.Region.{flag-back, chip-back}
 
 -- all the bytes of a list, as a number and again as bytes
 all-bytes : (n : ℕ) (b : List ℕ) → Bytes b → length b ≡ n → bytesOf n (wordOf n b) ≡ b
@@ -61,38 +63,48 @@ request-back p q reason n z =
 reason-back : (r : Reason) → reasonOf (reasonValue r) ≡ r
 reason-back Silence = refl
 reason-back BadMac = refl
+reason-back CardDeclined = refl
 
 reversal-back : (p : ℕ) (v : Reversal) → SizedReversal v → reversalOf (reversalValues p v) ≡ v
 reversal-back p v z =
     rw (request-back p (v .request) (reasonValue (v .reason)) (v .sendings) (z .request), reason-back (v .reason), mod-eq-of-lt (z .sendings))
 
-phase-back : (p : Phase) → SizedPhase p → phaseOf (take 10 (phaseValues p)) ≡ p
-phase-back Resting z = refl
-phase-back (Waiting (awaited.Request q)) z = ap (λ (r : Request). Waiting (awaited.Request r)) (request-back 1 q 0 0 z)
-phase-back (Waiting (awaited.Reversal v)) z = ap (λ (r : Reversal). Waiting (awaited.Reversal r)) (reversal-back 2 v z)
-phase-back (Waiting (awaited.Settlement t)) z = rw (mod-eq-of-lt z)
-phase-back (Waiting (awaited.Item i)) z = rw (mod-eq-of-lt z)
-phase-back (Waiting (awaited.End t)) z = rw (mod-eq-of-lt z)
-phase-back (Pending v) z = ap Pending (reversal-back 6 v z)
-phase-back Settling z = refl
-phase-back Uploading z = refl
+phase-back : (p : Phase) (l : List ℕ) → SizedPhase p → phaseOf (take 10 (phaseValues p ++ l)) ≡ p
+phase-back Resting l z = refl
+phase-back (Waiting (awaited.Request q)) l z = ap (λ (r : Request). Waiting (awaited.Request r)) (request-back 1 q 0 0 z)
+phase-back (Waiting (awaited.Reversal v)) l z = ap (λ (r : Reversal). Waiting (awaited.Reversal r)) (reversal-back 2 v z)
+phase-back (Waiting (awaited.Settlement t)) l z = rw (mod-eq-of-lt z)
+phase-back (Waiting (awaited.Item i)) l z = rw (mod-eq-of-lt z)
+phase-back (Waiting (awaited.End t)) l z = rw (mod-eq-of-lt z)
+phase-back (Pending v) l z = ap Pending (reversal-back 6 v z)
+phase-back Settling l z = refl
+phase-back Uploading l z = refl
 
-signed-back : (on : Bool) → eqb (signedValue on) 1 ≡ on
-signed-back true = refl
-signed-back false = refl
+length-phase : (p : Phase) → length (phaseValues p) ≡ 10
+length-phase Resting = refl
+length-phase (Waiting (awaited.Request q)) = refl
+length-phase (Waiting (awaited.Reversal v)) = refl
+length-phase (Waiting (awaited.Settlement t)) = refl
+length-phase (Waiting (awaited.Item i)) = refl
+length-phase (Waiting (awaited.End t)) = refl
+length-phase (Pending v) = refl
+length-phase Settling = refl
+length-phase Uploading = refl
 
--- the numbers of a state say that state
-pub state-back : (s : State) → Sized s → stateOf (valuesOf s) ≡ s
+-- the numbers and the region of a state say that state
+pub state-back : (s : State) → Sized s → stateOf (valuesOf s) (regionOf (s .chip)) ≡ s
 unfolding stateOf valuesOf
 state-back s z =
     rw (
       settings-back (s .settings) (z .settings),
-      signed-back (s .«signed_on»),
+      flag-back (s .«signed_on»),
       mod-eq-of-lt (z .batch),
       mod-eq-of-lt (z .next),
       mod-eq-of-lt (z .entries),
       counts-back (s .counts) (z .counts),
-      phase-back (s .phase) (z .phase),
+      drop-at (phaseValues (s .phase)) (chipValues (s .chip)) 10 (length-phase (s .phase)),
+      chip-back (s .chip) (z .chip),
+      phase-back (s .phase) (chipValues (s .chip)) (z .phase),
     )
 
 -- the widths of the ten rows of the phase
@@ -108,6 +120,7 @@ request-fits p q reason n h z r m =
 reason-small : (r : Reason) → reasonValue r < 256
 reason-small Silence = omega arith
 reason-small BadMac = omega arith
+reason-small CardDeclined = omega arith
 
 plain-fits : (p x : ℕ) → p < 256 → x < 2 ^ 32 → Fits phaseWidths (plainValues p x)
 unfolding widths phaseWidths
@@ -127,9 +140,9 @@ phase-fits (Pending v) z =
 phase-fits Settling z = plain-fits 7 0 (omega arith) (omega arith)
 phase-fits Uploading z = plain-fits 8 0 (omega arith) (omega arith)
 
-signed-small : (on : Bool) → signedValue on < 256
-signed-small true = omega arith
-signed-small false = omega arith
+flag-small : (on : Bool) → flagValue on < 256
+flag-small true = omega arith
+flag-small false = omega arith
 
 settings-fit : (x : Settings) → SizedSettings x → Fits (rowsFrom 1 6 widths) (settingsValues x)
 unfolding widths
@@ -140,11 +153,15 @@ settings-fit x z =
 
 members-fit : (s : State) → Sized s → Fits (rowsFrom 7 4 widths) (memberValues s)
 unfolding widths
-members-fit s z = (signed-small (s .«signed_on»), (z .batch, (z .next, (z .entries, tt))))
+members-fit s z = (flag-small (s .«signed_on»), (z .batch, (z .next, (z .entries, tt))))
 
 counts-fit : (c : Counts) → SizedCounts c → Fits (rowsFrom 11 6 widths) (countsValues c)
 unfolding widths
 counts-fit c z = (z .sent, (z .approved, (z .declined, (z .reversed, (z .given-up, (z .unanswered, tt))))))
+
+chip-fits : (c : Chip) → SizedChip c → Fits (rowsFrom 27 2 widths) (chipValues c)
+unfolding widths
+chip-fits c z = (z .count, (flag-small (c .approved), tt))
 
 -- each number of a state fits its row
 pub values-fit : (s : State) → Sized s → Fits widths (valuesOf s)
@@ -154,30 +171,36 @@ values-fit s z =
     let m = memberValues s in
     let c = countsValues (s .counts) in
     let p = phaseValues (s .phase) in
-    let from11 = fits-append (rowsFrom 11 6 widths) c phaseWidths p (counts-fit (s .counts) (z .counts)) (phase-fits (s .phase) (z .phase)) in
-    let from7 = fits-append (rowsFrom 7 4 widths) m (rowsFrom 11 16 widths) (c ++ p) (members-fit s z) from11 in
-    (lit< tt, fits-append (rowsFrom 1 6 widths) x (rowsFrom 7 20 widths) (m ++ (c ++ p)) (settings-fit (s .settings) (z .settings)) from7)
+    let k = chipValues (s .chip) in
+    let from17 = fits-append phaseWidths p (rowsFrom 27 2 widths) k (phase-fits (s .phase) (z .phase)) (chip-fits (s .chip) (z .chip)) in
+    let from11 = fits-append (rowsFrom 11 6 widths) c (rowsFrom 17 12 widths) (p ++ k) (counts-fit (s .counts) (z .counts)) from17 in
+    let from7 = fits-append (rowsFrom 7 4 widths) m (rowsFrom 11 18 widths) (c ++ (p ++ k)) (members-fit s z) from11 in
+    (lit< tt, fits-append (rowsFrom 1 6 widths) x (rowsFrom 7 22 widths) (m ++ (c ++ (p ++ k))) (settings-fit (s .settings) (z .settings)) from7)
 
-length-phase : (p : Phase) → length (phaseValues p) ≡ 10
-length-phase Resting = refl
-length-phase (Waiting (awaited.Request q)) = refl
-length-phase (Waiting (awaited.Reversal v)) = refl
-length-phase (Waiting (awaited.Settlement t)) = refl
-length-phase (Waiting (awaited.Item i)) = refl
-length-phase (Waiting (awaited.End t)) = refl
-length-phase (Pending v) = refl
-length-phase Settling = refl
-length-phase Uploading = refl
+-- the ten numbers of a phase, one by one
+phase-listed : (p : Phase) (rest : List ℕ) → getD (phaseValues p) 0 0 ∷ getD (phaseValues p) 1 0 ∷ getD (phaseValues p) 2 0 ∷ getD (phaseValues p) 3 0 ∷ getD (phaseValues p) 4 0 ∷ getD (phaseValues p) 5 0 ∷ getD (phaseValues p) 6 0 ∷ getD (phaseValues p) 7 0 ∷ getD (phaseValues p) 8 0 ∷ getD (phaseValues p) 9 0 ∷ rest ≡ phaseValues p ++ rest
+phase-listed Resting rest = refl
+phase-listed (Waiting (awaited.Request q)) rest = refl
+phase-listed (Waiting (awaited.Reversal v)) rest = refl
+phase-listed (Waiting (awaited.Settlement t)) rest = refl
+phase-listed (Waiting (awaited.Item i)) rest = refl
+phase-listed (Waiting (awaited.End t)) rest = refl
+phase-listed (Pending v) rest = refl
+phase-listed Settling rest = refl
+phase-listed Uploading rest = refl
 
--- the numbers of a state, put group by group
-pub values-put : (s : State) {x m c p v₇ v₁₁ v₁₇ v : List ℕ} → x ≡ settingsValues (s .settings) → m ≡ memberValues s
-    → c ≡ countsValues (s .counts) → p ≡ phaseValues (s .phase)
-    → v₇ ≡ paste (replicate rows version) 1 x (length x) → v₁₁ ≡ paste v₇ 7 m (length m) → v₁₇ ≡ paste v₁₁ 11 c (length c)
-    → v ≡ paste v₁₇ 17 p (length p) → v ≡ valuesOf s
+-- the numbers of a state, listed one by one
+pub values-listed : (s : State) {x m c p k : List ℕ} → x ≡ settingsValues (s .settings) → m ≡ memberValues s
+    → c ≡ countsValues (s .counts) → p ≡ phaseValues (s .phase) → k ≡ chipValues (s .chip)
+    → version
+    ∷ getD x 0 0 ∷ getD x 1 0 ∷ getD x 2 0 ∷ getD x 3 0 ∷ getD x 4 0 ∷ getD x 5 0
+    ∷ getD m 0 0 ∷ getD m 1 0 ∷ getD m 2 0 ∷ getD m 3 0
+    ∷ getD c 0 0 ∷ getD c 1 0 ∷ getD c 2 0 ∷ getD c 3 0 ∷ getD c 4 0 ∷ getD c 5 0
+    ∷ getD p 0 0 ∷ getD p 1 0 ∷ getD p 2 0 ∷ getD p 3 0 ∷ getD p 4 0 ∷ getD p 5 0 ∷ getD p 6 0 ∷ getD p 7 0 ∷ getD p 8 0 ∷ getD p 9 0
+    ∷ getD k 0 0 ∷ getD k 1 0 ∷ []
+    ≡ valuesOf s
 unfolding valuesOf
-values-put s {p = p} ex em ec ep e₇ e₁₁ e₁₇ e =
-    let l : length p ≡ 10 = rw ep (length-phase (s .phase)) in
-    e ∙ rw (take-length p, e₁₇, e₁₁, e₇, ex, em, ec, l, append-nil p, ep)
+values-listed s ex em ec ep ek = rw (ex, em, ec, ep, ek, phase-listed (s .phase) (chipValues (s .chip)))
 
 -- field 42, put as two numbers into 15 bytes
 pub merchant-room : (x : ℕ) {a : List ℕ} → a ≡ bytesOf 8 x → length (a ++ replicate 7 0) ≡ 15

@@ -9,7 +9,7 @@ use Rattle.field.specs.Bitmap.{wordOf}
 use Rattle.state.specs.State.{fresh}
 use Rattle.state.specs.declared.Request.{Request}
 use Rattle.state.specs.declared.Reason.{Reason}
-use Rattle.state.specs.declared.Reason.the-variants.{Silence, BadMac}
+use Rattle.state.specs.declared.Reason.the-variants.{Silence, BadMac, CardDeclined}
 use Rattle.state.specs.declared.Reversal.{Reversal}
 use Rattle.state.specs.declared.Awaited.{Awaited}
 use Rattle.state.specs.declared.Awaited.the-variants as awaited
@@ -17,17 +17,19 @@ use Rattle.state.specs.declared.Phase.{Phase}
 use Rattle.state.specs.declared.Phase.the-variants.{Resting, Waiting, Pending, Settling, Uploading}
 use Rattle.state.specs.declared.Settings.{Settings}
 use Rattle.state.specs.declared.Counts.{Counts}
+use Rattle.state.specs.declared.Chip.{Chip}
 use Rattle.state.specs.declared.State.{State}
-use Rattle.image_definitions.specs.Layout.{widths, bytesOf, laidIn, numbersIn}
+use Rattle.image_definitions.specs.Layout.{widths, regionOffset, bytesOf, laidIn, numbersIn, firstOf}
 use Rattle.image_definitions.specs.declared.Reading.{Reading}
 
 -- the version of the format
 abbrev pub version : ℕ
-version = 1
+version = 2
 
 abbrev pub reasonValue : Reason → ℕ
 reasonValue Silence = 0
 reasonValue BadMac = 1
+reasonValue CardDeclined = 2
 
 -- the numbers of a phase that holds a request: its number, the request, reason and sendings of its reversal
 abbrev pub requestValues : ℕ → Request → ℕ → ℕ → List ℕ
@@ -55,8 +57,8 @@ phaseValues (Pending v) = reversalValues 6 v
 phaseValues Settling = plainValues 7 0
 phaseValues Uploading = plainValues 8 0
 
-abbrev pub signedValue : Bool → ℕ
-signedValue on = cond on 1 0
+abbrev pub flagValue : Bool → ℕ
+flagValue on = cond on 1 0
 
 -- the numbers of the settings: the bytes of field 41 are one, and those of field 42 two
 abbrev pub settingsValues : Settings → List ℕ
@@ -65,19 +67,32 @@ settingsValues x =
 
 -- signed on, batch, next trace, entries
 abbrev pub memberValues : State → List ℕ
-memberValues s = signedValue (s .«signed_on») ∷ s .batch .0 ∷ s .next .0 ∷ s .entries ∷ []
+memberValues s = flagValue (s .«signed_on») ∷ s .batch .0 ∷ s .next .0 ∷ s .entries ∷ []
 
 abbrev pub countsValues : Counts → List ℕ
 countsValues c = c .sent ∷ c .approved ∷ c .declined ∷ c .reversed ∷ c .«given_up» ∷ c .unanswered ∷ []
 
+-- length of field 55, approved
+abbrev pub chipValues : Chip → List ℕ
+chipValues c = c .length ∷ flagValue (c .approved) ∷ []
+
 -- the number of each row of the layout
 unfoldable pub valuesOf : State → List ℕ
 valuesOf s =
-    version ∷ (settingsValues (s .settings) ++ (memberValues s ++ (countsValues (s .counts) ++ phaseValues (s .phase))))
+    version
+    ∷ (settingsValues (s .settings) ++ (memberValues s ++ (countsValues (s .counts) ++ (phaseValues (s .phase) ++ chipValues (s .chip)))))
+
+-- the bytes of the rows
+abbrev pub rowBytes : State → List ℕ
+rowBytes s = laidIn widths (valuesOf s)
+
+-- the region of bytes: field 55, date, authorisation, reference
+unfoldable pub regionOf : Chip → List ℕ
+regionOf c = firstOf 255 (c .bytes) ++ (firstOf 2 (c .date) ++ (firstOf 6 (c .authorisation) ++ firstOf 12 (c .reference)))
 
 -- the image of a state
 unfoldable pub image : State → List ℕ
-image s = laidIn widths (valuesOf s)
+image s = rowBytes s ++ regionOf (s .chip)
 
 -- number i, of which a value of 8, 16 or 32 bits keeps so many bits
 abbrev pub bitsOf : ℕ → List ℕ → ℕ → ℕ
@@ -122,7 +137,7 @@ requestOf v =
     }
 
 abbrev pub reasonOf : ℕ → Reason
-reasonOf x = cond (eqb x 1) BadMac Silence
+reasonOf x = cond (eqb x 1) BadMac (cond (eqb x 2) CardDeclined Silence)
 
 abbrev pub reversalOf : List ℕ → Reversal
 reversalOf v = record { request = requestOf v; reason = reasonOf (getD v 7 0); sendings = bitsOf 8 v 8 }
@@ -148,9 +163,21 @@ phaseOf v = getD (phasesOf v) (getD v 0 0) Resting
 abbrev pub rowsFrom : ℕ → ℕ → List ℕ → List ℕ
 rowsFrom at n v = take n (drop at v)
 
--- the state that the numbers of the rows say; numbers that no state has give some state
-unfoldable pub stateOf : List ℕ → State
-stateOf v =
+-- the chip in its two rows and the region
+abbrev pub chipIn : List ℕ → List ℕ → Chip
+chipIn v r =
+    record {
+      length = bitsOf 8 v 0;
+      bytes = firstOf 255 r;
+      approved = eqb (getD v 1 0) 1;
+      date = firstOf 2 (drop 255 r);
+      authorisation = firstOf 6 (drop 257 r);
+      reference = firstOf 12 (drop 263 r);
+    }
+
+-- the state that the numbers of the rows and the region say; numbers that no state has give some state
+unfoldable pub stateOf : List ℕ → List ℕ → State
+stateOf v r =
     record {
       settings = settingsOf (rowsFrom 1 6 v);
       «signed_on» = eqb (getD v 7 0) 1;
@@ -158,8 +185,12 @@ stateOf v =
       next = record { 0 = bitsOf 32 v 9 };
       entries = bitsOf 16 v 10;
       counts = countsOf (rowsFrom 11 6 v);
+      chip = chipIn (rowsFrom 27 2 v) r;
       phase = phaseOf (rowsFrom 17 10 v);
     }
+
+abbrev pub stateIn : List ℕ → State
+stateIn b = stateOf (numbersIn widths b) (drop regionOffset b)
 
 abbrev pub accepted : State → Reading
 accepted s = record { accepted = true; state = s }
@@ -176,7 +207,7 @@ unfoldable pub judged : List ℕ → State → Reading
 judged b s = cond (sameBytes b (image s)) (accepted s) refused
 
 -- Bytes are accepted where the state that they say, written again, gives the same bytes. So these are refused: another length or
--- version; signed on other than 0 or 1; a phase above 8; a reason above 1; a place of an item above 65535; a number other than 0
--- that the phase does not use.
+-- version; signed on or approved other than 0 or 1; a phase above 8; a reason above 2; a place of an item above 65535; a number
+-- other than 0 that the phase does not use.
 unfoldable pub readImage : List ℕ → Reading
-readImage b = judged b (stateOf (numbersIn widths b))
+readImage b = judged b (stateIn b)

@@ -1,7 +1,7 @@
--- The layout of the image: numbers one after another, each of so many bytes, the highest byte first.
+-- The layout of the image: numbers one after another, each of so many bytes, the highest byte first; then bytes as they stand.
 use mathlib.Core.List.{List, [], _∷_, _++_}
 use Prim.Native.Nat.{ℕ, zero, suc, _/_, _%_}
-use lib.ListN.{getD, drop}
+use lib.ListN.{getD, take, drop, replicate}
 use Rattle.field.specs.Bitmap.{wordOf}
 
 -- the bytes of each number, in the image's order: a row for each number of the state
@@ -22,15 +22,21 @@ widths =
     -- its reversal: reason, sendings
     ∷ 1 ∷ 1
     -- trace of a settlement or of an upload's end, place of an item
-    ∷ 4 ∷ []
+    ∷ 4
+    -- chip: length of field 55, approved
+    ∷ 1 ∷ 1 ∷ []
 
 -- how many they are
 abbrev pub rows : ℕ
-rows = 27
+rows = 29
+
+-- where the region of bytes stands: after the numbers
+abbrev pub regionOffset : ℕ
+regionOffset = 108
 
 -- the bytes of the image
 abbrev pub size : ℕ
-size = 106
+size = 383
 
 -- the last n bytes of x
 unfoldable pub bytesOf : ℕ → ℕ → List ℕ
@@ -46,3 +52,7 @@ laidIn (w ∷ ws) xs = bytesOf w (getD xs 0 0) ++ laidIn ws (drop 1 xs)
 abbrev pub numbersIn : List ℕ → List ℕ → List ℕ
 numbersIn [] b = []
 numbersIn (w ∷ ws) b = wordOf w b ∷ numbersIn ws (drop w b)
+
+-- the first n bytes; zeros where there are fewer
+unfoldable pub firstOf : ℕ → List ℕ → List ℕ
+firstOf n b = take n (b ++ replicate n 0)

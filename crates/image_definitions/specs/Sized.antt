@@ -11,6 +11,7 @@ use Rattle.state.specs.declared.Phase.{Phase}
 use Rattle.state.specs.declared.Phase.the-variants.{Resting, Waiting, Pending, Settling, Uploading}
 use Rattle.state.specs.declared.Settings.{Settings}
 use Rattle.state.specs.declared.Counts.{Counts}
+use Rattle.state.specs.declared.Chip.{Chip}
 use Rattle.state.specs.declared.State.{State}
 
 -- each is a byte; past its end a list reads as zeros
@@ -33,6 +34,17 @@ pub record SizedCounts (c : Counts) : Type 0 where
   pub reversed : c .reversed < 2 ^ 32
   pub given-up : c .«given_up» < 2 ^ 32
   pub unanswered : c .unanswered < 2 ^ 32
+
+pub record SizedChip (c : Chip) : Type 0 where
+  pub count : c .length < 2 ^ 8
+  pub field : length (c .bytes) ≡ 255
+  pub field-bytes : Bytes (c .bytes)
+  pub date : length (c .date) ≡ 2
+  pub date-bytes : Bytes (c .date)
+  pub authorisation : length (c .authorisation) ≡ 6
+  pub authorisation-bytes : Bytes (c .authorisation)
+  pub reference : length (c .reference) ≡ 12
+  pub reference-bytes : Bytes (c .reference)
 
 pub record SizedRequest (q : Request) : Type 0 where
   pub kind : q .kind < 2 ^ 8
@@ -66,4 +78,5 @@ pub record Sized (s : State) : Type 0 where
   pub next : s .next .0 < 2 ^ 32
   pub entries : s .entries < 2 ^ 16
   pub counts : SizedCounts (s .counts)
+  pub chip : SizedChip (s .chip)
   pub phase : SizedPhase (s .phase)

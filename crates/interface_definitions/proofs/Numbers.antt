@@ -28,11 +28,11 @@ use Rattle.rules.specs.Rules.{rules12, due}
 use Rattle.call_definitions.specs.SignOn.{signedOnRules, signedOn}
 use Rattle.call_definitions.specs.Start.{originalOf, entryOf, startRules, start}
 use Rattle.desk.specs.declared.Desk.{Desk}
-use Rattle.call_definitions.specs.Answer.{noAnswerRules, noAnswer, powerReturned, answerRules, readIn, answer}
+use Rattle.call_definitions.specs.Answer.{noAnswerRules, noAnswer, powerReturned, cardRules, cardAgrees, cardDeclines, answerRules, readIn, answer}
 use Rattle.call_definitions.specs.SendReversal.{sendReversalRules, sendFrom, sendReversal}
 use Rattle.call_definitions.specs.Settle.{settleRules, settle}
 use Rattle.call_definitions.specs.SendNextUpload.{sendNextUploadRules, sendsNext, uploadFrom, sendNextUpload}
-use Rattle.call_definitions.specs.Events.{Event, call, signed-on, starts, answers, no-answer, power-returned, send-reversal, settles, send-next-upload}
+use Rattle.call_definitions.specs.Events.{Event, call, signed-on, starts, answers, no-answer, power-returned, card-agrees, card-declines, send-reversal, settles, send-next-upload}
 use Rattle.interface_definitions.specs.Theorems.{last, Numbered, NumbersApart}
 
 -- an outcome that is no refusal, or is one by such a number
@@ -68,10 +68,10 @@ module _ (s : State) (lent : Lent) where
       go true e = h
       go false e = first-listed rs w (eqb-false (firstBroken rs) 0 e)
 
-  -- bytes that do not read are refused by 3 to 9
+  -- bytes that do not read are refused by a number of the reading
   reading-numbered : (n : ℕ) → among n readingRules ≡ true → Numbered n
   reading-numbered zero h = absurd (true≢false (sym h))
-  reading-numbered (suc n) h = (omega arith, omega (arith, among-below (suc n) 10 readingRules h refl))
+  reading-numbered (suc n) h = (omega arith, omega (arith, among-below (suc n) 24 readingRules h refl))
 
   read-apart : (o : Judgement) (good : Bool) (a : Message) → ((n : ℕ) → o ≡ Unread n → among n readingRules ≡ true)
       → Apart (readIn o good a s lent .outcome)
@@ -96,20 +96,22 @@ module _ (s : State) (lent : Lent) where
   upload-apart Settling = tt
   upload-apart Uploading = next-apart (nextDue (due Uploading) (entriesOf (s .entries) (lent .journal)))
 
-  start-apart : (d : Desk) → Apart (start d s lent .outcome)
+  start-apart : (d : Desk) (b : List ℕ) → Apart (start d b s lent .outcome)
   unfolding start
-  start-apart d =
+  start-apart d b =
       let es = entriesOf (s .entries) (lent .journal) in
-      judged-apart (startRules d s es (entryOf (originalOf d es) es) lent) _ refl tt
+      judged-apart (startRules d b s es (entryOf (originalOf d es) es) lent) _ refl tt
 
   call-apart : (e : Event) → Apart (call e s lent .outcome)
-  unfolding signedOn answer noAnswer powerReturned sendReversal settle sendNextUpload
+  unfolding signedOn answer noAnswer powerReturned cardAgrees cardDeclines sendReversal settle sendNextUpload
   call-apart (signed-on batch) = judged-apart (signedOnRules batch s lent) _ refl tt
-  call-apart (starts d) = start-apart d
+  call-apart (starts d b) = start-apart d b
   call-apart (answers b good) =
       judged-apart (rules12 s lent) _ refl (read-apart (readMessage b .outcome) good (readMessage b .message) (read-judged-by b))
   call-apart no-answer = judged-apart (noAnswerRules s lent) _ refl tt
   call-apart power-returned = judged-apart (rules12 s lent) _ refl tt
+  call-apart card-agrees = judged-apart (cardRules s lent) _ refl tt
+  call-apart card-declines = judged-apart (cardRules s lent) _ refl tt
   call-apart send-reversal = judged-apart (sendReversalRules s lent) _ refl (send-apart (s .phase))
   call-apart settles = judged-apart (settleRules s lent) _ refl tt
   call-apart send-next-upload = judged-apart (sendNextUploadRules s lent) _ refl (upload-apart (s .phase))

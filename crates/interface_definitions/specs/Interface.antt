@@ -1,6 +1,6 @@
 -- The functions for C: the number that each returns, and what it leaves in all that it may write, for every input.
 use mathlib.Core.List.{List, [], _∷_}
-use mathlib.Core.Bool.{cond, _&&_}
+use mathlib.Core.Bool.{Bool, false, cond, _&&_}
 use Prim.Native.Nat.{ℕ}
 use lib.Dec.{ltb, eqb}
 use lib.ListN.{length, getD, replicate}
@@ -24,7 +24,7 @@ use Rattle.image_definitions.specs.Layout.{rows, size}
 use Rattle.image_definitions.specs.Image.{valuesOf, image, readImage}
 use Rattle.call_definitions.specs.Events.{Event, call}
 
--- The numbers beside those of document 01: done, a message does not hold a field, a message is to be sent.
+-- The numbers beside those of documents 01 and 02: done, a message does not hold a field, a message is to be sent.
 abbrev pub done : ℕ
 done = 0
 
@@ -73,9 +73,9 @@ noImage b lent = record { number = outOfForm; length = 0; image = b; lent = lent
 unfoldable pub onImage : Event → List ℕ → Lent → Given
 onImage e b lent = cond (readImage b .accepted) (given (call e (readImage b .state) lent)) (noImage b lent)
 
--- what the desk keyed, in the order in which it is handed in
-abbrev pub deskOf : ℕ → ℕ → ℕ → ℕ → ℕ → ℕ → ℕ → List ℕ → List ℕ → Desk
-deskOf kind amount card digits original month day authorisation reference =
+-- what the desk keyed, in the order in which it is handed in; a chip's field 55 stands beside it
+abbrev pub deskOf : ℕ → ℕ → ℕ → ℕ → ℕ → ℕ → ℕ → List ℕ → List ℕ → Bool → Desk
+deskOf kind amount card digits original month day authorisation reference chip =
     record {
       kind = kind;
       amount = amount;
@@ -85,11 +85,12 @@ deskOf kind amount card digits original month day authorisation reference =
       day = day;
       authorisation = authorisation;
       reference = reference;
+      chip = chip;
     }
 
 -- zeros where a call takes nothing from the desk
 abbrev pub nothingKeyed : Desk
-nothingKeyed = deskOf 0 0 0 0 0 0 0 (replicate 6 0) (replicate 12 0)
+nothingKeyed = deskOf 0 0 0 0 0 0 0 (replicate 6 0) (replicate 12 0) false
 
 -- What a function that is no call leaves: the number returned, and what stands where it writes.
 pub record Returned (A : Type 0) : Type 0 where

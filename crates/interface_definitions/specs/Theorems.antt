@@ -16,7 +16,7 @@ use Rattle.interface_definitions.specs.Interface.{done, absent, sends, G
 abbrev pub OnStates : Type 0
 OnStates = (e : Event) (s : State) (lent : Lent) → Sized s → onImage e (image s) lent ≡ given (call e s lent)
 
--- the numbers from 1 to the one before `absent` are left to document 01
+-- the numbers from 1 to the one before `absent` are left to documents 01 and 02
 abbrev pub last : ℕ
 last = absent - 1
 

@@ -1,2 +1,2 @@
--- Laws of silence, for other crates to cite.
-pub mod Silence
+-- Laws of silence and of the card's consent, for other crates to cite.
+pub mod Phases

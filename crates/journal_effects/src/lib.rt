@@ -12,7 +12,7 @@ ghost use mathlib.Core.Path.{_≡_};
 ghost use Prim.Native.Nat.{_+_, _<_};
 ghost use Rattle.journal.specs.Journal.{entriesOf, entryAt};
 ghost use Rattle.state.specs.State.{CountsBounded};
-ghost use Rattle.effect_definitions.specs.JournalEffects.{changed, silentMark, marked, silent, silentIn, voidedAt, originalVoided, approved, onRequest, onItem, answered, resent};
+ghost use Rattle.effect_definitions.specs.JournalEffects.{changed, silentMark, marked, silent, silentIn, voidedAt, originalVoided, approved, granted, onRequest, agreed, agreedIn, onItem, answered, resent};
 
 // What silence leaves of what is awaited.
 pub fn silent(s: State, a: Awaited, journal: &mut [u8]) -> State
@@ -20,7 +20,9 @@ pub fn silent(s: State, a: Awaited, journal: &mut [u8]) -> State
 {
     let settings = s.settings;
     match a {
-        Awaited::Request(q) => state_effects::pending_or_unanswered(s, q, Reason::Silence),
+        Awaited::Request(q) => {
+            state_effects::pending_or_unanswered(s, q, state_effects::silence_of(s))
+        }
         Awaited::Reversal(v) => state_effects::failed(s, v),
         Awaited::Settlement(_) => s.in_phase(Phase::Settling),
         Awaited::Item(i) => {
@@ -56,6 +58,17 @@ pub fn answered(s: State, a: Awaited, m: Message, good: bool, journal: &mut [u8]
         }
         Awaited::End(_) => state_effects::on_end(s, m),
     }
+}
+
+// The card agrees to the request that is awaited; in another phase all stays.
+pub fn agreed_in(s: State, journal: &mut [u8]) -> State
+    ensures { λ r. ⌜ (CountsBounded s → changed r (now (journal .exit)) ≡ agreedIn (s .phase) s (now (journal .entry))) ⌝ }
+{
+    let phase = s.phase;
+    let Phase::Waiting(a) = phase else {
+        return s;
+    };
+    agreed(s, a, journal)
 }
 
 // Counts a resend of entry i, where there is room for it; its first sending is none.
@@ -118,13 +131,36 @@ fn approved(s: State, q: Request, e: Entry, journal: &mut [u8]) -> State
     state_effects::one_more(s)
 }
 
+// A good 00: without a chip it approves; with one the card has the last word.
+fn granted(s: State, q: Request, m: Message, journal: &mut [u8]) -> State
+    ensures { λ r. ⌜ (CountsBounded s → changed r (now (journal .exit)) ≡ granted m q s (now (journal .entry))) ⌝ }
+{
+    let chip = s.chip;
+    let approval = approval::approval_of(m);
+    if chip.length == 0 {
+        return approved(s, q, approval::approved_entry(q, approval), journal);
+    }
+    s.with_chip(chip.approved_by(approval))
+}
+
+// The card agrees to what is awaited.
+fn agreed(s: State, a: Awaited, journal: &mut [u8]) -> State
+    ensures { λ r. ⌜ (CountsBounded s → changed r (now (journal .exit)) ≡ agreed a s (now (journal .entry))) ⌝ }
+{
+    let Awaited::Request(q) = a else {
+        return s;
+    };
+    let chip = s.chip;
+    approved(s, q, approval::approved_entry(q, chip.approval()), journal)
+}
+
 // An answer to a card request.
 fn on_request(s: State, q: Request, m: Message, good: bool, journal: &mut [u8]) -> State
     ensures { λ r. ⌜ (CountsBounded s → changed r (now (journal .exit)) ≡ onRequest good m q s (now (journal .entry))) ⌝ }
 {
     if answer_match::approves(m) {
         if answer_match::is_good(good, m) {
-            return approved(s, q, approval::approved_entry(q, m), journal);
+            return granted(s, q, m, journal);
         }
         return state_effects::pending_or_unanswered(s, q, Reason::BadMac);
     }

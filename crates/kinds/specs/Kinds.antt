@@ -64,6 +64,10 @@ sendsReference k = takesOriginal k || keysReference k
 abbrev pub sendsAuthorisation : ℕ → Bool
 sendsAuthorisation k = takesOriginal k || keysAuthorisation k
 
+-- document 02, request 1: sales and pre-authorisations with a chip send field 55
+abbrev pub sendsChip : ℕ → Bool
+sendsChip k = eqb k 10 || eqb k 22
+
 -- rule 17 is for 25; a 25 is never reversed
 abbrev pub isRefund : ℕ → Bool
 isRefund k = eqb k 25

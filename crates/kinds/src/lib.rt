@@ -1,6 +1,6 @@
 // The kinds of card request, which are the numbers of field 60.1 (document 01, "Kinds").
 ghost use mathlib.Core.Path.{_≡_};
-ghost use Rattle.kinds.specs.Kinds.{isKind, indicatorOf, processingOf, conditionOf, sideOf, isDue, takesOriginal, originalKind, keysReference, keysAuthorisation, keysDate, isRefund, isNeverReversed, isVoidable};
+ghost use Rattle.kinds.specs.Kinds.{isKind, indicatorOf, processingOf, conditionOf, sideOf, isDue, takesOriginal, originalKind, keysReference, keysAuthorisation, keysDate, isRefund, isNeverReversed, isVoidable, sendsChip};
 
 // The side of the settlement that a kind's amount stands on.
 pub enum Side {
@@ -120,6 +120,13 @@ pub fn keys_date(kind: u8) -> bool
     ensures { λ r. ⌜ r ≡ keysDate kind ⌝ }
 {
     (kind == 11) | (kind == 20) | (kind == 25)
+}
+
+// Whether a request of this kind sends field 55 where the card has a chip.
+pub fn sends_chip(kind: u8) -> bool
+    ensures { λ r. ⌜ r ≡ sendsChip kind ⌝ }
+{
+    (kind == 10) | (kind == 22)
 }
 
 // Whether the largest refund is set for this kind.

@@ -1,4 +1,4 @@
--- Laws of a line that makes no call, and of the bytes of an answer.
+-- Laws of a line that makes no call, and of the bytes of a call.
 use mathlib.Core.Path.{_≡_, refl, sym, ap, subst, _∙_}
 use mathlib.Core.List.{List, [], _∷_, _++_, append-assoc}
 use mathlib.Core.Bool.{Bool, true, false, cond, _&&_}
@@ -35,7 +35,7 @@ use Rattle.script.specs.declared.Show.{Show}
 use Rattle.script.proofs.Command as command
 use Rattle.screen.specs.Outcomes.{errorLine}
 use Rattle.stage.specs.declared.Rehearsal.{Rehearsal}
-use Rattle.lines.specs.Asks.{bytesOf, bytesIn, hexLength, changedBy, answerBytes}
+use Rattle.lines.specs.Asks.{bytesOf, bytesIn, hexLength, changedBy, callBytes}
 use Rattle.lines.specs.Shows.{messageIn, fieldsText, shown, faultText, errors, saidBy, said}
 
 -- what is shown where x is k
@@ -78,7 +78,7 @@ module _ (w o : List ℕ) {h : Hex} {b : List ℕ} {n : ℕ} (e : h ≡ hexOutco
 pub changes-nothing : (k : Command) (x : Settings) (r : Rehearsal) → OneOf (1 ∷ 2 ∷ 3 ∷ 6 ∷ 7 ∷ []) (tagOf command.the-type k)
     → r ≡ changedBy k x r
 changes-nothing Terminal x r h = absurd (miss (1 ∷ 2 ∷ 3 ∷ 6 ∷ 7 ∷ []) 0 tt h)
-changes-nothing (Calls c) x r h = refl
+changes-nothing (Calls c w) x r h = refl
 changes-nothing (Reply a b good) x r h = refl
 changes-nothing (Reconcile digit) x r h = refl
 changes-nothing (Date d) x r h = absurd (miss (1 ∷ 2 ∷ 3 ∷ 6 ∷ 7 ∷ []) 4 tt h)
@@ -86,21 +86,21 @@ changes-nothing (Echo on) x r h = absurd (miss (1 ∷ 2 ∷ 3 ∷ 6 ∷ 7 ∷ []
 changes-nothing (Shows y) x r h = refl
 changes-nothing (Wrong f) x r h = refl
 
-pub word-answers : (k : Command) (w : List ℕ) (m : Message) (date : ℕ) → OneOf (0 ∷ 1 ∷ 4 ∷ 5 ∷ 6 ∷ 7 ∷ []) (tagOf command.the-type k)
-    → bytesIn w ≡ answerBytes k w m date
-word-answers Terminal w m date h = refl
-word-answers (Calls c) w m date h = refl
-word-answers (Reply a b good) w m date h = absurd (miss (0 ∷ 1 ∷ 4 ∷ 5 ∷ 6 ∷ 7 ∷ []) 2 tt h)
-word-answers (Reconcile digit) w m date h = absurd (miss (0 ∷ 1 ∷ 4 ∷ 5 ∷ 6 ∷ 7 ∷ []) 3 tt h)
-word-answers (Date d) w m date h = refl
-word-answers (Echo on) w m date h = refl
-word-answers (Shows y) w m date h = refl
-word-answers (Wrong f) w m date h = refl
+pub no-bytes : (k : Command) (s : List ℕ) (m : Message) (date : ℕ) → OneOf (0 ∷ 4 ∷ 5 ∷ 6 ∷ 7 ∷ []) (tagOf command.the-type k)
+    → [] ≡ callBytes k s m date
+no-bytes Terminal s m date h = refl
+no-bytes (Calls c w) s m date h = absurd (miss (0 ∷ 4 ∷ 5 ∷ 6 ∷ 7 ∷ []) 1 tt h)
+no-bytes (Reply a b good) s m date h = absurd (miss (0 ∷ 4 ∷ 5 ∷ 6 ∷ 7 ∷ []) 2 tt h)
+no-bytes (Reconcile digit) s m date h = absurd (miss (0 ∷ 4 ∷ 5 ∷ 6 ∷ 7 ∷ []) 3 tt h)
+no-bytes (Date d) s m date h = refl
+no-bytes (Echo on) s m date h = refl
+no-bytes (Shows y) s m date h = refl
+no-bytes (Wrong f) s m date h = refl
 
 says-nothing : (k : Command) (number : ℕ) (r : Rehearsal) (lent : Lent) → OneOf (0 ∷ 1 ∷ 2 ∷ 3 ∷ 4 ∷ 5 ∷ []) (tagOf command.the-type k)
     → saidBy k number r lent ≡ []
 says-nothing Terminal number r lent h = refl
-says-nothing (Calls c) number r lent h = refl
+says-nothing (Calls c w) number r lent h = refl
 says-nothing (Reply a b good) number r lent h = refl
 says-nothing (Reconcile digit) number r lent h = refl
 says-nothing (Date d) number r lent h = refl

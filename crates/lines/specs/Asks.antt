@@ -1,4 +1,4 @@
--- What a line asks for: a call or an error; the change of the rehearsal, and the bytes of an answer.
+-- What a line asks for: a call or an error; the change of the rehearsal, and the bytes of a call.
 use mathlib.Core.List.{List, [], _∷_}
 use mathlib.Core.Bool.{Bool, true, cond}
 use Prim.Native.Nat.{ℕ}
@@ -14,6 +14,7 @@ use Rattle.calls.specs.declared.Call.the-variants as call
 use Rattle.hexadecimal.specs.Hexadecimal.{fromHex}
 use Rattle.hexadecimal.specs.declared.Hex.{Hex}
 use Rattle.hexadecimal.specs.declared.Hex.the-variants.{Bytes, Not, TooLong}
+use Rattle.words.specs.Words.{wordAt}
 use Rattle.grammar.specs.Shapes.{isBytes}
 use Rattle.script.specs.declared.Command.{Command}
 use Rattle.script.specs.declared.Command.the-variants as command
@@ -50,7 +51,7 @@ callOr error c = cond (eqb error 0) (asked.Call c) (asked.Error error)
 
 abbrev pub askedBy : Command → Bool → Left → Asked
 askedBy command.Terminal has-terminal l = asked.Error 0
-askedBy (command.Call c) has-terminal l = callOr (errorAfter has-terminal 0) c
+askedBy (command.Call c k) has-terminal l = callOr (errorAfter has-terminal 0) c
 askedBy (command.Reply a b good) has-terminal l = callOr (errorAfter has-terminal (replyError l)) (call.Answer good)
 askedBy (command.Reconcile digit) has-terminal l = callOr (errorAfter has-terminal (reconcileError l)) (call.Answer true)
 askedBy (command.Date d) has-terminal l = asked.Error 0
@@ -61,7 +62,7 @@ askedBy (command.Wrong f) has-terminal l = asked.Error 0
 -- the rehearsal after a line that makes no call
 abbrev pub changedBy : Command → Settings → Rehearsal → Rehearsal
 changedBy command.Terminal x r = begun x r
-changedBy (command.Call c) x r = r
+changedBy (command.Call c k) x r = r
 changedBy (command.Reply a b good) x r = r
 changedBy (command.Reconcile digit) x r = r
 changedBy (command.Date d) x r = dated d r
@@ -73,7 +74,7 @@ changedBy (command.Wrong f) x r = r
 unfoldable pub bytesOf : Message → List ℕ
 bytesOf a = take (lengthOf (writeMessage a (replicate largest 0) .outcome)) (writeMessage a (replicate largest 0) .buffer)
 
--- the bytes of an answer; a line that is understood says hexadecimal of at most 2,048 bytes
+-- the bytes that word w says in hexadecimal, at most 2,048; another word, as - or none, says none
 unfoldable pub bytesIn : List ℕ → List ℕ
 bytesIn w = cond (isBytes w) (fromHex w) []
 
@@ -83,13 +84,13 @@ hexLength (Bytes n) = n
 hexLength Not = 0
 hexLength TooLong = 0
 
--- the bytes of an answer to m, on this date: the simulated centre's, or those of word w
-abbrev pub answerBytes : Command → List ℕ → Message → ℕ → List ℕ
-answerBytes command.Terminal w m date = bytesIn w
-answerBytes (command.Call c) w m date = bytesIn w
-answerBytes (command.Reply a b good) w m date = bytesOf (reply m date (a ∷ b ∷ []))
-answerBytes (command.Reconcile digit) w m date = bytesOf (reconciliation m digit)
-answerBytes (command.Date d) w m date = bytesIn w
-answerBytes (command.Echo on) w m date = bytesIn w
-answerBytes (command.Show x) w m date = bytesIn w
-answerBytes (command.Wrong f) w m date = bytesIn w
+-- the bytes of the call of a line s: the simulated centre's answer to m on this date, or those of a word
+abbrev pub callBytes : Command → List ℕ → Message → ℕ → List ℕ
+callBytes command.Terminal s m date = []
+callBytes (command.Call c k) s m date = bytesIn (wordAt k s)
+callBytes (command.Reply a b good) s m date = bytesOf (reply m date (a ∷ b ∷ []))
+callBytes (command.Reconcile digit) s m date = bytesOf (reconciliation m digit)
+callBytes (command.Date d) s m date = []
+callBytes (command.Echo on) s m date = []
+callBytes (command.Show x) s m date = []
+callBytes (command.Wrong f) s m date = []

@@ -61,7 +61,7 @@ errors =
 -- what line number writes where it makes no call
 abbrev pub saidBy : Command → ℕ → Rehearsal → Lent → List ℕ
 saidBy command.Terminal number r lent = []
-saidBy (command.Call c) number r lent = []
+saidBy (command.Call c k) number r lent = []
 saidBy (command.Reply a b good) number r lent = []
 saidBy (command.Reconcile digit) number r lent = []
 saidBy (command.Date d) number r lent = []

@@ -1,4 +1,4 @@
-// What a line of a script asks for: a call, or none; how a line that makes no call changes a rehearsal; the bytes of an answer.
+// What a line of a script asks for: a call, or none; how a line that makes no call changes a rehearsal; the bytes of a call.
 use calls::Call;
 use centre_types::Left;
 use hexadecimal::Hex;
@@ -9,7 +9,7 @@ use state::Settings;
 ghost use mathlib.Core.Path.{_≡_};
 ghost use Prim.Native.Nat.{_≤_};
 ghost use lib.ListN.{length, take};
-ghost use Rattle.lines.specs.Asks.{hexLength, replyError, reconcileError, errorAfter, callOr, askedBy, changedBy, answerBytes};
+ghost use Rattle.lines.specs.Asks.{hexLength, replyError, reconcileError, errorAfter, callOr, askedBy, changedBy, callBytes};
 
 // What a line asks for: a call, or none; it may not be obeyed for an error, and 0 is none.
 pub enum Asked {
@@ -23,7 +23,7 @@ pub fn asked_by(command: Command, begun: bool, left: Left) -> Asked
 {
     match command {
         Command::Terminal => Asked::Error(0),
-        Command::Call(c) => call_or(error_after(begun, 0), c),
+        Command::Call { call, word } => call_or(error_after(begun, 0), call),
         Command::Reply {
             first,
             second,
@@ -54,12 +54,15 @@ pub fn changed(command: Command, settings: Settings, r: Rehearsal) -> Rehearsal
     }
 }
 
-// Puts the bytes of an answer at the front of out, 2,048 bytes, and gives their number: those of the simulated centre's message, or
-// those that a word gives in hexadecimal.
-pub fn answer_into(command: Command, hex: &[u8], sent: Message, date: u16, out: &mut [u8]) -> usize
-    ensures { λ n. ⌜ (n ≤ length (now (out .exit))) × (length (now (out .entry)) ≡ 2048 → take n (now (out .exit)) ≡ answerBytes command (now (hex .entry)) sent date) ⌝ }
+// Puts the bytes of the call of a line s at the front of out, 2,048 bytes, and gives their number: those of the simulated centre's
+// message, or those that a word gives in hexadecimal.
+pub fn bytes_into(command: Command, s: &[u8], sent: Message, date: u16, out: &mut [u8]) -> usize
+    ensures { λ n. ⌜ (n ≤ length (now (out .exit))) × (length (now (out .entry)) ≡ 2048 → take n (now (out .exit)) ≡ callBytes command (now (s .entry)) sent date) ⌝ }
 {
     match command {
+        Command::Call { call, word } => {
+            hex_length(hexadecimal::hex_into(words::word(s, word), out))
+        }
         Command::Reply {
             first,
             second,
@@ -71,7 +74,7 @@ pub fn answer_into(command: Command, hex: &[u8], sent: Message, date: u16, out: 
         Command::Reconcile(digit) => {
             outgoing::write_outgoing(centre::reconciliation(sent, digit), out)
         }
-        _ => hex_length(hexadecimal::hex_into(hex, out)),
+        _ => 0,
     }
 }
 

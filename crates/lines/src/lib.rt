@@ -3,8 +3,8 @@ mod asks;
 mod shows;
 
 pub use asks::Asked;
-pub use asks::answer_into;
 pub use asks::asked_by;
+pub use asks::bytes_into;
 pub use asks::changed;
 pub use shows::last_message;
 pub use shows::say;

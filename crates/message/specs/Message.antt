@@ -12,11 +12,11 @@ use Rattle.message.specs.declared.Message.{Message}
 
 -- the bytes of the contents of all fields
 abbrev pub rooms : ℕ
-rooms = 227
+rooms = 482
 
--- all fields together make 248 bytes, the most there is
+-- all fields together make 505 bytes, the most there is
 abbrev pub largest : ℕ
-largest = 248
+largest = 505
 
 abbrev pub empty : Message
 empty = record { indicator = 0; bitmap = replicate 8 0; counts = replicate rows 0; contents = replicate rooms 0 }

@@ -1,13 +1,15 @@
 // A message by value: its type, its bitmap as it stands on the wire, and each field's count and contents.
 use field::Format;
 ghost use mathlib.Core.Path.{_≡_};
+ghost use Prim.Native.Nat.{_<_};
 ghost use Rattle.field.specs.Table.{formats};
-ghost use Rattle.message.specs.Message.{empty};
+ghost use Rattle.elements.specs.Elements.{elementsInForm};
+ghost use Rattle.message.specs.Message.{empty, fieldOf};
 ghost use Rattle.message.specs.Located.{located};
 ghost use Rattle.message.specs.Late.{lateFault};
 
 // The bytes of the contents of all fields.
-pub const ROOM: usize = 227;
+pub const ROOM: usize = 482;
 
 // Counts and contents stand in the table's order; each field's contents stand at a place of their own, as on the wire.
 pub struct Message {
@@ -19,7 +21,7 @@ pub struct Message {
 
 impl Message {
     // The most bytes that a message takes.
-    pub const LARGEST: usize = 248;
+    pub const LARGEST: usize = 505;
 
     // A message of no type that names no field.
     pub fn new() -> Self
@@ -71,5 +73,33 @@ pub fn locate(n: u8) -> Located
 pub fn late_fault(m: Message) -> u8
     ensures { λ r. ⌜ r ≡ lateFault m ⌝ }
 {
+    let bitmap = m.bitmap;
+    if field::named(&bitmap, 55) {
+        if chip_in_form(m) {
+            return 0;
+        }
+        return 23;
+    }
     0
+}
+
+// Whether field 55 is elements in form.
+fn chip_in_form(m: Message) -> bool
+    ensures { λ r. ⌜ r ≡ elementsInForm (fieldOf m 55 .bytes) ⌝ }
+{
+    let counts = m.counts;
+    let contents = m.contents;
+    match locate(55) {
+        Located::Found { row, from, form: _ } => {
+            let end = from + wide(counts[row]);
+            elements::in_form(&contents[from..end])
+        }
+        Located::Missing => true,
+    }
+}
+
+fn wide(x: u8) -> usize
+    ensures { λ r. ⌜ (r ≡ x) × (r < 256) ⌝ }
+{
+    x as usize
 }

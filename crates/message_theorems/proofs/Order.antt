@@ -5,26 +5,22 @@ use mathlib.Core.Bool.{Bool, true, false, cond}
 use Prim.Native.Nat.{ℕ, suc, _+_, _*_, _≤_, _<_}
 use native.Mathlib.Omega.{arith}
 use native.Mathlib.Decide.{decLt}
-use lib.Dec.{eqb}
+use lib.Dec.{leb, eqb}
 use lib.ListN.{length, getD, take, drop, length-drop, take-append-drop}
 use lib.Seq.{drop-cons, length-take-le}
-use borrow.Author.Tests.{lt-ltb, eqb-false}
+use borrow.Author.Tests.{lt-ltb, leb-true, eqb-false}
 use Rattle.field.specs.Table.{among, indicators, formats}
 use Rattle.field.specs.Bitmap.{names, listed}
 use Rattle.message.specs.Late.{lateFault}
 use Rattle.message.specs.declared.Message.{Message}
-use Rattle.message.proofs.Late.{late-none}
+use Rattle.message.proofs.Late.{late-number}
 use Rattle.reading.specs.Reading.{Fields, bad, good, readFields, refused, accepted, assembled, readMessage}
 use Rattle.reading.specs.declared.ReadOutcome.the-variants.{Read, Refused}
-use Rattle.message_theorems.specs.Order.{fieldNumbers, ReadRefused, ShortIsThree, TypeBeforeBitmap, FaultStands, LongerIsNine, CutIsThree, readingRules, ReadJudgedBy}
+use Rattle.message_theorems.specs.Order.{fieldNumbers, ReadRefused, ShortIsThree, TypeBeforeBitmap, FaultStands, Whole, LongerIsNine, CutIsThree, FormAfterEnd, readingRules, ReadJudgedBy}
 use Rattle.message_theorems.proofs.Longer.{fields-stand, fields-longer, fields-cut}
-use Rattle.message_theorems.proofs.Messages.{not-read, afterHead, head-read, passed-yes, fields-good, split-ten}
+use Rattle.message_theorems.proofs.Messages.{not-read, afterHead, head-read, split-ten}
 use Rattle.message_theorems.proofs.Numbers.{among-each, fieldsJudged, fields-judged}
 use Rattle.message_theorems.proofs.Readable.{bit-listed}
-
--- the rules on a message as a whole have no number up to 9: there are none yet
-late-after : (m : Message) → (lateFault m ≡ 0 → ⊥) → 9 < lateFault m
-late-after m h = absurd (h (late-none m))
 
 pub short-is-three : ShortIsThree
 unfolding readMessage
@@ -53,14 +49,15 @@ type-before-bitmap =
 refused-equal : {a b : ℕ} → Refused a ≡ Refused b → a ≡ b
 refused-equal q = cc
 
-accepted-late : (m : Message) (n : ℕ) → n ≤ 9 → (accepted m) .outcome ≡ Refused n → ⊥
-accepted-late m n h = go (eqb (lateFault m) 0) refl
+-- the rule on a message as a whole is 23
+accepted-late : (m : Message) (n : ℕ) → (accepted m) .outcome ≡ Refused n → n ≡ 23
+accepted-late m n = go (eqb (lateFault m) 0) refl
   where
-    go : (b : Bool) → eqb (lateFault m) 0 ≡ b → (cond b (record { outcome = Read; message = m }) (refused (lateFault m))) .outcome ≡ Refused n → ⊥
-    go true e q = not-read (sym q)
-    go false e q = omega (arith, late-after m (eqb-false (lateFault m) 0 e), refused-equal q)
+    go : (b : Bool) → eqb (lateFault m) 0 ≡ b → (cond b (record { outcome = Read; message = m }) (refused (lateFault m))) .outcome ≡ Refused n → n ≡ 23
+    go true e q = absurd (not-read (sym q))
+    go false e q = sym (refused-equal q) ∙ late-number m (eqb-false (lateFault m) 0 e)
 
--- a refusal's number, today's rules on a message as a whole being none
+-- a refusal's number
 abbrev isRule : ℕ → Bool
 isRule n = among n readingRules
 
@@ -73,7 +70,7 @@ head-judged i bm x n = go (among i indicators) (listed bm) x
     go false b x h q = rw (← refused-equal q)
     go true false x h q = rw (← refused-equal q)
     go true true (bad e) h q = among-each isRule n (3 ∷ 6 ∷ 7 ∷ 8 ∷ 9 ∷ []) refl (rw (refused-equal q) at h)
-    go true true (good cs bs) h q = absurd (not-read (sym (rw late-none at q)))
+    go true true (good cs bs) h q = rw (accepted-late _ n q)
 
 -- a refusal stands where the fields' refusal does
 head-stands : (i : ℕ) (bm : List ℕ) (x y : Fields) (n : ℕ) → n ≤ 9 → (x ≡ bad n → y ≡ bad n)
@@ -86,9 +83,9 @@ head-stands i bm x y n l h = go (among i indicators) (listed bm) x h
     go false b x h q = q
     go true false x h q = q
     go true true (bad e) h q = rw (h (ap bad (refused-equal q)))
-    go true true (good cs bs) h q = absurd (accepted-late _ n l q)
+    go true true (good cs bs) h q = absurd (omega (arith, accepted-late _ n q))
 
--- what an accepted reading says of its fields
+-- what a reading that no rule up to 9 refuses says of its fields
 record HeadGood (i : ℕ) (bm : List ℕ) (x : Fields) : Type 0 where
   indicator-listed : among i indicators ≡ true
   fields-listed : listed bm ≡ true
@@ -96,13 +93,17 @@ record HeadGood (i : ℕ) (bm : List ℕ) (x : Fields) : Type 0 where
   contents : List ℕ
   fields : x ≡ good counts contents
 
-head-good : (i : ℕ) (bm : List ℕ) (x : Fields) → (afterHead i bm x) .outcome ≡ Read → HeadGood i bm x
+head-good : (i : ℕ) (bm : List ℕ) (x : Fields) → fieldsJudged x ≡ true
+    → ((n : ℕ) → n ≤ 9 → (afterHead i bm x) .outcome ≡ Refused n → ⊥) → HeadGood i bm x
 unfolding afterHead
-head-good i bm x q =
-    let a = passed-yes (among i indicators) 4 _ q in
-    let b = passed-yes (listed bm) 5 _ (a .1) in
-    let g = fields-good i bm x (b .1) in
-    record { indicator-listed = a .0; fields-listed = b .0; counts = g .0; contents = g .1; fields = g .2 }
+head-good i bm x j w = go (among i indicators) refl (listed bm) refl x j w
+  where
+    go : (a : Bool) → among i indicators ≡ a → (b : Bool) → listed bm ≡ b → (x : Fields) → fieldsJudged x ≡ true
+        → ((n : ℕ) → n ≤ 9 → (cond a (cond b (assembled i bm x) (refused 5)) (refused 4)) .outcome ≡ Refused n → ⊥) → HeadGood i bm x
+    go false p b q x j w = absurd (w 4 (omega arith) refl)
+    go true p false q x j w = absurd (w 5 (omega arith) refl)
+    go true p true q (bad e) j w = absurd (w e (leb-true e 9 (among-each (λ n. leb n 9) e (3 ∷ 6 ∷ 7 ∷ 8 ∷ 9 ∷ []) refl j)) refl)
+    go true p true q (good cs bs) j w = record { indicator-listed = p; fields-listed = q; counts = cs; contents = bs; fields = refl }
 
 -- any ten bytes, and those after them
 module _ (x y : ℕ) (bm s : List ℕ) (l : length bm ≡ 8) where
@@ -112,10 +113,14 @@ module _ (x y : ℕ) (bm s : List ℕ) (l : length bm ≡ 8) where
       (fields-stand formats bm s t n (λ e. omega arith)) (rw (head-read x y bm s l) at q) in
       rw (append-assoc, head-read x y bm (s ++ t) l) h
 
-  longer-after : (z : ℕ) (t : List ℕ) → (readMessage (x ∷ y ∷ (bm ++ s))) .outcome ≡ Read → ReadRefused 9 (x ∷ y ∷ ((bm ++ s) ++ (z ∷ t)))
+  whole-head : Whole (x ∷ y ∷ (bm ++ s)) → HeadGood (x * 256 + y) bm (readFields formats bm s)
+  whole-head w =
+      head-good (x * 256 + y) bm (readFields formats bm s) (fields-judged formats bm s) (λ n h q. w n h (rw (head-read x y bm s l) q))
+
+  longer-after : (z : ℕ) (t : List ℕ) → Whole (x ∷ y ∷ (bm ++ s)) → ReadRefused 9 (x ∷ y ∷ ((bm ++ s) ++ (z ∷ t)))
   unfolding afterHead
-  longer-after z t q =
-      let g = head-good (x * 256 + y) bm (readFields formats bm s) (rw (head-read x y bm s l) at q) in
+  longer-after z t w =
+      let g = whole-head w in
       rw (
         append-assoc,
         head-read x y bm (s ++ (z ∷ t)) l,
@@ -124,15 +129,15 @@ module _ (x y : ℕ) (bm s : List ℕ) (l : length bm ≡ 8) where
         fields-longer formats bm s z t (g .counts) (g .contents) (g .fields),
       )
 
-  cut-after : (z : ℕ) (t : List ℕ) → (readMessage (x ∷ y ∷ ((bm ++ s) ++ (z ∷ t)))) .outcome ≡ Read → ReadRefused 3 (x ∷ y ∷ (bm ++ s))
-  unfolding afterHead
-  cut-after z t q =
-      let r = s ++ (z ∷ t) in
-      let g = head-good (x * 256 + y) bm (readFields formats bm r) (rw (append-assoc, head-read x y bm r l) at q) in
-      rw (head-read x y bm s l, g .indicator-listed, g .fields-listed, fields-cut formats bm s z t (g .counts) (g .contents) (g .fields))
-
   judged-after : (n : ℕ) → ReadRefused n (x ∷ y ∷ (bm ++ s)) → isRule n ≡ true
   judged-after n q = head-judged (x * 256 + y) bm (readFields formats bm s) n (fields-judged formats bm s) (rw (head-read x y bm s l) at q)
+
+cut-after : (x y : ℕ) (bm s : List ℕ) → length bm ≡ 8 → (z : ℕ) (t : List ℕ) → Whole (x ∷ y ∷ ((bm ++ s) ++ (z ∷ t)))
+    → ReadRefused 3 (x ∷ y ∷ (bm ++ s))
+unfolding afterHead
+cut-after x y bm s l z t w =
+    let g = whole-head x y bm (s ++ (z ∷ t)) l (rw append-assoc at w) in
+    rw (head-read x y bm s l, g .indicator-listed, g .fields-listed, fields-cut formats bm s z t (g .counts) (g .contents) (g .fields))
 
 -- what holds of any ten bytes and those after them holds of ten bytes or more
 of-ten : (P : List ℕ → Type 0) → ((x y : ℕ) (bm rest : List ℕ) → length bm ≡ 8 → P (x ∷ y ∷ (bm ++ rest))) → (s : List ℕ) → 10 ≤ length s → P s
@@ -148,15 +153,14 @@ fault-stands b t n low high q = go (decLt (length b) 10)
         of-ten (λ s. ReadRefused n s → ReadRefused n (s ++ t)) (λ x y bm s l. stands-after x y bm s l t n low high) b (omega arith) q
 
 pub longer-is-nine : LongerIsNine
-longer-is-nine b z t q = go (decLt (length b) 10)
+longer-is-nine b z t w = go (decLt (length b) 10)
   where
     go : Dec (length b < 10) → ReadRefused 9 (b ++ (z ∷ t))
-    go (yes h) = absurd (not-read (sym (short-is-three b h) ∙ q))
-    go (no h) =
-        of-ten (λ s. (readMessage s) .outcome ≡ Read → ReadRefused 9 (s ++ (z ∷ t))) (λ x y bm s l. longer-after x y bm s l z t) b (omega arith) q
+    go (yes h) = absurd (w 3 (omega arith) (short-is-three b h))
+    go (no h) = of-ten (λ s. Whole s → ReadRefused 9 (s ++ (z ∷ t))) (λ x y bm s l. longer-after x y bm s l z t) b (omega arith) w
 
 pub cut-is-three : CutIsThree
-cut-is-three b k q h = go (decLt k 10)
+cut-is-three b k w h = go (decLt k 10)
   where
     lk : length (take k b) ≡ k
     lk = length-take-le k b (omega arith)
@@ -167,8 +171,11 @@ cut-is-three b k q h = go (decLt k 10)
     go : Dec (k < 10) → ReadRefused 3 (take k b)
     go (yes i) = short-is-three (take k b) (omega (arith, lk))
     go (no i) =
-        of-ten (λ s. (readMessage (s ++ (getD b k 0 ∷ drop (suc k) b))) .outcome ≡ Read → ReadRefused 3 s)
-        (λ x y bm s l. cut-after x y bm s l (getD b k 0) (drop (suc k) b)) (take k b) (omega (arith, lk)) (rw split q)
+        of-ten (λ s. Whole (s ++ (getD b k 0 ∷ drop (suc k) b)) → ReadRefused 3 s)
+        (λ x y bm s l. cut-after x y bm s l (getD b k 0) (drop (suc k) b)) (take k b) (omega (arith, lk)) (rw split w)
+
+pub form-after-end : FormAfterEnd
+form-after-end b x q = longer-is-nine b x [] (λ n h p. omega (arith, refused-equal (sym p ∙ q)))
 
 pub read-judged-by : ReadJudgedBy
 read-judged-by b n q = go (decLt (length b) 10)

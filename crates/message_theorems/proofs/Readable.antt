@@ -21,16 +21,19 @@ use Rattle.field.proofs.Contents.{allowed-bounds, digits-packed}
 use Rattle.field.proofs.Formats.{length-formats}
 use Rattle.field.proofs.Masks.{bit-past}
 use Rattle.span.proofs.Held.{size-bound}
+use Rattle.elements.specs.Elements.{elementsInForm}
 use Rattle.message.specs.Message.{Shaped, Field, fieldIn, fieldOf}
 use Rattle.message.specs.Located.{located, formAt, formatOf}
+use Rattle.message.specs.Late.{lateFault}
 use Rattle.message.specs.declared.Message.{Message}
+use Rattle.message.proofs.Late.{late-broken}
 use Rattle.message.proofs.Places.{roomsOf, rooms-formats}
 use Rattle.reading.specs.Reading.{readMessage}
 use Rattle.reading.specs.declared.ReadOutcome.the-variants.{Read}
 use Rattle.writing.specs.Writing.{fieldFault, fieldsFault}
 use Rattle.writing.proofs.Faults.{field-sound, fields-sound}
 use Rattle.message_theorems.proofs.Messages.{is-read}
-use Rattle.message_theorems.specs.Readable.{Keeps, ReadIsListed, ReadKeepsFormats, ReadIsShaped}
+use Rattle.message_theorems.specs.Readable.{Keeps, ReadIsListed, ReadKeepsFormats, ReadKeepsForm, ReadIsShaped}
 
 -- a table's fields with no fault: each that is named is as its format says
 fields-keep : (fs : List Format) (bm cs bs : List ℕ) → roomsOf fs ≤ length bs → fieldsFault fs bm cs bs ≡ 0
@@ -59,6 +62,7 @@ record Accepted (m : Message) : Type 0 where
   shape : Shaped m
   fields-listed : listed (m .bitmap) ≡ true
   no-fault : fieldsFault formats (m .bitmap) (m .counts) (m .contents) ≡ 0
+  late : lateFault m ≡ 0
 
 accepted : (s : List ℕ) → (readMessage s) .outcome ≡ Read → Accepted ((readMessage s) .message)
 accepted s q =
@@ -73,6 +77,7 @@ accepted s q =
           };
       fields-listed = r .fields-listed;
       no-fault = r .again .sound;
+      late = r .late;
     })
 
 pub read-is-shaped : ReadIsShaped
@@ -83,6 +88,16 @@ read-keeps-formats s q n e =
     let r = accepted s q in
     let m = (readMessage s) .message in
     fields-keep formats (m .bitmap) (m .counts) (m .contents) (omega (arith, rooms-formats, r .shape .contents-length)) (r .no-fault) n 0 0 e
+
+pub read-keeps-form : ReadKeepsForm
+read-keeps-form s q e = go (elementsInForm (fieldOf m 55 .bytes)) refl
+  where
+    m : Message
+    m = (readMessage s) .message
+
+    go : (b : Bool) → elementsInForm (fieldOf m 55 .bytes) ≡ b → b ≡ true
+    go true f = refl
+    go false f = absurd (omega (arith, accepted s q .late, late-broken m e f))
 
 -- a field that is named has a bit of the bitmap
 pub bit-listed : (bm : List ℕ) → length bm ≡ 8 → listed bm ≡ true → (n : ℕ) → names bm n ≡ true → among n (numbers formats) ≡ true

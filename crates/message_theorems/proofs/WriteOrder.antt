@@ -4,6 +4,7 @@ use mathlib.Core.List.{List, [], _∷_, _++_, append-assoc, append-nil}
 use mathlib.Core.Bool.{Bool, true, false, cond, and-eq-true-iff}
 use Prim.Native.Nat.{ℕ, _+_, _*_, _≤_}
 use native.Mathlib.Omega.{arith}
+use native.Mathlib.Decide.{ℕ-discrete}
 use lib.Dec.{ltb, eqb}
 use lib.ListN.{length, getD, take, drop, replicate, length-append, length-drop, length-replicate}
 use lib.Seq.{take-at, length-take-le}
@@ -21,7 +22,7 @@ use Rattle.span.proofs.Bytes.{wellFormed, length-field, drop-prefix, span-back}
 use Rattle.message.specs.Message.{Shaped, largest}
 use Rattle.message.specs.Late.{lateFault}
 use Rattle.message.specs.declared.Message.{Message}
-use Rattle.message.proofs.Late.{late-none}
+use Rattle.message.proofs.Late.{late-number}
 use Rattle.message.proofs.Places.{roomsOf, rooms-formats}
 use Rattle.reading.specs.Reading.{Fields, bad, afterSpan, refused, accepted, assembled, readFields, readMessage}
 use Rattle.reading.specs.declared.ReadOutcome.{ReadOutcome}
@@ -137,7 +138,7 @@ outcomeOf n = cond (eqb n 0) Read (Unread n)
 
 -- the first fault of a message, 0 for none, and the numbers that it is refused by
 abbrev isFault : ℕ → Bool
-isFault n = among n (0 ∷ 4 ∷ 5 ∷ 6 ∷ 7 ∷ 8 ∷ [])
+isFault n = among n (0 ∷ 4 ∷ 5 ∷ 6 ∷ 7 ∷ 8 ∷ 23 ∷ [])
 
 abbrev isRule : ℕ → Bool
 isRule n = among n writingRules
@@ -212,13 +213,19 @@ pub write-judges-as-read : WriteJudgesAsRead
 write-judges-as-read m o s l h =
     rw (as-read m o l) (bytes-judged m s (λ e. h (fault-refuses m o l 7 e (λ q. omega (arith, q)))))
 
--- today's rules on a message as a whole are none
+late-judged-by : (m : Message) → isFault (lateFault m) ≡ true
+late-judged-by m = go (ℕ-discrete (lateFault m) 0)
+  where
+    go : Dec (lateFault m ≡ 0) → isFault (lateFault m) ≡ true
+    go (yes z) = rw z
+    go (no h) = rw (late-number m h)
+
 message-judged : (m : Message) → isFault (messageFault m) ≡ true
 unfolding messageFault
 message-judged m =
     chosen-number isFault (among (m .indicator) indicators) _ 4
     (chosen-number isFault (listed (m .bitmap)) _ 5
-    (chosen-number isFault (eqb (faultOf m) 0) (lateFault m) (faultOf m) (rw (late-none m))
+    (chosen-number isFault (eqb (faultOf m) 0) (lateFault m) (faultOf m) (late-judged-by m)
     (among-each isFault (faultOf m) (0 ∷ 6 ∷ 7 ∷ 8 ∷ []) refl (fault-judged formats (m .bitmap) (m .counts) (m .contents)))) refl) refl
 
 pub write-judged-by : WriteJudgedBy
@@ -232,5 +239,5 @@ write-judged-by m o n = go (ltb (length o) largest) (eqb (messageFault m) 0) ref
     go true b e q = rw (← refused-equal q)
     go false true e q = absurd (refused-written (sym q))
     go false false e q =
-        let k = among-others (messageFault m) (4 ∷ 5 ∷ 6 ∷ 7 ∷ 8 ∷ []) (message-judged m) (eqb-false (messageFault m) 0 e) in
-        among-each isRule n (4 ∷ 5 ∷ 6 ∷ 7 ∷ 8 ∷ []) refl (rw (refused-equal q) at k)
+        let k = among-others (messageFault m) (4 ∷ 5 ∷ 6 ∷ 7 ∷ 8 ∷ 23 ∷ []) (message-judged m) (eqb-false (messageFault m) 0 e) in
+        among-each isRule n (4 ∷ 5 ∷ 6 ∷ 7 ∷ 8 ∷ 23 ∷ []) refl (rw (refused-equal q) at k)

@@ -1,4 +1,4 @@
--- Document 01, "Why a call is turned down": the order of checks in reading and in writing, said of all bytes and of every message.
+-- Document 01, "Why a call is turned down", and document 02: the order of checks in reading and in writing, said of all bytes and of every message.
 use mathlib.Core.Path.{_≡_}
 use mathlib.Core.List.{List, [], _∷_, _++_}
 use mathlib.Core.Bool.{true, false}
@@ -18,7 +18,7 @@ use Rattle.writing.specs.declared.Writing.the-variants as writing
 -- the fields that document 01 lists
 abbrev pub fieldNumbers : List ℕ
 fieldNumbers =
-    2 ∷ 3 ∷ 4 ∷ 11 ∷ 12 ∷ 13 ∷ 14 ∷ 15 ∷ 22 ∷ 25 ∷ 32 ∷ 37 ∷ 38 ∷ 39 ∷ 41 ∷ 42 ∷ 44 ∷ 48 ∷ 49 ∷ 60 ∷ 61 ∷ 63 ∷ 64 ∷ []
+    2 ∷ 3 ∷ 4 ∷ 11 ∷ 12 ∷ 13 ∷ 14 ∷ 15 ∷ 22 ∷ 25 ∷ 32 ∷ 37 ∷ 38 ∷ 39 ∷ 41 ∷ 42 ∷ 44 ∷ 48 ∷ 49 ∷ 55 ∷ 60 ∷ 61 ∷ 63 ∷ 64 ∷ []
 
 -- reading these bytes, or writing this message into this buffer, is refused by n
 abbrev pub ReadRefused : ℕ → List ℕ → Type 0
@@ -42,17 +42,25 @@ pub record TypeBeforeBitmap : Type 0 where
 abbrev pub FaultStands : Type 0
 FaultStands = (b rest : List ℕ) (n : ℕ) → 4 ≤ n → n ≤ 9 → ReadRefused n b → ReadRefused n (b ++ rest)
 
+-- bytes that no rule up to 9 refuses: they are read, or a rule on the message as a whole refuses them
+abbrev pub Whole : List ℕ → Type 0
+Whole b = (n : ℕ) → n ≤ 9 → ReadRefused n b → ⊥
+
 -- bytes that follow a message are 9
 abbrev pub LongerIsNine : Type 0
-LongerIsNine = (b : List ℕ) (x : ℕ) (rest : List ℕ) → (readMessage b) .outcome ≡ reading.Read → ReadRefused 9 (b ++ (x ∷ rest))
+LongerIsNine = (b : List ℕ) (x : ℕ) (rest : List ℕ) → Whole b → ReadRefused 9 (b ++ (x ∷ rest))
 
 -- a message that ends early is 3, wherever it ends
 abbrev pub CutIsThree : Type 0
-CutIsThree = (b : List ℕ) (k : ℕ) → (readMessage b) .outcome ≡ reading.Read → k < length b → ReadRefused 3 (take k b)
+CutIsThree = (b : List ℕ) (k : ℕ) → Whole b → k < length b → ReadRefused 3 (take k b)
 
--- reading is judged by 3 to 9
+-- document 02, request 1: 23 comes after 9, so that one byte more hides it
+abbrev pub FormAfterEnd : Type 0
+FormAfterEnd = (b : List ℕ) (x : ℕ) → ReadRefused 23 b → ReadRefused 9 (b ++ (x ∷ []))
+
+-- reading is judged by 3 to 9 and by 23
 abbrev pub readingRules : List ℕ
-readingRules = 3 ∷ 4 ∷ 5 ∷ 6 ∷ 7 ∷ 8 ∷ 9 ∷ []
+readingRules = 3 ∷ 4 ∷ 5 ∷ 6 ∷ 7 ∷ 8 ∷ 9 ∷ 23 ∷ []
 
 abbrev pub ReadJudgedBy : Type 0
 ReadJudgedBy = (b : List ℕ) (n : ℕ) → ReadRefused n b → among n readingRules ≡ true
@@ -67,9 +75,9 @@ pub record WriteTypeBeforeBitmap : Type 0 where
   pub field-not-listed : (m : Message) (o : List ℕ) → Shaped m → largest ≤ length o → among (m .indicator) indicators ≡ true
       → (n : ℕ) → names (m .bitmap) n ≡ true → among n fieldNumbers ≡ false → WriteRefused 5 m o
 
--- writing is judged by 1 and by 4 to 8
+-- writing is judged by 1, by 4 to 8 and by 23
 abbrev pub writingRules : List ℕ
-writingRules = 1 ∷ 4 ∷ 5 ∷ 6 ∷ 7 ∷ 8 ∷ []
+writingRules = 1 ∷ 4 ∷ 5 ∷ 6 ∷ 7 ∷ 8 ∷ 23 ∷ []
 
 abbrev pub WriteJudgedBy : Type 0
 WriteJudgedBy = (m : Message) (o : List ℕ) (n : ℕ) → WriteRefused n m o → among n writingRules ≡ true

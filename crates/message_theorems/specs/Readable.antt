@@ -1,4 +1,4 @@
--- What is proved of every message that was read: rules 5 to 8 hold of the fields that it names.
+-- What is proved of every message that was read: rules 5 to 8 and 23 hold of the fields that it names.
 use mathlib.Core.Path.{_≡_}
 use mathlib.Core.List.{List}
 use mathlib.Core.Bool.{true}
@@ -8,6 +8,7 @@ use Rattle.field.specs.Table.{among, formats, numbers}
 use Rattle.field.specs.Bitmap.{names}
 use Rattle.field.specs.Contents.{size, allowed, fault}
 use Rattle.field.specs.declared.Format.{Format}
+use Rattle.elements.specs.Elements.{elementsInForm}
 use Rattle.message.specs.Message.{Shaped, Field, fieldOf}
 use Rattle.message.specs.Located.{formatOf}
 use Rattle.reading.specs.Reading.{readMessage}
@@ -28,6 +29,11 @@ ReadIsListed = (s : List ℕ) → (readMessage s) .outcome ≡ Read
 abbrev pub ReadKeepsFormats : Type 0
 ReadKeepsFormats = (s : List ℕ) → (readMessage s) .outcome ≡ Read
     → (n : ℕ) → names ((readMessage s) .message .bitmap) n ≡ true → Keeps (formatOf n) (fieldOf ((readMessage s) .message) n)
+
+-- and its field 55 is elements in form
+abbrev pub ReadKeepsForm : Type 0
+ReadKeepsForm = (s : List ℕ) → (readMessage s) .outcome ≡ Read
+    → names ((readMessage s) .message .bitmap) 55 ≡ true → elementsInForm (fieldOf ((readMessage s) .message) 55 .bytes) ≡ true
 
 -- a message has the lengths of its type's arrays
 abbrev pub ReadIsShaped : Type 0

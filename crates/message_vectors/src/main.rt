@@ -1,6 +1,7 @@
 // Cases of reading and writing that document 01 does not star. What this writes is compared with the file stdout.
 use field::Class;
 use libc::STDOUT_FILENO;
+use message::Located;
 use message::Message;
 use reading::ReadOutcome;
 use writing::Writing;
@@ -12,6 +13,21 @@ const SALE: [u8; 76] = [
     0x31, 0x31, 0x31, 0x31, 0x32, 0x32, 0x32, 0x32, 0x32, 0x32, 0x32, 0x32, 0x32, 0x32, 0x32, 0x32, 0x32, 0x32, 0x32,
     0x31, 0x35, 0x36, 0x00, 0x11, 0x22, 0x00, 0x00, 0x01, 0x00, 0x00, 0x00, 0x00, 0x00, 0x00, 0x00, 0x00, 0x00, 0x00,
 ];
+
+// A message of field 55 alone, with elements 9F26 and 82.
+const CHIP: [u8; 20] = [
+    0x02, 0x10, 0x00, 0x00, 0x00, 0x00, 0x00, 0x00, 0x02, 0x00, 0x00, 0x08, 0x9F, 0x26, 0x01, 0xAA, 0x82, 0x02, 0x00,
+    0x00,
+];
+
+// Its second tag given as 9F26 too, with a value of one byte.
+const TWICE: [u8; 20] = [
+    0x02, 0x10, 0x00, 0x00, 0x00, 0x00, 0x00, 0x00, 0x02, 0x00, 0x00, 0x08, 0x9F, 0x26, 0x01, 0xAA, 0x9F, 0x26, 0x01,
+    0x00,
+];
+
+// The bitmap that names every field.
+const ALL_FIELDS: [u8; 8] = [0x70, 0x3E, 0x04, 0x81, 0x0E, 0xD1, 0x82, 0x1B];
 
 fn say(text: &[u8]) {
     io::write_all(STDOUT_FILENO, text);
@@ -47,39 +63,53 @@ fn show_writing(w: Writing) {
     }
 }
 
-// The sale cut off after each number of bytes.
-fn cut_copies() {
+// A message cut off after each number of bytes.
+fn cut_copies(s: &[u8]) {
     say(b"cut");
-    let sale = SALE;
     let mut n = 0;
-    while n < 77 {
-        show_reading(&sale[..n]);
+    while n < s.len() {
+        show_reading(&s[..n]);
         n += 1;
     }
+    show_reading(s);
     say(b"\n");
 }
 
-// The sale with one byte replaced, at each place in turn.
-fn damaged_copies(b: u8) {
+// A message of at most 80 bytes with the byte at place i replaced.
+fn show_damaged(s: &[u8], i: usize, b: u8) {
+    let n = s.len();
+    if n <= 80 {
+        if i < n {
+            let mut copy = [0u8; 80];
+            bytes::copy(s, &mut copy);
+            copy[i] = b;
+            show_reading(&copy[..n]);
+        }
+    }
+}
+
+// The same at each place in turn.
+fn damaged_copies(s: &[u8], b: u8) {
     say(b"damaged");
     let mut i = 0;
-    while i < 76 {
-        let mut copy = SALE;
-        copy[i] = b;
-        show_reading(&copy);
+    while i < s.len() {
+        show_damaged(s, i, b);
         i += 1;
     }
     say(b"\n");
 }
 
-// The sale with bytes after its last field.
-fn long_copy() {
+// A message of less than 80 bytes with bytes after its last field.
+fn long_copy(s: &[u8]) {
     say(b"long");
-    let sale = SALE;
-    let mut longer = [0u8; 80];
-    bytes::copy(&sale, &mut longer);
-    show_reading(&longer[..77]);
-    show_reading(&longer);
+    let n = s.len();
+    if n < 80 {
+        let mut longer = [0u8; 80];
+        bytes::copy(s, &mut longer);
+        let more = n + 1;
+        show_reading(&longer[..more]);
+        show_reading(&longer);
+    }
     say(b"\n");
 }
 
@@ -121,14 +151,14 @@ fn filled(class: Class) -> [u8; message::ROOM] {
 
 // A message written, read again and written again.
 fn round_trip(m: Message) {
-    let mut first = [0xEEu8; 300];
+    let mut first = [0xEEu8; 512];
     let w = writing::write(m, &mut first);
     show_writing(w);
     if let Writing::Written(n) = w {
         if n <= Message::LARGEST {
             let r = reading::read(&first[..n]);
             let back = r.message;
-            let mut second = [0xEEu8; 300];
+            let mut second = [0xEEu8; 512];
             show_writing(writing::write(back, &mut second));
             if check::same(&first, &second) {
                 say(b" same");
@@ -158,6 +188,48 @@ fn field_lengths() {
     }
 }
 
+// A message of all fields, each as long as it may be: packed digits 20, spaces, and one element in field 55.
+fn largest_message() -> Message {
+    let table = field::table();
+    let mut counts = [0u8; field::ROWS];
+    let mut k = 0;
+    while k < field::ROWS {
+        let f = table[k];
+        counts[k] = f.high;
+        k += 1;
+    }
+    Message {
+        indicator: 0x0210,
+        bitmap: ALL_FIELDS,
+        counts: counts,
+        contents: with_element([0x20u8; message::ROOM]),
+    }
+}
+
+// These contents with an element of tag 82 and 252 bytes at the front of field 55.
+fn with_element(contents: [u8; message::ROOM]) -> [u8; message::ROOM] {
+    let mut out = contents;
+    let place = message::locate(55);
+    if let Located::Found {
+        row: _,
+        from,
+        form: _,
+    } = place {
+        if from < message::ROOM - 3 {
+            out[from] = 0x82;
+            out[from + 1] = 0x81;
+            out[from + 2] = 0xFC;
+        }
+    }
+    out
+}
+
+fn largest_trip() {
+    say(b"largest");
+    round_trip(largest_message());
+    say(b"\n");
+}
+
 fn sale_message() -> Message {
     let sale = SALE;
     let r = reading::read(&sale);
@@ -169,7 +241,7 @@ fn written_faults() {
     say(b"written");
     let mut m = sale_message();
     round_trip(m);
-    let mut short = [0u8; 247];
+    let mut short = [0u8; 504];
     show_writing(writing::write(m, &mut short));
     m.contents[60] = 0x1F;
     round_trip(m);
@@ -186,11 +258,21 @@ fn written_faults() {
 }
 
 fn main() {
-    cut_copies();
-    damaged_copies(0xFF);
-    damaged_copies(0x0A);
-    damaged_copies(0x99);
-    long_copy();
+    let sale = SALE;
+    cut_copies(&sale);
+    damaged_copies(&sale, 0xFF);
+    damaged_copies(&sale, 0x0A);
+    damaged_copies(&sale, 0x99);
+    long_copy(&sale);
+    let chip = CHIP;
+    cut_copies(&chip);
+    damaged_copies(&chip, 0x00);
+    damaged_copies(&chip, 0x9F);
+    long_copy(&chip);
+    let twice = TWICE;
+    cut_copies(&twice);
+    long_copy(&twice);
     field_lengths();
+    largest_trip();
     written_faults();
 }

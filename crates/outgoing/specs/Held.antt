@@ -1,10 +1,13 @@
--- What the fields of a leaving message are held by: settings, card and original in form.
+-- What the fields of a leaving message are held by: settings, card, chip and original in form.
 use mathlib.Core.Path.{_≡_}
 use mathlib.Core.Bool.{true}
 use Prim.Native.Nat.{ℕ, _≤_}
 use lib.ListN.{length}
 use Rattle.field.specs.Contents.{allPrintable}
 use Rattle.kinds.specs.Kinds.{sendsReference, sendsAuthorisation}
+use Rattle.elements.specs.Elements.{chipInForm}
+use Rattle.state.specs.State.{chipBytes, hasChip}
+use Rattle.state.specs.declared.Chip.{Chip}
 use Rattle.state.specs.declared.Request.{Request}
 use Rattle.state.specs.declared.Settings.{Settings}
 use Rattle.outgoing.specs.declared.Original.{Original}
@@ -16,14 +19,15 @@ pub record SettingsHeld (x : Settings) : Type 0 where
   pub terminal-printable : allPrintable (x .terminal) ≡ true
   pub merchant-printable : allPrintable (x .merchant) ≡ true
 
--- fields 2, 41 and 42 of a card request
-pub record CardHeld (x : Settings) (q : Request) : Type 0 where
+-- fields 2, 41, 42 and 55 of a card request
+pub record CardHeld (x : Settings) (c : Chip) (q : Request) : Type 0 where
   pub card-low : 13 ≤ q .card .length
   pub card-high : q .card .length ≤ 19
   pub terminal-length : length (x .terminal) ≡ 8
   pub merchant-length : length (x .merchant) ≡ 15
   pub terminal-printable : allPrintable (x .terminal) ≡ true
   pub merchant-printable : allPrintable (x .merchant) ≡ true
+  pub chip-form : hasChip c ≡ true → chipInForm (chipBytes c) ≡ true
 
 -- fields 37 and 38, where a request of this kind holds them
 pub record OriginalHeld (kind : ℕ) (o : Original) : Type 0 where

@@ -3,6 +3,7 @@ use message::Message;
 use numbers::Batch;
 use numbers::Trace;
 use parts::Part;
+use state::Chip;
 use state::Reason;
 use state::Request;
 use state::Reversal;
@@ -14,7 +15,7 @@ ghost use Rattle.message.specs.Build.{digits, bytes, messageOf};
 ghost use Rattle.kinds.specs.Kinds.{indicatorOf};
 ghost use Rattle.writing.specs.Writing.{writeMessage};
 ghost use Rattle.compose.specs.Compose.{withItem, withAll};
-ghost use Rattle.outgoing.specs.Outgoing.{field60, field61, cardFields, originalFields, requestFields, reasonCode, reversalFields, lengthOf};
+ghost use Rattle.outgoing.specs.Outgoing.{field60, field61, entryMode, chipFields, plainFields, cardFields, originalFields, requestFields, reasonCode, reversalFields, lengthOf};
 
 // What a request says of an earlier one: an entry of the journal, or what the desk keyed.
 pub struct Original {
@@ -37,21 +38,21 @@ pub fn with_field60(m: Message, kind: u8, batch: Batch, code: u64) -> Message
 }
 
 // A card request.
-pub fn request_message(x: Settings, batch: Batch, q: Request, o: Original) -> Message
-    ensures { λ r. ⌜ r ≡ withAll (requestFields x batch q o) (messageOf (indicatorOf (q .kind)) []) ⌝ }
+pub fn request_message(x: Settings, batch: Batch, chip: Chip, q: Request, o: Original) -> Message
+    ensures { λ r. ⌜ r ≡ withAll (requestFields x batch chip q o) (messageOf (indicatorOf (q .kind)) []) ⌝ }
 {
     let m = compose::typed(kinds::indicator_of(q.kind));
-    with_original_fields(with_card_fields(m, x, batch, q), q.kind, o)
+    with_original_fields(with_card_fields(m, x, batch, chip, q), q.kind, o)
 }
 
 // A reversal.
-pub fn reversal_message(x: Settings, batch: Batch, v: Reversal) -> Message
-    ensures { λ r. ⌜ r ≡ withAll (reversalFields x batch v) (messageOf 0x0400 []) ⌝ }
+pub fn reversal_message(x: Settings, batch: Batch, chip: Chip, v: Reversal) -> Message
+    ensures { λ r. ⌜ r ≡ withAll (reversalFields x batch chip v) (messageOf 0x0400 []) ⌝ }
 {
     let reason = v.reason;
     let q = v.request;
     let m = compose::typed(0x0400);
-    with_reason(with_card_fields(m, x, batch, q), reason)
+    with_reason(with_card_fields(m, x, batch, chip, q), reason)
 }
 
 // Writes a message that leaves, and gives its length; 0 where it is not written.
@@ -76,9 +77,36 @@ fn with_field61(m: Message, o: Original) -> Message
     compose::with_digits(m, 61, &ds)
 }
 
+// The fields of a card request, those of its chip with them.
+fn with_card_fields(m: Message, x: Settings, batch: Batch, chip: Chip, q: Request) -> Message
+    ensures { λ r. ⌜ r ≡ withAll (cardFields x batch chip q) m ⌝ }
+{
+    with_chip_fields(with_plain_fields(m, x, batch, chip, q), chip)
+}
+
+// Field 22.
+fn entry_mode(chip: Chip) -> u64
+    ensures { λ r. ⌜ r ≡ entryMode chip ⌝ }
+{
+    if chip.length == 0 {
+        return 12;
+    }
+    52
+}
+
+fn with_chip_fields(m: Message, chip: Chip) -> Message
+    ensures { λ r. ⌜ r ≡ withAll (chipFields chip) m ⌝ }
+{
+    if chip.length == 0 {
+        return m;
+    }
+    let bytes = chip.bytes;
+    compose::with_bytes(m, 55, &bytes[..chip.length as usize])
+}
+
 // The fields of every card request.
-fn with_card_fields(m: Message, x: Settings, batch: Batch, q: Request) -> Message
-    ensures { λ r. ⌜ r ≡ withAll (cardFields x batch q) m ⌝ }
+fn with_plain_fields(m: Message, x: Settings, batch: Batch, chip: Chip, q: Request) -> Message
+    ensures { λ r. ⌜ r ≡ withAll (plainFields x batch chip q) m ⌝ }
 {
     let terminal = x.terminal;
     let merchant = x.merchant;
@@ -90,7 +118,7 @@ fn with_card_fields(m: Message, x: Settings, batch: Batch, q: Request) -> Messag
     let m3 = compose::with_number(m2, 3, 6, kinds::processing_of(q.kind) as u64);
     let m4 = compose::with_number(m3, 4, 12, q.amount);
     let m11 = compose::with_number(m4, 11, 6, trace.0 as u64);
-    let m22 = compose::with_number(m11, 22, 3, 12);
+    let m22 = compose::with_number(m11, 22, 3, entry_mode(chip));
     let m25 = compose::with_number(m22, 25, 2, kinds::condition_of(q.kind) as u64);
     let m41 = compose::with_bytes(m25, 41, &terminal);
     let m42 = compose::with_bytes(m41, 42, &merchant);
@@ -131,6 +159,10 @@ fn with_reason(m: Message, reason: Reason) -> Message
         }
         Reason::BadMac => {
             let code = [b'A', b'0'];
+            compose::with_bytes(m, 39, &code)
+        }
+        Reason::CardDeclined => {
+            let code = [b'0', b'6'];
             compose::with_bytes(m, 39, &code)
         }
     }

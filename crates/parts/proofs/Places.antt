@@ -105,20 +105,15 @@ module _ {m : Message} {n count from end : ℕ} (b : Bounded m n count from end)
   taken-is k l e = rw (e, bytes-length l, b .count-is)
 
   -- the front of out is written
-  pub copied-front : (out : List ℕ) {e : List ℕ}
-      → e ≡ take (length (take (end - from) (drop from (m .contents)))) (take (end - from) (drop from (m .contents)))
-      ++ drop (length (take (end - from) (drop from (m .contents)))) out
+  pub copied-front : (out : List ℕ) {e : List ℕ} → length (m .contents) ≡ rooms
+      → e ≡ take (end - from) (drop from (m .contents)) ++ drop (end - from) out
       → e ≡ fieldOf m n .bytes ++ drop (length (fieldOf m n .bytes)) out
-  copied-front out q =
-      let f = fieldOf m n .bytes in
-      q ∙ rw (b .bytes-are, take-all (length f) f (omega arith))
+  copied-front out l q = q ∙ rw (b .bytes-are, bytes-length l)
 
   -- all of out is written
   pub copied : (out : List ℕ) {e : List ℕ} → length (m .contents) ≡ rooms → length out ≡ end - from
-      → e ≡ take (length (take (end - from) (drop from (m .contents)))) (take (end - from) (drop from (m .contents)))
-      ++ drop (length (take (end - from) (drop from (m .contents)))) out
-      → e ≡ fieldOf m n .bytes
-  copied out l w q = copied-front out q ∙ rw (bytes-length l, ← w, drop-length, append-nil)
+      → e ≡ take (end - from) (drop from (m .contents)) ++ drop (end - from) out → e ≡ fieldOf m n .bytes
+  copied out l w q = copied-front out l q ∙ rw (bytes-length l, ← w, drop-length, append-nil)
 
   pub number-short : (i k : ℕ) → count < i + k → numberIn m n i k ≡ Not
   unfolding numberIn

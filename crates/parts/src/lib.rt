@@ -4,9 +4,12 @@ use message::Located;
 use message::Message;
 ghost use mathlib.Core.Path.{_≡_};
 ghost use mathlib.Core.Bool.{cond};
-ghost use Prim.Native.Nat.{_<_};
-ghost use lib.ListN.{length};
-ghost use Rattle.message.specs.Message.{fieldOf};
+ghost use mathlib.Core.List.{_++_};
+ghost use Prim.Native.Nat.{_-_, _≤_, _<_};
+ghost use lib.ListN.{length, take, drop};
+ghost use Rattle.digits.specs.Lists.{sameBytes};
+ghost use Rattle.digits.specs.Digits.{unpack};
+ghost use Rattle.message.specs.Message.{fieldOf, rooms};
 ghost use Rattle.parts.specs.Layout.{placeOf, withPart};
 ghost use Rattle.parts.specs.Parts.{matches, copies, taken, withTaken, numberIn, partOf};
 ghost use Rattle.parts.specs.Bounds.{Bounded};
@@ -81,12 +84,11 @@ pub fn field_matches(m: Message, n: u8, b: &[u8]) -> bool
     ensures { λ r. ⌜ r ≡ matches m n (now (b .entry)) ⌝ }
 {
     let bitmap = m.bitmap;
-    let contents = m.contents;
     if field::named(&bitmap, n) {
         let at = bounds_of(m, n);
         let from = at.from;
         let end = at.end;
-        return digits::same(&contents[from..end], b);
+        return same_at(&m.contents, from, end, b);
     }
     false
 }
@@ -96,13 +98,12 @@ pub fn field_into(m: Message, n: u8, out: &mut [u8]) -> bool
     ensures { λ r. ⌜ (r ≡ copies m n (length (now (out .entry)))) × (now (out .exit) ≡ cond (copies m n (length (now (out .entry)))) (fieldOf m n .bytes) (now (out .entry))) ⌝ }
 {
     let bitmap = m.bitmap;
-    let contents = m.contents;
     if field::named(&bitmap, n) {
         let at = bounds_of(m, n);
         let from = at.from;
         let end = at.end;
         if out.len() == end - from {
-            bytes::copy(&contents[from..end], out);
+            copy_at(&m.contents, from, end, out);
             return true;
         }
     }
@@ -114,7 +115,6 @@ pub fn take_field(m: Message, n: u8, out: &mut [u8]) -> Taken
     ensures { λ r. ⌜ (r ≡ taken m n (length (now (out .entry)))) × (now (out .exit) ≡ withTaken (taken m n (length (now (out .entry)))) (fieldOf m n .bytes) (now (out .entry))) ⌝ }
 {
     let bitmap = m.bitmap;
-    let contents = m.contents;
     if field::named(&bitmap, n) {
         let at = bounds_of(m, n);
         let from = at.from;
@@ -122,7 +122,7 @@ pub fn take_field(m: Message, n: u8, out: &mut [u8]) -> Taken
         if out.len() < end - from {
             return Taken::TooLong;
         }
-        bytes::copy(&contents[from..end], out);
+        copy_at(&m.contents, from, end, out);
         return Taken::Count(at.count);
     }
     Taken::Absent
@@ -133,7 +133,6 @@ pub fn number_in(m: Message, n: u8, from: usize, count: usize) -> Number
     ensures { λ r. ⌜ r ≡ numberIn m n from count ⌝ }
 {
     let bitmap = m.bitmap;
-    let contents = m.contents;
     if field::named(&bitmap, n) {
         let at = bounds_of(m, n);
         if at.count < from {
@@ -146,7 +145,7 @@ pub fn number_in(m: Message, n: u8, from: usize, count: usize) -> Number
         let end = at.end;
         let past = from + count;
         let mut ds = [0u8; 255];
-        digits::unpack_into(&contents[start..end], &mut ds[..past]);
+        unpack_at(&m.contents, start, end, &mut ds[..past]);
         return digits::number_of(&ds[from..past]);
     }
     Number::Not
@@ -184,6 +183,33 @@ fn at(number: u8, from: usize, count: usize) -> Place
         from: from,
         count: count,
     }
+}
+
+// Whether the contents hold these bytes between two places.
+fn same_at(contents: &[u8; message::ROOM], from: usize, end: usize, b: &[u8]) -> bool
+    requires { ⌜ (from ≤ end) × (end ≤ rooms) ⌝ }
+    ensures { λ r. ⌜ r ≡ sameBytes (take (end - from) (drop from (now (contents .entry)))) (now (b .entry)) ⌝ }
+{
+    let s: &[u8] = contents;
+    digits::same(&s[from..end], b)
+}
+
+// Copies the contents between two places to the front of out.
+fn copy_at(contents: &[u8; message::ROOM], from: usize, end: usize, out: &mut [u8])
+    requires { ⌜ (from ≤ end) × ((end ≤ rooms) × (end - from ≤ length (now out))) ⌝ }
+    ensures { λ _. ⌜ now (out .exit) ≡ take (end - from) (drop from (now (contents .entry))) ++ drop (end - from) (now (out .entry)) ⌝ }
+{
+    let s: &[u8] = contents;
+    bytes::copy(&s[from..end], out);
+}
+
+// Unpacks the contents between two places into out.
+fn unpack_at(contents: &[u8; message::ROOM], from: usize, end: usize, out: &mut [u8])
+    requires { ⌜ (from ≤ end) × (end ≤ rooms) ⌝ }
+    ensures { λ _. ⌜ now (out .exit) ≡ unpack (length (now (out .entry))) (take (end - from) (drop from (now (contents .entry)))) ⌝ }
+{
+    let s: &[u8] = contents;
+    digits::unpack_into(&s[from..end], out);
 }
 
 fn wide(x: u8) -> usize

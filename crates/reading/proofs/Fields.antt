@@ -23,8 +23,11 @@ use Rattle.span.proofs.Held.{span-held, span-fits}
 use Rattle.message.specs.Build.{padded}
 use Rattle.message.proofs.Places.{At, roomsOf, rooms-formats, places-rest}
 use Rattle.message.specs.Message.{rooms}
+use Rattle.message.specs.declared.Message.{Message}
+use Rattle.message.proofs.Late.{late-none}
 use Rattle.reading.specs.Found.{Copied}
-use Rattle.reading.specs.Reading.{Fields, bad, good, prepend, afterSpan, readFields, bitmapOf}
+use Rattle.reading.specs.Reading.{Fields, bad, good, prepend, afterSpan, readFields, bitmapOf, accepted}
+use Rattle.reading.specs.declared.ReadOutcome.the-variants.{Read}
 
 -- where the contents of the field at place k of the table stand
 abbrev pub startOf : ℕ → ℕ
@@ -194,3 +197,7 @@ bitmap-bytes s e q y j = rw q (go (decLt j 8))
     go : Dec (j < 8) → getD (bitmapOf s) j 0 < 256
     go (yes h) = rw (getD-take 8 (drop 2 s) j 0 h, getD-drop 2 s j 0) (y (2 + j))
     go (no h) = rw (getD-past (bitmapOf s) j (omega (arith, length-take 8 (drop 2 s)))) (omega arith)
+
+-- a message without field 55 breaks no rule on it as a whole
+pub accepted-plain : (m : Message) → names (m .bitmap) 55 ≡ false → accepted m ≡ record { outcome = Read; message = m }
+accepted-plain m h = rw (late-none m h)

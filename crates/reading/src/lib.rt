@@ -40,13 +40,18 @@ pub fn read(s: &[u8]) -> Reading
             if let ReadOutcome::Refused(e) = o {
                 return refusal(e);
             }
-            let message = Message {
-                indicator: indicator,
-                bitmap: bitmap,
-                counts: counts,
-                contents: contents,
+            if field::named(&bitmap, 55) {
+                return judged(indicator, bitmap, counts, contents);
+            }
+            return Reading {
+                outcome: ReadOutcome::Read,
+                message: Message {
+                    indicator: indicator,
+                    bitmap: bitmap,
+                    counts: counts,
+                    contents: contents,
+                },
             };
-            return accept(message);
         }
         return refusal(5);
     }
@@ -117,17 +122,28 @@ fn read_field(f: Format, s: &[u8], out: &mut [u8]) -> Span
     }
 }
 
-// A message that was read, where no rule on it as a whole is broken.
-fn accept(m: Message) -> Reading
-    ensures { λ r. ⌜ r ≡ accepted m ⌝ }
+// A message that was read, where no rule on it as a whole is broken; they look at field 55 alone.
+fn judged(
+    indicator: u16,
+    bitmap: [u8; 8],
+    counts: [u8; field::ROWS],
+    contents: [u8; message::ROOM],
+) -> Reading
+    ensures { λ r. ⌜ r ≡ accepted (record { indicator = indicator; bitmap = bitmap; counts = counts; contents = contents }) ⌝ }
 {
-    let e = message::late_fault(m);
+    let message = Message {
+        indicator: indicator,
+        bitmap: bitmap,
+        counts: counts,
+        contents: contents,
+    };
+    let e = message::late_fault(message);
     if e != 0 {
         return refusal(e);
     }
     Reading {
         outcome: ReadOutcome::Read,
-        message: m,
+        message: message,
     }
 }
 

@@ -12,7 +12,6 @@ use Rattle.terminal.specs.declared.Step.{Step}
 use Rattle.call_definitions.specs.Events.{eventOf}
 use Rattle.texts.specs.Text.{Text}
 use Rattle.words.specs.Rows.{row}
-use Rattle.words.specs.Words.{wordAt}
 use Rattle.script.specs.Script.{parsed}
 use Rattle.script.specs.declared.Command.{Command}
 use Rattle.script.specs.declared.Command.the-variants.{Terminal, Call as Calls, Reply, Reconcile, Date, Echo, Show as Shows, Wrong}
@@ -23,7 +22,7 @@ use Rattle.centre_types.specs.declared.Left.{Left}
 use Rattle.centre_types.specs.declared.Left.the-variants.{Nothing, Request, Reversal, Settlement, Upload}
 use Rattle.stage.specs.declared.Rehearsal.{Rehearsal}
 use Rattle.stage.specs.Stage.{afterCall}
-use Rattle.lines.specs.Asks.{errorAfter, callOr, askedBy, changedBy, answerBytes}
+use Rattle.lines.specs.Asks.{errorAfter, callOr, askedBy, changedBy, callBytes}
 use Rattle.lines.specs.Shows.{last, messageIn, errors, said}
 use Rattle.lines.specs.declared.asks.Asked.{Asked}
 use Rattle.lines.specs.declared.asks.Asked.the-variants as asked
@@ -51,7 +50,7 @@ wrote lent e t = record { rehearsal-is = e; lent-is = refl; text-is = t }
 module _ (number : ℕ) (s : List ℕ) (r : Rehearsal) (lent : Lent) where
   -- what it does by what it asks for
   abbrev doneAs : Asked → Command → Line → Done
-  doneAs (asked.Call c) k line = called (eventOf c (line .desk) (answerBytes k (wordAt 1 s) (messageIn (last r (lent .message))) (r .date))) r lent
+  doneAs (asked.Call c) k line = called (eventOf c (line .desk) (callBytes k s (messageIn (last r (lent .message))) (r .date))) r lent
   doneAs (asked.Error e) k line = writes (said e number k r lent) (changedBy k (line .settings) r) lent
 
   asked-done : (k : Command) (line : Line) (has-terminal : Bool) (l : Left)
@@ -60,8 +59,8 @@ module _ (number : ℕ) (s : List ℕ) (r : Rehearsal) (lent : Lent) where
   unfolding lineError errorAfter callOr said
   asked-done Terminal line true l = refl
   asked-done Terminal line false l = refl
-  asked-done (Calls c) line true l = refl
-  asked-done (Calls c) line false l = refl
+  asked-done (Calls c w) line true l = refl
+  asked-done (Calls c w) line false l = refl
   asked-done (Reply a b good) line true Nothing = refl
   asked-done (Reply a b good) line true Request = refl
   asked-done (Reply a b good) line true Reversal = refl
@@ -96,12 +95,12 @@ module _ (number : ℕ) (s : List ℕ) (r : Rehearsal) (lent : Lent) where
         ∙ ap (λ (z : Asked). doneAs z (line .command) line) (sym t)
 
     module _ {d : Acted} {o : List ℕ} where
-      pub call-done : {c : Call} {b : List ℕ} {after : Lent} → a ≡ asked.Call c → b ≡ answerBytes (line .command) (wordAt 1 s) x (r .date)
+      pub call-done : {c : Call} {b : List ℕ} {after : Lent} → a ≡ asked.Call c → b ≡ callBytes (line .command) s x (r .date)
           → Did (called (eventOf c (line .desk) b) r lent) d after o → Did (done number s r lent) d after o
       call-done {c} {b} {after} g p u =
           subst (λ (z : Done). Did z d after o)
           (ap (λ (y : List ℕ). called (eventOf c (line .desk) y) r lent)
-          (p ∙ ap (λ (z : Message). answerBytes (line .command) (wordAt 1 s) z (r .date)) h)
+          (p ∙ ap (λ (z : Message). callBytes (line .command) s z (r .date)) h)
           ∙ sym (is-done ∙ ap (λ (z : Asked). doneAs z (line .command) line) g))
           u
 

@@ -24,7 +24,7 @@ use Rattle.rehearse.specs.Rehearsal.{Done, writes, called}
 -- the error of a line that is understood, after what left last
 abbrev pub commandError : Command → Left → ℕ
 commandError command.Terminal l = 0
-commandError (command.Call c) l = 0
+commandError (command.Call c k) l = 0
 commandError (command.Reply a b good) l = replyError l
 commandError (command.Reconcile digit) l = reconcileError l
 commandError (command.Date d) l = 0
@@ -35,7 +35,7 @@ commandError (command.Wrong f) l = 0
 -- lines that need no terminal
 abbrev pub standsAlone : Command → Bool
 standsAlone command.Terminal = true
-standsAlone (command.Call c) = false
+standsAlone (command.Call c k) = false
 standsAlone (command.Reply a b good) = false
 standsAlone (command.Reconcile digit) = false
 standsAlone (command.Date d) = true
@@ -50,7 +50,7 @@ lineError c has-terminal l = cond (has-terminal || standsAlone c) (commandError 
 -- what a line of words s that is obeyed does
 abbrev pub commandDone : Command → Line → ℕ → List ℕ → Rehearsal → Lent → Done
 commandDone command.Terminal line number s r lent = writes [] (begun (line .settings) r) lent
-commandDone (command.Call c) line number s r lent = called (eventOf c (line .desk) (bytesIn (wordAt 1 s))) r lent
+commandDone (command.Call c k) line number s r lent = called (eventOf c (line .desk) (bytesIn (wordAt k s))) r lent
 commandDone (command.Reply a b good) line number s r lent =
     called (answers (bytesOf (reply (messageIn (last r (lent .message))) (r .date) (a ∷ b ∷ []))) good) r lent
 commandDone (command.Reconcile digit) line number s r lent =

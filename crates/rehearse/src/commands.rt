@@ -17,8 +17,8 @@ pub struct Acted {
     pub written: usize,
 }
 
-// Does what line `number` of words s says; what it writes stands at the front of out, as far as out has room. The bytes of an
-// answer are the line's second word, or those of the simulated centre.
+// Does what line `number` of words s says; what it writes stands at the front of out, as far as out has room. The bytes of a
+// call are those of a word of the line, or of the simulated centre.
 pub fn act(
     r: Rehearsal,
     number: u64,
@@ -40,7 +40,7 @@ pub fn act(
             let state = r.state;
             let terminal = Terminal { state: state };
             let mut bytes = [0u8; 2048];
-            let n = lines::answer_into(command, words::word(s, 1), sent, r.date, &mut bytes);
+            let n = lines::bytes_into(command, s, sent, r.date, &mut bytes);
             let step = terminal.make(c, desk, &bytes[..n], journal, message);
             told(step, r, message, out)
         }

@@ -9,7 +9,7 @@ use Rattle.words.specs.Rows.{row}
 use Rattle.state.specs.declared.Outcome.{Outcome}
 use Rattle.state.specs.declared.Outcome.the-variants.{Send, Quiet, Refused}
 
--- document 01, "Why a call is turned down", in short: row k is number k, and 0 is none
+-- document 01, "Why a call is turned down", and document 02, in short: row k is number k, and 0 is none
 abbrev pub reasons : List ℕ
 reasons =
     text "\n"
@@ -26,7 +26,7 @@ reasons =
     ++ text "something is awaited\n"
     ++ text "a reversal is pending\n"
     ++ text "the batch is settling or uploading\n"
-    ++ text "nothing is awaited, pending or uploading\n"
+    ++ text "nothing of that kind is awaited, pending or uploading\n"
     ++ text "the amount is out of range\n"
     ++ text "kind, card, date, text or batch out of form\n"
     ++ text "the refund is above its setting\n"
@@ -35,6 +35,7 @@ reasons =
     ++ text "the entry is voided already\n"
     ++ text "the total would be too large\n"
     ++ text "the answer does not match\n"
+    ++ text "field 55 is out of form\n"
 
 unfoldable pub reason : ℕ → List ℕ
 reason n = row n reasons

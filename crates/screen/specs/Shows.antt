@@ -50,6 +50,7 @@ phaseNames =
     ++ text "reversal-pending\n"
     ++ text "settling\n"
     ++ text "uploading\n"
+    ++ text "waiting-consent\n"
 
 abbrev pub awaitedNumber : Awaited → ℕ
 awaitedNumber (awaited.Request q) = 1
@@ -65,8 +66,12 @@ phaseNumber (Pending v) = 6
 phaseNumber Settling = 7
 phaseNumber Uploading = 8
 
-unfoldable pub phaseName : Phase → List ℕ
-phaseName p = row (phaseNumber p) phaseNames
+-- document 02, request 1: after a chip's approval the card's word is awaited
+unfoldable pub stateNumber : State → ℕ
+stateNumber s = cond (s .chip .approved) 9 (phaseNumber (s .phase))
+
+unfoldable pub phaseName : State → List ℕ
+phaseName s = row (stateNumber s) phaseNames
 
 abbrev pub onOrOff : Bool → List ℕ
 onOrOff true = text "on"
@@ -82,7 +87,7 @@ firstState on batch trace =
 unfoldable pub stateLine : State → List ℕ
 stateLine s =
     firstState (s .«signed_on») (s .batch .0) (s .next .0)
-    ++ text " phase " ++ phaseName (s .phase)
+    ++ text " phase " ++ phaseName s
     ++ valueText (text "entries") (s .entries)
     ++ feed
 

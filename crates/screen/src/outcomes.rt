@@ -5,8 +5,8 @@ ghost use Rattle.texts.specs.Decimal.{decimal};
 ghost use Rattle.texts.specs.Text.{Adds};
 ghost use Rattle.screen.specs.Outcomes.{outcomeLine, errorLine};
 
-// Why a call is turned down: row k is number k of document 01.
-const REASONS: [u8; 638] = *b"
+// Why a call is turned down: row k is number k of documents 01 and 02.
+const REASONS: [u8; 675] = *b"
 message buffer or journal too small
 settings, state or journal out of form
 the message ends too early
@@ -20,7 +20,7 @@ signed off
 something is awaited
 a reversal is pending
 the batch is settling or uploading
-nothing is awaited, pending or uploading
+nothing of that kind is awaited, pending or uploading
 the amount is out of range
 kind, card, date, text or batch out of form
 the refund is above its setting
@@ -29,6 +29,7 @@ no such entry
 the entry is voided already
 the total would be too large
 the answer does not match
+field 55 is out of form
 ";
 
 // Adds what a call gave; what left stands at the front of message.

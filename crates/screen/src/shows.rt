@@ -8,10 +8,10 @@ ghost use mathlib.Core.Path.{_≡_};
 ghost use Rattle.texts.specs.Text.{Adds};
 ghost use Rattle.journal.specs.Journal.{entriesOf};
 ghost use Rattle.state_rules.specs.StateRules.{waiting};
-ghost use Rattle.screen.specs.Shows.{countsLine, totalsLine, awaitedNumber, phaseNumber, stateLine, journalText, messageLine};
+ghost use Rattle.screen.specs.Shows.{countsLine, totalsLine, awaitedNumber, phaseNumber, stateNumber, stateLine, journalText, messageLine};
 
-// The names of the phases by number.
-const PHASES: [u8; 118] = *b"resting
+// The names of the phases by number; the last is that of the wait for the card's word.
+const PHASES: [u8; 134] = *b"resting
 waiting-card
 waiting-reversal
 waiting-settlement
@@ -20,6 +20,7 @@ waiting-end
 reversal-pending
 settling
 uploading
+waiting-consent
 ";
 
 pub fn add_counts(c: Counts, phase: Phase, n: usize, out: &mut [u8]) -> usize
@@ -56,9 +57,8 @@ pub fn add_state(s: State, n: usize, out: &mut [u8]) -> usize
     let names = PHASES;
     let batch = s.batch;
     let next = s.next;
-    let phase = s.phase;
     let values = [batch.0 as u64, next.0 as u64, s.entries as u64];
-    let name = words::row(&names, phase_number(phase));
+    let name = words::row(&names, state_number(s));
     if s.signed_on {
         return templates::add_filled(
             b"state on batch % trace % phase $ entries #\n",
@@ -125,4 +125,16 @@ fn phase_number(phase: Phase) -> usize
         Phase::Settling => 7,
         Phase::Uploading => 8,
     }
+}
+
+// The number of a state's phase, where the card's word may be awaited.
+fn state_number(s: State) -> usize
+    ensures { λ r. ⌜ r ≡ stateNumber s ⌝ }
+{
+    let chip = s.chip;
+    let phase = s.phase;
+    if chip.approved {
+        return 9;
+    }
+    phase_number(phase)
 }

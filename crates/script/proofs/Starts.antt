@@ -11,14 +11,14 @@ use Rattle.script.specs.declared.Command.the-variants as command
 use Rattle.script.specs.Script.{given, deskOf, commandOf}
 use Rattle.script.proofs.Name as name-type
 
--- the names of a start
+-- the names of a start without a chip's word
 abbrev starts : List ℕ
-starts = 2 ∷ 3 ∷ 4 ∷ 5 ∷ 6 ∷ []
+starts = 3 ∷ 4 ∷ 5 ∷ 6 ∷ []
 
-pub starting : (n : Name) (s : List ℕ) → OneOf starts (tagOf name-type.the-type n) → command.Call call.Start ≡ commandOf n s
+pub starting : (n : Name) (s : List ℕ) → OneOf starts (tagOf name-type.the-type n) → command.Call call.Start 9 ≡ commandOf n s
 starting name.Terminal s h = absurd (miss starts 0 tt h)
 starting name.SignedOn s h = absurd (miss starts 1 tt h)
-starting (name.Request kind) s h = refl
+starting (name.Request kind) s h = absurd (miss starts 2 tt h)
 starting (name.Void kind) s h = refl
 starting (name.Authorised kind) s h = refl
 starting name.Refund s h = refl

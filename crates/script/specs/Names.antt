@@ -24,6 +24,8 @@ names =
     ∷ name.Echo
     ∷ name.Call call.NoAnswer
     ∷ name.Call call.PowerReturned
+    ∷ name.Call call.CardAgrees
+    ∷ name.Call call.CardDeclines
     ∷ name.Call call.SendReversal
     ∷ name.Call call.Settle
     ∷ name.Call call.SendNextUpload

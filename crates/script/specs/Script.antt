@@ -1,6 +1,6 @@
 -- A line of a script as a command, with settings and desk data beside it.
 use mathlib.Core.List.{List, []}
-use mathlib.Core.Bool.{cond}
+use mathlib.Core.Bool.{Bool, false, cond, not}
 use Prim.Native.Nat.{ℕ, _/_, _%_}
 use lib.ListN.{length, getD, replicate}
 use Rattle.digits.specs.declared.Number.{Number}
@@ -53,26 +53,27 @@ unfoldable pub textOr : ℕ → List ℕ → List ℕ
 textOr n w = cond (isText n w) (textIn w) (replicate n 0)
 
 -- the desk's data from its words; an empty word is none
-unfoldable pub keyed : ℕ → List ℕ → List ℕ → List ℕ → List ℕ → List ℕ → ℕ → ℕ → Desk
-keyed kind amount card trace reference authorisation month day =
+unfoldable pub keyed : ℕ → List ℕ → List ℕ → List ℕ → List ℕ → List ℕ → ℕ → ℕ → Bool → Desk
+keyed kind amount card trace reference authorisation month day chip =
     record {
       kind = kind; amount = number64 amount; card = cardIn card; original = record { 0 = number32 trace };
-      month = month; day = day; authorisation = textOr 6 authorisation; reference = textOr 12 reference }
+      month = month; day = day; authorisation = textOr 6 authorisation; reference = textOr 12 reference;
+      chip = chip }
 
--- start KIND AMOUNT CARD TRACE REFERENCE AUTHORISATION MONTH DAY
+-- start KIND AMOUNT CARD TRACE REFERENCE AUTHORISATION MONTH DAY CHIP
 unfoldable pub given : List ℕ → Desk
 given s =
     keyed (number8 (wordAt 1 s)) (wordAt 2 s) (wordAt 3 s) (wordAt 4 s) (wordAt 5 s) (wordAt 6 s)
-      (number8 (wordAt 7 s)) (number8 (wordAt 8 s))
+      (number8 (wordAt 7 s)) (number8 (wordAt 8 s)) (not (sameBytes (wordAt 9 s) (text "none")))
 
--- what the desk keyed; where a line is no start, that has no meaning
+-- what the desk keyed; a sale or an authorisation has a chip where the word chip stands; where a line is no start, that has no meaning
 abbrev pub deskOf : Name → List ℕ → Desk
-deskOf (name.Request kind) s = keyed kind (wordAt 1 s) (wordAt 2 s) [] [] [] 0 0
-deskOf (name.Void kind) s = keyed kind [] [] (wordAt 1 s) [] [] 0 0
+deskOf (name.Request kind) s = keyed kind (wordAt 1 s) (wordAt 2 s) [] [] [] 0 0 (not (isEmpty (wordAt 3 s)))
+deskOf (name.Void kind) s = keyed kind [] [] (wordAt 1 s) [] [] 0 0 false
 deskOf (name.Authorised kind) s =
-    keyed kind (wordAt 1 s) (wordAt 2 s) [] [] (wordAt 3 s) (monthDay (wordAt 4 s) / 100) (monthDay (wordAt 4 s) % 100)
+    keyed kind (wordAt 1 s) (wordAt 2 s) [] [] (wordAt 3 s) (monthDay (wordAt 4 s) / 100) (monthDay (wordAt 4 s) % 100) false
 deskOf name.Refund s =
-    keyed 25 (wordAt 1 s) (wordAt 2 s) [] (wordAt 3 s) [] (monthDay (wordAt 4 s) / 100) (monthDay (wordAt 4 s) % 100)
+    keyed 25 (wordAt 1 s) (wordAt 2 s) [] (wordAt 3 s) [] (monthDay (wordAt 4 s) / 100) (monthDay (wordAt 4 s) % 100) false
 deskOf name.Start s = given s
 deskOf name.Terminal s = given s
 deskOf name.SignedOn s = given s
@@ -92,21 +93,22 @@ settingsIn s =
       limit = number32 (wordAt 1 s); sendings = number8 (wordAt 2 s); refund = number64 (wordAt 3 s);
       terminal = textOr 8 (wordAt 4 s); merchant = textOr 15 (wordAt 5 s) }
 
--- the command of a line whose words are fine
+-- the command of a line whose words are fine; the word that gives a call's bytes is 4 in sale AMOUNT CARD chip HEX, 9 in start and 1 in answer,
+-- and no word 9 stands in a line of a call without bytes
 abbrev pub commandOf : Name → List ℕ → Command
 commandOf name.Terminal s = command.Terminal
-commandOf name.SignedOn s = command.Call (call.SignedOn (record { 0 = number32 (wordAt 1 s) }))
-commandOf (name.Request kind) s = command.Call call.Start
-commandOf (name.Void kind) s = command.Call call.Start
-commandOf (name.Authorised kind) s = command.Call call.Start
-commandOf name.Refund s = command.Call call.Start
-commandOf name.Start s = command.Call call.Start
-commandOf name.Answer s = command.Call (call.Answer (isGood (wordAt 2 s)))
+commandOf name.SignedOn s = command.Call (call.SignedOn (record { 0 = number32 (wordAt 1 s) })) 9
+commandOf (name.Request kind) s = command.Call call.Start 4
+commandOf (name.Void kind) s = command.Call call.Start 9
+commandOf (name.Authorised kind) s = command.Call call.Start 9
+commandOf name.Refund s = command.Call call.Start 9
+commandOf name.Start s = command.Call call.Start 9
+commandOf name.Answer s = command.Call (call.Answer (isGood (wordAt 2 s))) 1
 commandOf name.Reply s = command.Reply (getD (wordAt 1 s) 0 0) (getD (wordAt 1 s) 1 0) (isEmpty (wordAt 2 s))
 commandOf name.Reconcile s = command.Reconcile (number8 (wordAt 1 s))
 commandOf name.Date s = command.Date (monthDay (wordAt 1 s))
 commandOf name.Echo s = command.Echo (sameBytes (wordAt 1 s) (text "on"))
-commandOf (name.Call c) s = command.Call c
+commandOf (name.Call c) s = command.Call c 9
 commandOf (name.Show x) s = command.Show x
 commandOf name.Unknown s = command.Wrong fault.Unknown
 
@@ -122,4 +124,4 @@ lineOf k s =
       settings = settingsIn s; desk = deskOf (getD names k name.Unknown) s }
 
 unfoldable pub parsed : List ℕ → Line
-parsed s = lineOf (rowNamed 26 (wordAt 0 s) commands) s
+parsed s = lineOf (rowNamed 28 (wordAt 0 s) commands) s

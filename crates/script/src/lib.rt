@@ -40,10 +40,11 @@ pub enum Name {
     Unknown,
 }
 
-// What a line asks for; settings and desk data stand beside it, and the bytes of an answer are its second word.
+// What a line asks for; settings and desk data stand beside it. A call comes with the number of the word that gives its bytes, those of an
+// answer or of a chip's field 55; for a call without bytes it is 9, and no word stands there.
 pub enum Command {
     Terminal,
-    Call(Call),
+    Call { call: Call, word: u8 },
     Reply { first: u8, second: u8, good: bool },
     Reconcile(u8),
     Date(u16),
@@ -90,16 +91,29 @@ fn command_of(name: Name, s: &[u8]) -> Command
 {
     match name {
         Name::Terminal => Command::Terminal,
-        Name::SignedOn => Command::Call(Call::SignedOn(Batch(values::number32(words::word(s, 1))))),
-        Name::Answer => Command::Call(Call::Answer(word_values::is_good(words::word(s, 2)))),
+        Name::SignedOn => Command::Call {
+            call: Call::SignedOn(Batch(values::number32(words::word(s, 1)))),
+            word: 9,
+        },
+        Name::Request(_) => Command::Call {
+            call: Call::Start,
+            word: 4,
+        },
+        Name::Answer => Command::Call {
+            call: Call::Answer(word_values::is_good(words::word(s, 2))),
+            word: 1,
+        },
         Name::Reply => replied(s),
         Name::Reconcile => Command::Reconcile(values::number8(words::word(s, 1))),
         Name::Date => Command::Date(values::month_day(words::word(s, 1))),
         Name::Echo => Command::Echo(digits::same(words::word(s, 1), b"on")),
-        Name::Call(c) => Command::Call(c),
+        Name::Call(c) => Command::Call { call: c, word: 9 },
         Name::Show(x) => Command::Show(x),
         Name::Unknown => Command::Wrong(Fault::Unknown),
-        _ => Command::Call(Call::Start),
+        _ => Command::Call {
+            call: Call::Start,
+            word: 9,
+        },
     }
 }
 

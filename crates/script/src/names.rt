@@ -6,7 +6,7 @@ ghost use mathlib.Core.Path.{_≡_};
 ghost use lib.ListN.{getD};
 ghost use Rattle.script.specs.Names.{names};
 
-const NAMES: [Name; 27] = [
+const NAMES: [Name; 29] = [
     Name::Terminal,
     Name::SignedOn,
     Name::Request(22),
@@ -24,6 +24,8 @@ const NAMES: [Name; 27] = [
     Name::Echo,
     Name::Call(Call::NoAnswer),
     Name::Call(Call::PowerReturned),
+    Name::Call(Call::CardAgrees),
+    Name::Call(Call::CardDeclines),
     Name::Call(Call::SendReversal),
     Name::Call(Call::Settle),
     Name::Call(Call::SendNextUpload),
@@ -41,7 +43,7 @@ pub fn name_at(k: usize) -> Name
     ensures { λ r. ⌜ r ≡ getD names k Name.Unknown ⌝ }
 {
     let names = NAMES;
-    if k < 27 {
+    if k < 29 {
         return names[k];
     }
     Name::Unknown

@@ -60,8 +60,9 @@ fn keyed(
     authorisation: &[u8],
     month: u8,
     day: u8,
+    chip: bool,
 ) -> Desk
-    ensures { λ r. ⌜ r ≡ keyed kind (now (amount .entry)) (now (card .entry)) (now (trace .entry)) (now (reference .entry)) (now (authorisation .entry)) month day ⌝ }
+    ensures { λ r. ⌜ r ≡ keyed kind (now (amount .entry)) (now (card .entry)) (now (trace .entry)) (now (reference .entry)) (now (authorisation .entry)) month day chip ⌝ }
 {
     let mut field37 = [0u8; 12];
     let mut field38 = [0u8; 6];
@@ -77,6 +78,7 @@ fn keyed(
         day: day,
         authorisation: field38,
         reference: field37,
+        chip: chip,
     }
 }
 
@@ -84,6 +86,7 @@ fn requested(kind: u8, s: &[u8]) -> Desk
     ensures { λ r. ⌜ r ≡ deskOf (Name.Request kind) (now (s .entry)) ⌝ }
 {
     let none = &s[..0];
+    let chip = words::word(s, 3);
     keyed(
         kind,
         words::word(s, 1),
@@ -93,6 +96,7 @@ fn requested(kind: u8, s: &[u8]) -> Desk
         none,
         0,
         0,
+        chip.len() != 0,
     )
 }
 
@@ -100,7 +104,7 @@ fn voiding(kind: u8, s: &[u8]) -> Desk
     ensures { λ r. ⌜ r ≡ deskOf (Name.Void kind) (now (s .entry)) ⌝ }
 {
     let none = &s[..0];
-    keyed(kind, none, none, words::word(s, 1), none, none, 0, 0)
+    keyed(kind, none, none, words::word(s, 1), none, none, 0, 0, false)
 }
 
 fn authorised(kind: u8, s: &[u8]) -> Desk
@@ -119,6 +123,7 @@ fn authorised(kind: u8, s: &[u8]) -> Desk
         words::word(s, 3),
         month,
         day,
+        false,
     )
 }
 
@@ -138,6 +143,7 @@ fn refunded(s: &[u8]) -> Desk
         none,
         month,
         day,
+        false,
     )
 }
 
@@ -148,6 +154,7 @@ fn given(s: &[u8]) -> Desk
     let kind = number8(words::word(s, 1));
     let month = number8(words::word(s, 7));
     let day = number8(words::word(s, 8));
+    let none = digits::same(words::word(s, 9), b"none");
     keyed(
         kind,
         words::word(s, 2),
@@ -157,6 +164,7 @@ fn given(s: &[u8]) -> Desk
         words::word(s, 6),
         month,
         day,
+        !none,
     )
 }
 

@@ -1,7 +1,9 @@
 -- Document 01, "State and journal": the state, and how a call changes it.
-use mathlib.Core.List.{List}
-use mathlib.Core.Bool.{Bool, true, false}
+use mathlib.Core.List.{List, _++_}
+use mathlib.Core.Bool.{Bool, true, false, not}
 use Prim.Native.Nat.{ℕ, _+_, _≤_}
+use lib.Dec.{eqb}
+use lib.ListN.{length, take, drop, replicate}
 use Rattle.numbers.specs.Limits.{mostRequests, mostEntries}
 use Rattle.numbers.specs.Numbers.{following}
 use Rattle.numbers.specs.declared.Trace.{Trace}
@@ -10,6 +12,8 @@ use Rattle.state.specs.declared.Settings.{Settings}
 use Rattle.state.specs.declared.Count.{Count}
 use Rattle.state.specs.declared.Count.the-variants.{Sent, Approved, Declined, Reversed, GivenUp, Unanswered}
 use Rattle.state.specs.declared.Counts.{Counts}
+use Rattle.state.specs.declared.Approval.{Approval}
+use Rattle.state.specs.declared.Chip.{Chip}
 use Rattle.state.specs.declared.Awaited.{Awaited}
 use Rattle.state.specs.declared.Phase.{Phase}
 use Rattle.state.specs.declared.Phase.the-variants.{Resting, Waiting, Pending, Settling, Uploading}
@@ -48,33 +52,68 @@ pub record CountsSmall (c : Counts) : Type 0 where
   pub given-up : c .«given_up» ≤ mostRequests
   pub unanswered : c .unanswered ≤ mostRequests
 
+-- document 02, request 1: a chip's field 55, whether the card's word is awaited, and the approval before it
+abbrev chipWith : ℕ → List ℕ → Bool → List ℕ → List ℕ → List ℕ → Chip
+chipWith n b waits d a r = record { length = n; bytes = b; approved = waits; date = d; authorisation = a; reference = r }
+
+-- a chip whose card's word is not awaited
+abbrev unapproved : ℕ → List ℕ → Chip
+unapproved n b = chipWith n b false (replicate 2 0) (replicate 6 0) (replicate 12 0)
+
+abbrev pub noChip : Chip
+noChip = unapproved 0 (replicate 255 0)
+
+-- up to 255 bytes as field 55
+abbrev pub chipOf : List ℕ → Chip
+chipOf b = unapproved (length b) (b ++ drop (length b) (replicate 255 0))
+
+-- field 55 as it is sent, and whether it is
+abbrev pub chipBytes : Chip → List ℕ
+chipBytes c = take (c .length) (c .bytes)
+
+abbrev pub hasChip : Chip → Bool
+hasChip c = not (eqb (c .length) 0)
+
+abbrev pub asSent : Chip → Chip
+asSent c = unapproved (c .length) (c .bytes)
+
+-- approved by the centre: the card has the last word
+abbrev pub approvedBy : Approval → Chip → Chip
+approvedBy a c = chipWith (c .length) (c .bytes) true (a .date) (a .authorisation) (a .reference)
+
+abbrev pub approvalIn : Chip → Approval
+approvalIn c = record { date = c .date; authorisation = c .authorisation; reference = c .reference }
+
 -- a state from its members
-abbrev stateOf : Settings → Bool → Batch → Trace → ℕ → Counts → Phase → State
-stateOf x on batch next n c p =
-    record { settings = x; «signed_on» = on; batch = batch; next = next; entries = n; counts = c; phase = p }
+abbrev stateOf : Settings → Bool → Batch → Trace → ℕ → Counts → Chip → Phase → State
+stateOf x on batch next n c chip p =
+    record { settings = x; «signed_on» = on; batch = batch; next = next; entries = n; counts = c; chip = chip; phase = p }
 
 -- a fresh terminal is signed off, in batch 1, resting, journal empty, counts 0, next trace 1
 abbrev pub fresh : Settings → State
-fresh x = stateOf x false (record { 0 = 1 }) (record { 0 = 1 }) 0 noCounts Resting
+fresh x = stateOf x false (record { 0 = 1 }) (record { 0 = 1 }) 0 noCounts noChip Resting
 
 -- the state with one member changed; the settings never change
 abbrev pub signed : Bool → State → State
-signed on s = stateOf (s .settings) on (s .batch) (s .next) (s .entries) (s .counts) (s .phase)
+signed on s = stateOf (s .settings) on (s .batch) (s .next) (s .entries) (s .counts) (s .chip) (s .phase)
 
 abbrev pub inBatch : Batch → State → State
-inBatch batch s = stateOf (s .settings) (s .«signed_on») batch (s .next) (s .entries) (s .counts) (s .phase)
+inBatch batch s = stateOf (s .settings) (s .«signed_on») batch (s .next) (s .entries) (s .counts) (s .chip) (s .phase)
 
 abbrev pub withNext : Trace → State → State
-withNext next s = stateOf (s .settings) (s .«signed_on») (s .batch) next (s .entries) (s .counts) (s .phase)
+withNext next s = stateOf (s .settings) (s .«signed_on») (s .batch) next (s .entries) (s .counts) (s .chip) (s .phase)
 
 abbrev pub withEntries : ℕ → State → State
-withEntries n s = stateOf (s .settings) (s .«signed_on») (s .batch) (s .next) n (s .counts) (s .phase)
+withEntries n s = stateOf (s .settings) (s .«signed_on») (s .batch) (s .next) n (s .counts) (s .chip) (s .phase)
 
 abbrev pub withCounts : Counts → State → State
-withCounts c s = stateOf (s .settings) (s .«signed_on») (s .batch) (s .next) (s .entries) c (s .phase)
+withCounts c s = stateOf (s .settings) (s .«signed_on») (s .batch) (s .next) (s .entries) c (s .chip) (s .phase)
+
+abbrev pub withChip : Chip → State → State
+withChip chip s = stateOf (s .settings) (s .«signed_on») (s .batch) (s .next) (s .entries) (s .counts) chip (s .phase)
 
 abbrev pub inPhase : Phase → State → State
-inPhase p s = stateOf (s .settings) (s .«signed_on») (s .batch) (s .next) (s .entries) (s .counts) p
+inPhase p s = stateOf (s .settings) (s .«signed_on») (s .batch) (s .next) (s .entries) (s .counts) (s .chip) p
 
 -- the next trace is the one after that taken
 abbrev pub took : Trace → State → State

@@ -4,7 +4,7 @@ use numbers::Trace;
 ghost use mathlib.Core.Path.{_≡_};
 ghost use Prim.Native.Nat.{_+_, _≤_};
 ghost use Rattle.numbers.specs.Limits.{mostRequests};
-ghost use Rattle.state.specs.State.{usual, noCounts, CountsSmall, plus, fresh, inPhase, withCounts, withEntries, withNext, inBatch, signed, took, closed, isResting, isWaiting, isPending, isClosing, isUploading};
+ghost use Rattle.state.specs.State.{usual, noChip, asSent, approvedBy, approvalIn, noCounts, CountsSmall, plus, fresh, inPhase, withCounts, withChip, withEntries, withNext, inBatch, signed, took, closed, rests, waits, pends, closes, uploads, isResting, isWaiting, isPending, isClosing, isUploading};
 
 // A card number keyed at the desk: its digits as a number, and how many they are.
 pub struct Card {
@@ -21,10 +21,11 @@ pub struct Request {
     pub original: Trace,
 }
 
-// Why a reversal is sent: field 39 is 98 for silence, A0 for a bad MAC.
+// Why a reversal is sent: field 39 is 98 for silence, A0 for a bad MAC, 06 where the card has declined.
 pub enum Reason {
     Silence,
     BadMac,
+    CardDeclined,
 }
 
 // The reversal of a request, and how often it has been sent.
@@ -48,6 +49,24 @@ pub enum Phase {
     Pending(Reversal),
     Settling,
     Uploading,
+}
+
+// What an entry takes from the answer that approves its request: field 13, field 38, field 37.
+pub struct Approval {
+    pub date: [u8; 2],
+    pub authorisation: [u8; 6],
+    pub reference: [u8; 12],
+}
+
+// The chip of the request that is awaited or reversed, beside the phase, since an enum holds no array: field 55 as it was sent, of
+// length 0 without a chip; whether the centre has approved and the card's word is awaited; and what that approval says.
+pub struct Chip {
+    pub length: u8,
+    pub bytes: [u8; 255],
+    pub approved: bool,
+    pub date: [u8; 2],
+    pub authorisation: [u8; 6],
+    pub reference: [u8; 12],
 }
 
 // Entry limit, sendings of a reversal, largest refund in fen, fields 41 and 42.
@@ -76,6 +95,7 @@ pub struct State {
     pub next: Trace,
     pub entries: u16,
     pub counts: Counts,
+    pub chip: Chip,
     pub phase: Phase,
 }
 
@@ -118,6 +138,136 @@ impl Settings {
             refund: Settings::REFUND,
             terminal: terminal,
             merchant: merchant,
+        }
+    }
+}
+
+impl Chip {
+    // No chip.
+    pub fn none() -> Self
+        ensures { λ r. ⌜ r ≡ noChip ⌝ }
+    {
+        Chip {
+            length: 0,
+            bytes: [0u8; 255],
+            approved: false,
+            date: [0u8; 2],
+            authorisation: [0u8; 6],
+            reference: [0u8; 12],
+        }
+    }
+
+    // The chip as it was sent, its card's word not awaited.
+    pub fn as_sent(self) -> Self
+        ensures { λ r. ⌜ r ≡ asSent self ⌝ }
+    {
+        let bytes = self.bytes;
+        Chip {
+            length: self.length,
+            bytes: bytes,
+            approved: false,
+            date: [0u8; 2],
+            authorisation: [0u8; 6],
+            reference: [0u8; 12],
+        }
+    }
+
+    // The chip whose card's word is awaited after this approval.
+    pub fn approved_by(self, approval: Approval) -> Self
+        ensures { λ r. ⌜ r ≡ approvedBy approval self ⌝ }
+    {
+        let bytes = self.bytes;
+        let date = approval.date;
+        let authorisation = approval.authorisation;
+        let reference = approval.reference;
+        Chip {
+            length: self.length,
+            bytes: bytes,
+            approved: true,
+            date: date,
+            authorisation: authorisation,
+            reference: reference,
+        }
+    }
+
+    // The approval after which the card's word is awaited.
+    pub fn approval(self) -> Approval
+        ensures { λ r. ⌜ r ≡ approvalIn self ⌝ }
+    {
+        let date = self.date;
+        let authorisation = self.authorisation;
+        let reference = self.reference;
+        Approval {
+            date: date,
+            authorisation: authorisation,
+            reference: reference,
+        }
+    }
+}
+
+impl Phase {
+    // Whether nothing goes on.
+    fn rests(self) -> bool
+        ensures { λ r. ⌜ r ≡ rests self ⌝ }
+    {
+        match self {
+            Phase::Resting => true,
+            Phase::Waiting(_) => false,
+            Phase::Pending(_) => false,
+            Phase::Settling => false,
+            Phase::Uploading => false,
+        }
+    }
+
+    // Whether something is awaited.
+    fn waits(self) -> bool
+        ensures { λ r. ⌜ r ≡ waits self ⌝ }
+    {
+        match self {
+            Phase::Resting => false,
+            Phase::Waiting(_) => true,
+            Phase::Pending(_) => false,
+            Phase::Settling => false,
+            Phase::Uploading => false,
+        }
+    }
+
+    // Whether a reversal is pending.
+    fn pends(self) -> bool
+        ensures { λ r. ⌜ r ≡ pends self ⌝ }
+    {
+        match self {
+            Phase::Resting => false,
+            Phase::Waiting(_) => false,
+            Phase::Pending(_) => true,
+            Phase::Settling => false,
+            Phase::Uploading => false,
+        }
+    }
+
+    // Whether the batch is settling or uploading.
+    fn closes(self) -> bool
+        ensures { λ r. ⌜ r ≡ closes self ⌝ }
+    {
+        match self {
+            Phase::Resting => false,
+            Phase::Waiting(_) => false,
+            Phase::Pending(_) => false,
+            Phase::Settling => true,
+            Phase::Uploading => true,
+        }
+    }
+
+    // Whether the batch is uploading and nothing is awaited.
+    fn uploads(self) -> bool
+        ensures { λ r. ⌜ r ≡ uploads self ⌝ }
+    {
+        match self {
+            Phase::Resting => false,
+            Phase::Waiting(_) => false,
+            Phase::Pending(_) => false,
+            Phase::Settling => false,
+            Phase::Uploading => true,
         }
     }
 }
@@ -178,6 +328,7 @@ impl State {
             next: next,
             entries: 0,
             counts: Counts::new(),
+            chip: Chip::none(),
             phase: Phase::Resting,
         }
     }
@@ -190,6 +341,7 @@ impl State {
         let batch = self.batch;
         let next = self.next;
         let counts = self.counts;
+        let chip = self.chip;
         State {
             settings: settings,
             signed_on: self.signed_on,
@@ -197,6 +349,7 @@ impl State {
             next: next,
             entries: self.entries,
             counts: counts,
+            chip: chip,
             phase: phase,
         }
     }
@@ -206,6 +359,14 @@ impl State {
         ensures { λ r. ⌜ r ≡ withCounts counts self ⌝ }
     {
         self.counts = counts;
+        self
+    }
+
+    // The state with another chip.
+    pub fn with_chip(mut self, chip: Chip) -> Self
+        ensures { λ r. ⌜ r ≡ withChip chip self ⌝ }
+    {
+        self.chip = chip;
         self
     }
 
@@ -258,13 +419,7 @@ impl State {
         ensures { λ r. ⌜ r ≡ isResting self ⌝ }
     {
         let phase = self.phase;
-        match phase {
-            Phase::Resting => true,
-            Phase::Waiting(_) => false,
-            Phase::Pending(_) => false,
-            Phase::Settling => false,
-            Phase::Uploading => false,
-        }
+        phase.rests()
     }
 
     // Whether something is awaited.
@@ -272,13 +427,7 @@ impl State {
         ensures { λ r. ⌜ r ≡ isWaiting self ⌝ }
     {
         let phase = self.phase;
-        match phase {
-            Phase::Resting => false,
-            Phase::Waiting(_) => true,
-            Phase::Pending(_) => false,
-            Phase::Settling => false,
-            Phase::Uploading => false,
-        }
+        phase.waits()
     }
 
     // Whether a reversal is pending.
@@ -286,13 +435,7 @@ impl State {
         ensures { λ r. ⌜ r ≡ isPending self ⌝ }
     {
         let phase = self.phase;
-        match phase {
-            Phase::Resting => false,
-            Phase::Waiting(_) => false,
-            Phase::Pending(_) => true,
-            Phase::Settling => false,
-            Phase::Uploading => false,
-        }
+        phase.pends()
     }
 
     // Whether the batch is settling or uploading.
@@ -300,13 +443,7 @@ impl State {
         ensures { λ r. ⌜ r ≡ isClosing self ⌝ }
     {
         let phase = self.phase;
-        match phase {
-            Phase::Resting => false,
-            Phase::Waiting(_) => false,
-            Phase::Pending(_) => false,
-            Phase::Settling => true,
-            Phase::Uploading => true,
-        }
+        phase.closes()
     }
 
     // Whether the batch is uploading and nothing is awaited.
@@ -314,13 +451,7 @@ impl State {
         ensures { λ r. ⌜ r ≡ isUploading self ⌝ }
     {
         let phase = self.phase;
-        match phase {
-            Phase::Resting => false,
-            Phase::Waiting(_) => false,
-            Phase::Pending(_) => false,
-            Phase::Settling => false,
-            Phase::Uploading => true,
-        }
+        phase.uploads()
     }
 }
 

@@ -3,6 +3,7 @@ use message::Message;
 use numbers::Batch;
 use numbers::Trace;
 use state::Awaited;
+use state::Chip;
 use state::Count;
 use state::Phase;
 use state::Reason;
@@ -12,8 +13,8 @@ use state::State;
 ghost use mathlib.Core.Path.{_≡_};
 ghost use Prim.Native.Nat.{_+_, _<_, _≤_};
 ghost use Rattle.numbers.specs.Limits.{mostEntries, mostSendings};
-ghost use Rattle.state.specs.State.{CountsSmall, CountsBounded, counted, inPhase};
-ghost use Rattle.effect_definitions.specs.StateEffects.{adopts, on, requested, pendingOrUnanswered, failed, oneMore, onReversal, onSettlement, onEnd, again, settles, ending};
+ghost use Rattle.state.specs.State.{CountsSmall, CountsBounded};
+ghost use Rattle.effect_definitions.specs.StateEffects.{adopts, on, requested, ended, pendingOrUnanswered, silenceOf, failed, oneMore, onReversal, onSettlement, onEnd, again, settles, ending};
 
 // Whether signing on adopts the batch number: no card request has left in this batch, and the terminal rests.
 pub fn adopts(s: State) -> bool
@@ -31,26 +32,39 @@ pub fn on(s: State, batch: Batch) -> State
 }
 
 // The state in which the request is awaited.
-pub fn requested(s: State, q: Request) -> State
-    ensures { λ r. ⌜ (CountsSmall (s .counts) → r ≡ requested s q) ⌝ }
+pub fn requested(s: State, chip: Chip, q: Request) -> State
+    ensures { λ r. ⌜ (CountsSmall (s .counts) → r ≡ requested s chip q) ⌝ }
 {
     let counts = s.counts;
     let trace = q.trace;
     let counted = s.with_counts(counts.plus(Count::Sent));
     counted
         .took(trace)
+        .with_chip(chip)
         .in_phase(Phase::Waiting(Awaited::Request(q)))
 }
 
-// The state with one card request more that has ended so; the terminal rests.
+// The state with one card request more that has ended so; its chip is forgotten, and the terminal rests.
 pub fn ended(s: State, count: Count) -> State
-    ensures { λ r. ⌜ (CountsBounded s → r ≡ inPhase Phase.Resting (counted count s)) ⌝ }
+    ensures { λ r. ⌜ (CountsBounded s → r ≡ ended count s) ⌝ }
 {
     let counts = s.counts;
-    s.with_counts(counts.plus(count)).in_phase(Phase::Resting)
+    let counted = s.with_counts(counts.plus(count));
+    counted.with_chip(Chip::none()).in_phase(Phase::Resting)
 }
 
-// Silence or a bad MAC after a card request.
+// Why an awaited card request is reversed where nothing comes: the card is silent, or the line.
+pub fn silence_of(s: State) -> Reason
+    ensures { λ r. ⌜ r ≡ silenceOf s ⌝ }
+{
+    let chip = s.chip;
+    if chip.approved {
+        return Reason::CardDeclined;
+    }
+    Reason::Silence
+}
+
+// Silence, a bad MAC or a card that declines, after a card request.
 pub fn pending_or_unanswered(s: State, q: Request, reason: Reason) -> State
     ensures { λ r. ⌜ (CountsBounded s → r ≡ pendingOrUnanswered reason q s) ⌝ }
 {
@@ -62,7 +76,9 @@ pub fn pending_or_unanswered(s: State, q: Request, reason: Reason) -> State
         reason: reason,
         sendings: 0,
     };
-    s.in_phase(Phase::Pending(reversal))
+    let chip = s.chip;
+    s.with_chip(chip.as_sent())
+        .in_phase(Phase::Pending(reversal))
 }
 
 // A reversal's sending has failed.

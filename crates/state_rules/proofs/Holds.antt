@@ -1,7 +1,7 @@
 -- What follows from rule 2 for settings and state, and the way back: where it holds, the rule lets them pass.
-use mathlib.Core.Path.{_≡_}
+use mathlib.Core.Path.{_≡_, refl, sym}
 use mathlib.Core.List.{List, [], _∷_}
-use mathlib.Core.Bool.{Bool, true, cond, not, _&&_, and-eq-true-iff}
+use mathlib.Core.Bool.{Bool, true, false, cond, not, _&&_, _||_, and-eq-true-iff, true≢false}
 use Prim.Native.Nat.{_+_, _^_, _≤_, _<_}
 use native.Mathlib.Omega.{arith}
 use lib.Dec.{leb, ltb, eqb}
@@ -11,14 +11,19 @@ use Rattle.numbers.specs.Limits.{largestAmount, lastNumber, mostRequests, mostE
 use Rattle.numbers.specs.Numbers.{within}
 use Rattle.numbers.proofs.Bounds.{within-bounds, within-yes}
 use Rattle.field.specs.Contents.{allPrintable}
-use Rattle.kinds.specs.Kinds.{isKind, takesOriginal, isNeverReversed}
+use Rattle.digits.specs.Digits.{isPacked}
+use Rattle.elements.specs.Elements.{chipInForm}
+use Rattle.kinds.specs.Kinds.{isKind, takesOriginal, isNeverReversed, sendsChip}
+use Rattle.state.specs.declared.Approval.{Approval}
 use Rattle.state.specs.declared.Card.{Card}
+use Rattle.state.specs.declared.Chip.{Chip}
+use Rattle.state.specs.declared.Phase.{Phase}
 use Rattle.state.specs.declared.Request.{Request}
 use Rattle.state.specs.declared.Reversal.{Reversal}
 use Rattle.state.specs.declared.Settings.{Settings}
 use Rattle.state.specs.declared.State.{State}
-use Rattle.state.specs.State.{CountsBounded, endedIn}
-use Rattle.state_rules.specs.StateRules.{settingsInForm, isCard, requestInForm, reversalInForm, phaseInForm, stateInForm, waiting, balanced, allOf, stateClauses, stateKept}
+use Rattle.state.specs.State.{noChip, chipBytes, hasChip, asSent, approvalIn, CountsBounded, endedIn}
+use Rattle.state_rules.specs.StateRules.{settingsInForm, isCard, requestInForm, reversalInForm, phaseInForm, kindIn, requestAwaited, approvalInForm, consentKept, chipKept, stateInForm, waiting, balanced, allOf, stateClauses, stateKept}
 
 -- settings in their ranges
 pub record SettingsHold (x : Settings) : Type 0 where
@@ -103,6 +108,83 @@ pub reversal-holds : (v : Reversal) → reversalInForm v ≡ true → RequestHol
 unfolding reversalInForm
 reversal-holds v e = request-holds (v .request) (and-eq-true-iff (requestInForm (v .request)) (not (isNeverReversed (v .request .kind))) .0 e .0)
 
+-- an approval: four packed digits, six and twelve printable bytes
+pub record ApprovalHolds (a : Approval) : Type 0 where
+  pub date-packed : isPacked 4 (a .date) ≡ true
+  pub authorisation-length : length (a .authorisation) ≡ 6
+  pub authorisation-printable : allPrintable (a .authorisation) ≡ true
+  pub reference-length : length (a .reference) ≡ 12
+  pub reference-printable : allPrintable (a .reference) ≡ true
+
+pub approval-holds : (a : Approval) → approvalInForm a ≡ true → ApprovalHolds a
+unfolding approvalInForm
+approval-holds a e =
+    let both : Bool = eqb (length (a .authorisation)) 6 && allPrintable (a .authorisation) in
+    let p = and-eq-true-iff (isPacked 4 (a .date) && both) (eqb (length (a .reference)) 12 && allPrintable (a .reference)) .0 e in
+    let d = and-eq-true-iff (isPacked 4 (a .date)) both .0 (p .0) in
+    let f = and-eq-true-iff (eqb (length (a .authorisation)) 6) (allPrintable (a .authorisation)) .0 (d .1) in
+    let r = and-eq-true-iff (eqb (length (a .reference)) 12) (allPrintable (a .reference)) .0 (p .1) in
+    record {
+      date-packed = d .0;
+      authorisation-length = eqb-true (length (a .authorisation)) 6 (f .0);
+      authorisation-printable = f .1;
+      reference-length = eqb-true (length (a .reference)) 12 (r .0);
+      reference-printable = r .1;
+    }
+
+pub approval-back : (a : Approval) → ApprovalHolds a → approvalInForm a ≡ true
+unfolding approvalInForm
+approval-back a h =
+    rw (
+      h .date-packed,
+      eq-eqb _ _ (h .authorisation-length),
+      h .authorisation-printable,
+      eq-eqb _ _ (h .reference-length),
+      h .reference-printable,
+    )
+
+-- a test that holds where another does
+if-so : (b x : Bool) → (not b || x) ≡ true → b ≡ true → x ≡ true
+if-so true x e q = e
+if-so false x e q = absurd (true≢false (sym q))
+
+so-if : (b x : Bool) → (b ≡ true → x ≡ true) → (not b || x) ≡ true
+so-if true x h = h refl
+so-if false x h = refl
+
+-- a chip, and the wait for the card's word, in their place
+pub record ChipHolds (p : Phase) (c : Chip) : Type 0 where
+  pub sent : hasChip c ≡ true → (sendsChip (kindIn p) && chipInForm (chipBytes c)) ≡ true
+  pub awaited : c .approved ≡ true → (requestAwaited p && hasChip c && approvalInForm (approvalIn c)) ≡ true
+
+pub chip-holds : (p : Phase) (c : Chip) → chipKept p c ≡ true → ChipHolds p c
+unfolding chipKept consentKept
+chip-holds p c e =
+    let sent : Bool = sendsChip (kindIn p) && chipInForm (chipBytes c) in
+    let awaited : Bool = requestAwaited p && hasChip c && approvalInForm (approvalIn c) in
+    let a = and-eq-true-iff (not (hasChip c) || sent) (not (c .approved) || awaited) .0 e in
+    record { sent = if-so (hasChip c) sent (a .0); awaited = if-so (c .approved) awaited (a .1) }
+
+pub chip-back : (p : Phase) (c : Chip) → ChipHolds p c → chipKept p c ≡ true
+unfolding chipKept consentKept
+chip-back p c h =
+    rw (
+      so-if (hasChip c) (sendsChip (kindIn p) && chipInForm (chipBytes c)) (h .sent),
+      so-if (c .approved) (requestAwaited p && hasChip c && approvalInForm (approvalIn c)) (h .awaited),
+    )
+
+-- no chip holds in every phase
+pub no-chip : (p : Phase) → ChipHolds p noChip
+no-chip p = record { sent = λ y. absurd (true≢false (sym y)); awaited = λ y. absurd (true≢false (sym y)) }
+
+-- one as it was sent holds where the request's kind stays
+pub chip-reversed : (p r : Phase) (c : Chip) → kindIn p ≡ kindIn r → ChipHolds p c → ChipHolds r (asSent c)
+chip-reversed p r c k h = record { sent = λ y. rw (← k) (h .sent y); awaited = λ y. absurd (true≢false (sym y)) }
+
+-- any holds where also the wait for the request stays
+pub chip-stays : (p r : Phase) (c : Chip) → kindIn p ≡ kindIn r → requestAwaited p ≡ requestAwaited r → ChipHolds p c → ChipHolds r c
+chip-stays p r c k w h = record { sent = λ y. rw (← k) (h .sent y); awaited = λ y. rw (← w) (h .awaited y) }
+
 -- rule 2 of settings and state, and the bounds that follow
 pub record StateHolds (s : State) : Type 0 where
   pub settings : SettingsHold (s .settings)
@@ -112,6 +194,7 @@ pub record StateHolds (s : State) : Type 0 where
   pub next-most : s .next .0 ≤ lastNumber
   pub sent-most : s .counts .sent ≤ mostRequests
   pub phase-form : phaseInForm (s .phase) ≡ true
+  pub chip : ChipHolds (s .phase) (s .chip)
   pub few : s .entries ≤ s .settings .limit
   pub balance : s .counts .sent ≡ endedIn (s .counts) + waiting (s .phase)
   pub approvals : s .counts .approved ≡ s .entries
@@ -130,7 +213,8 @@ unfolding stateKept stateInForm balanced
 state-holds s e =
     let a = each (stateClauses s) e in
     let c = s .counts in
-    let p = and-eq-true-iff (within 1 (s .batch .0) lastNumber && within 1 (s .next .0) lastNumber && leb (c .sent) mostRequests) (phaseInForm (s .phase)) .0 (a .1 .0) in
+    let o = and-eq-true-iff (within 1 (s .batch .0) lastNumber && within 1 (s .next .0) lastNumber && leb (c .sent) mostRequests && phaseInForm (s .phase)) (chipKept (s .phase) (s .chip)) .0 (a .1 .0) in
+    let p = and-eq-true-iff (within 1 (s .batch .0) lastNumber && within 1 (s .next .0) lastNumber && leb (c .sent) mostRequests) (phaseInForm (s .phase)) .0 (o .0) in
     let q = and-eq-true-iff (within 1 (s .batch .0) lastNumber && within 1 (s .next .0) lastNumber) (leb (c .sent) mostRequests) .0 (p .0) in
     let r = and-eq-true-iff (within 1 (s .batch .0) lastNumber) (within 1 (s .next .0) lastNumber) .0 (q .0) in
     let b = within-bounds 1 (s .batch .0) lastNumber (r .0) in
@@ -145,6 +229,7 @@ state-holds s e =
       next-most = n .1;
       sent-most = leb-true (c .sent) mostRequests (q .1);
       phase-form = p .1;
+      chip = chip-holds (s .phase) (s .chip) (o .1);
       few = leb-true (s .entries) (s .settings .limit) (a .1 .1 .0);
       balance = eqb-true (c .sent) whole (u .0);
       approvals = eqb-true (c .approved) (s .entries) (u .1);
@@ -200,8 +285,9 @@ state-form-back s h =
       within-yes 1 (s .batch .0) lastNumber (h .batch-least) (h .batch-most),
       within-yes 1 (s .next .0) lastNumber (h .next-least) (h .next-most),
       le-leb (s .counts .sent) mostRequests (h .sent-most),
+      h .phase-form,
     )
-    (h .phase-form)
+    (chip-back (s .phase) (s .chip) (h .chip))
 
 pub state-back : (s : State) → StateHolds s → stateKept s ≡ true
 unfolding stateKept balanced

@@ -6,12 +6,20 @@ use Prim.Native.Nat.{ℕ, zero, suc, _+_, _-_, _^_, _≤_, _<_}
 use native.Mathlib.Omega.{arith}
 use lib.Dec.{leb, ltb}
 use lib.ListN.{length, getD}
-use borrow.Author.Tests.{lt-ltb, le-ltb, le-leb, lt-leb, ltb-true, ltb-false}
+use borrow.Author.Tests.{eq-eqb, ne-eqb, lt-ltb, le-ltb, le-leb, lt-leb, ltb-true, ltb-false}
 use Rattle.numbers.specs.Limits.{largestTotal}
 use Rattle.numbers.specs.Numbers.{within}
+use Rattle.digits.specs.Digits.{isPacked}
+use Rattle.field.specs.Contents.{allPrintable}
+use Rattle.elements.specs.Elements.{chipInForm}
+use Rattle.kinds.specs.Kinds.{sendsChip}
+use Rattle.state.specs.State.{chipBytes}
+use Rattle.state.specs.declared.Approval.{Approval}
 use Rattle.state.specs.declared.Card.{Card}
+use Rattle.state.specs.declared.Chip.{Chip}
+use Rattle.state.specs.declared.Phase.{Phase}
 use Rattle.state.specs.declared.State.{State}
-use Rattle.state_rules.specs.StateRules.{stateKept, settingsInForm, isCard, stateInForm, exceeds, waiting, balanced}
+use Rattle.state_rules.specs.StateRules.{kindIn, approvalInForm, consentKept, chipKept, stateKept, settingsInForm, isCard, stateInForm, exceeds, waiting, balanced}
 
 -- a card of too few or too many digits
 pub few-digits : (c : Card) → c .length < 13 → false ≡ isCard c
@@ -52,6 +60,21 @@ exceeds-both total amount h = go (ltb (largestTotal - amount) total) refl
     go : (b : Bool) → ltb (largestTotal - amount) total ≡ b → b ≡ exceeds total amount
     go true e = let l = ltb-true (largestTotal - amount) total e in rw (lt-ltb largestTotal (total + amount) (omega arith))
     go false e = let l = ltb-false (largestTotal - amount) total e in rw (le-ltb largestTotal (total + amount) (omega arith))
+
+-- the tests of an approval, of a chip and of none
+pub approval-form-is : (a : Approval) {p q r : Bool} → length (a .authorisation) ≡ 6 → length (a .reference) ≡ 12 → p ≡ isPacked 4 (a .date)
+    → q ≡ allPrintable (a .authorisation) → r ≡ allPrintable (a .reference) → (p && q && r) ≡ approvalInForm a
+unfolding approvalInForm
+approval-form-is a l m p q r = rw (l, m, p, q, r)
+
+pub chip-none : (p : Phase) (c : Chip) {r : Bool} → c .length ≡ 0 → r ≡ consentKept p c → r ≡ chipKept p c
+unfolding chipKept
+chip-none p c l e = rw (eq-eqb _ _ l, e)
+
+pub chip-some : (p : Phase) (c : Chip) {k f r : Bool} → (c .length ≡ 0 → ⊥) → k ≡ sendsChip (kindIn p) → f ≡ chipInForm (chipBytes c)
+    → r ≡ consentKept p c → (k && f && r) ≡ chipKept p c
+unfolding chipKept
+chip-some p c l k f r = rw (ne-eqb _ _ l, k, f, r)
 
 -- the tests of the state
 pub state-kept-is : (s : State) {a b c d : Bool} → a ≡ settingsInForm (s .settings) → b ≡ stateInForm s

@@ -1,17 +1,22 @@
 -- Document 01, "Why a call is turned down", rule 2 for settings and state, and the bound of rule 21.
 use mathlib.Core.List.{List, [], _∷_}
-use mathlib.Core.Bool.{Bool, true, false, cond, not, _&&_}
+use mathlib.Core.Bool.{Bool, true, false, cond, not, _&&_, _||_}
 use Prim.Native.Nat.{ℕ, _+_, _^_}
 use lib.Dec.{leb, ltb, eqb}
+use lib.ListN.{length}
+use Rattle.digits.specs.Digits.{isPacked}
+use Rattle.elements.specs.Elements.{chipInForm}
 use Rattle.numbers.specs.Limits.{largestAmount, largestTotal, mostRequests, mostEntries, mostSendings}
 use Rattle.numbers.specs.Numbers.{within, isNumber, isAmount}
 use Rattle.field.specs.Contents.{allPrintable}
-use Rattle.kinds.specs.Kinds.{isKind, sideOf, takesOriginal, isNeverReversed}
+use Rattle.kinds.specs.Kinds.{isKind, sideOf, takesOriginal, isNeverReversed, sendsChip}
 use Rattle.kinds.specs.declared.Side.{Side}
 use Rattle.kinds.specs.declared.Side.the-variants.{Debit, Credit, Neither}
 use Rattle.kinds.specs.declared.Totals.{Totals}
-use Rattle.state.specs.State.{endedIn}
+use Rattle.state.specs.State.{chipBytes, hasChip, approvalIn, endedIn}
+use Rattle.state.specs.declared.Approval.{Approval}
 use Rattle.state.specs.declared.Card.{Card}
+use Rattle.state.specs.declared.Chip.{Chip}
 use Rattle.state.specs.declared.Request.{Request}
 use Rattle.state.specs.declared.Reversal.{Reversal}
 use Rattle.state.specs.declared.Awaited.{Awaited}
@@ -63,6 +68,51 @@ phaseInForm (Pending v) = reversalInForm v
 phaseInForm Settling = true
 phaseInForm Uploading = true
 
+-- Document 02, request 1: a chip stands only with a request of a kind that sends it, and passes 23.
+-- the kind of the request that is awaited or reversed, 0 where there is none
+abbrev pub awaitedKind : Awaited → ℕ
+awaitedKind (awaited.Request q) = q .kind
+awaitedKind (awaited.Reversal v) = v .request .kind
+awaitedKind (awaited.Settlement x) = 0
+awaitedKind (awaited.Item i) = 0
+awaitedKind (awaited.End x) = 0
+
+abbrev pub kindIn : Phase → ℕ
+kindIn Resting = 0
+kindIn (Waiting a) = awaitedKind a
+kindIn (Pending v) = v .request .kind
+kindIn Settling = 0
+kindIn Uploading = 0
+
+-- a card request is awaited
+abbrev pub awaitsRequest : Awaited → Bool
+awaitsRequest (awaited.Request q) = true
+awaitsRequest (awaited.Reversal v) = false
+awaitsRequest (awaited.Settlement x) = false
+awaitsRequest (awaited.Item i) = false
+awaitsRequest (awaited.End x) = false
+
+abbrev pub requestAwaited : Phase → Bool
+requestAwaited Resting = false
+requestAwaited (Waiting a) = awaitsRequest a
+requestAwaited (Pending v) = false
+requestAwaited Settling = false
+requestAwaited Uploading = false
+
+-- the date is four digits, fields 38 and 37 are printable
+unfoldable pub approvalInForm : Approval → Bool
+approvalInForm a =
+    isPacked 4 (a .date)
+    && (eqb (length (a .authorisation)) 6 && allPrintable (a .authorisation))
+    && (eqb (length (a .reference)) 12 && allPrintable (a .reference))
+
+-- where the card's word is awaited, the request is, and it has a chip
+unfoldable pub consentKept : Phase → Chip → Bool
+consentKept p c = not (c .approved) || requestAwaited p && hasChip c && approvalInForm (approvalIn c)
+
+unfoldable pub chipKept : Phase → Chip → Bool
+chipKept p c = (not (hasChip c) || sendsChip (kindIn p) && chipInForm (chipBytes c)) && consentKept p c
+
 -- rule 18: at most 900,000 card requests leave in a batch; by the balance no other count is larger
 unfoldable pub stateInForm : State → Bool
 stateInForm s =
@@ -70,6 +120,7 @@ stateInForm s =
     && isNumber (s .next .0)
     && leb (s .counts .sent) mostRequests
     && phaseInForm (s .phase)
+    && chipKept (s .phase) (s .chip)
 
 -- Waiting is 1 for a card request until its decision or, with a reversal, until its end.
 abbrev pub awaitedWaiting : Awaited → ℕ

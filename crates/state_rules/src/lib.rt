@@ -1,8 +1,10 @@
 // Rule 2 of document 01 for settings and state, and the bound of rule 21: by value, without a journal.
 use kinds::Side;
 use kinds::Totals;
+use state::Approval;
 use state::Awaited;
 use state::Card;
+use state::Chip;
 use state::Counts;
 use state::Phase;
 use state::Request;
@@ -11,7 +13,7 @@ use state::Settings;
 use state::State;
 ghost use mathlib.Core.Path.{_≡_};
 ghost use Prim.Native.Nat.{_≤_};
-ghost use Rattle.state_rules.specs.StateRules.{settingsInForm, isCard, requestInForm, reversalInForm, awaitedInForm, phaseInForm, stateInForm, awaitedWaiting, waiting, balanced, stateKept, exceeds, past, sumsKept};
+ghost use Rattle.state_rules.specs.StateRules.{settingsInForm, isCard, requestInForm, reversalInForm, awaitedInForm, phaseInForm, awaitedKind, kindIn, awaitsRequest, requestAwaited, approvalInForm, consentKept, chipKept, stateInForm, awaitedWaiting, waiting, balanced, stateKept, exceeds, past, sumsKept};
 
 // The powers of ten from 10^13 to 10^19.
 const POWERS: [u64; 7] = [
@@ -151,10 +153,100 @@ fn state_in_form(s: State) -> bool
     let next = s.next;
     let counts = s.counts;
     let phase = s.phase;
+    let chip = s.chip;
     numbers::is_number(batch.0)
         & numbers::is_number(next.0)
         & (counts.sent <= numbers::MOST_REQUESTS)
         & phase_in_form(phase)
+        & chip_kept(phase, chip)
+}
+
+// The kind of the request that is awaited or reversed, 0 where there is none.
+fn kind_in(p: Phase) -> u8
+    ensures { λ r. ⌜ r ≡ kindIn p ⌝ }
+{
+    match p {
+        Phase::Resting => 0,
+        Phase::Waiting(a) => awaited_kind(a),
+        Phase::Pending(v) => reversed_kind(v),
+        Phase::Settling => 0,
+        Phase::Uploading => 0,
+    }
+}
+
+fn awaited_kind(a: Awaited) -> u8
+    ensures { λ r. ⌜ r ≡ awaitedKind a ⌝ }
+{
+    match a {
+        Awaited::Request(q) => q.kind,
+        Awaited::Reversal(v) => reversed_kind(v),
+        Awaited::Settlement(_) => 0,
+        Awaited::Item(_) => 0,
+        Awaited::End(_) => 0,
+    }
+}
+
+fn reversed_kind(v: Reversal) -> u8
+    ensures { λ r. ⌜ r ≡ v .request .kind ⌝ }
+{
+    let q = v.request;
+    q.kind
+}
+
+// Whether a card request is awaited.
+fn request_awaited(p: Phase) -> bool
+    ensures { λ r. ⌜ r ≡ requestAwaited p ⌝ }
+{
+    match p {
+        Phase::Resting => false,
+        Phase::Waiting(a) => awaits_request(a),
+        Phase::Pending(_) => false,
+        Phase::Settling => false,
+        Phase::Uploading => false,
+    }
+}
+
+fn awaits_request(a: Awaited) -> bool
+    ensures { λ r. ⌜ r ≡ awaitsRequest a ⌝ }
+{
+    match a {
+        Awaited::Request(_) => true,
+        Awaited::Reversal(_) => false,
+        Awaited::Settlement(_) => false,
+        Awaited::Item(_) => false,
+        Awaited::End(_) => false,
+    }
+}
+
+fn approval_in_form(a: Approval) -> bool
+    ensures { λ r. ⌜ r ≡ approvalInForm a ⌝ }
+{
+    let date = a.date;
+    let authorisation = a.authorisation;
+    let reference = a.reference;
+    digits::is_packed(&date, 4)
+        & field::all_printable(&authorisation)
+        & field::all_printable(&reference)
+}
+
+// Whether the card's word is awaited only where the request is.
+fn consent_kept(p: Phase, chip: Chip) -> bool
+    ensures { λ r. ⌜ r ≡ consentKept p chip ⌝ }
+{
+    !chip.approved | (request_awaited(p) & (chip.length != 0) & approval_in_form(chip.approval()))
+}
+
+// Whether a chip stands only where its request is awaited or reversed, and passes 23.
+fn chip_kept(p: Phase, chip: Chip) -> bool
+    ensures { λ r. ⌜ r ≡ chipKept p chip ⌝ }
+{
+    if chip.length == 0 {
+        return consent_kept(p, chip);
+    }
+    let bytes = chip.bytes;
+    kinds::sends_chip(kind_in(p))
+        & elements::chip_in_form(&bytes[..chip.length as usize])
+        & consent_kept(p, chip)
 }
 
 fn awaited_waiting(a: Awaited) -> u64

@@ -12,7 +12,7 @@ ghost use mathlib.Core.Path.{_≡_};
 ghost use Rattle.state.specs.State.{fresh};
 ghost use Rattle.state.specs.Calls.{lend};
 ghost use Rattle.terminal.specs.Terminal.{limits, stepResult, stepOf};
-ghost use Rattle.call_definitions.specs.Events.{call, eventOf, signed-on, starts, answers, no-answer, power-returned, send-reversal, settles, send-next-upload};
+ghost use Rattle.call_definitions.specs.Events.{call, eventOf, signed-on, starts, answers, no-answer, power-returned, card-agrees, card-declines, send-reversal, settles, send-next-upload};
 
 pub struct Terminal {
     pub state: State,
@@ -76,11 +76,11 @@ impl Terminal {
     }
 
     // A card request leaves.
-    pub fn start(self, desk: Desk, journal: &mut [u8], message: &mut [u8]) -> Step
-        ensures { λ r. ⌜ stepResult r (lend (now (journal .exit)) (now (message .exit))) ≡ call (starts desk) (self .state) (lend (now (journal .entry)) (now (message .entry))) ⌝ }
+    pub fn start(self, desk: Desk, chip: &[u8], journal: &mut [u8], message: &mut [u8]) -> Step
+        ensures { λ r. ⌜ stepResult r (lend (now (journal .exit)) (now (message .exit))) ≡ call (starts desk (now (chip .entry))) (self .state) (lend (now (journal .entry)) (now (message .entry))) ⌝ }
     {
         let state = self.state;
-        step_of(call_start::start(state, desk, journal, message))
+        step_of(call_start::start(state, desk, chip, journal, message))
     }
 
     // The centre's bytes, and the key pad's word on the MAC.
@@ -107,6 +107,22 @@ impl Terminal {
         step_of(call_answer::power_returned(state, journal, message))
     }
 
+    // The card agrees to the request that the centre has approved.
+    pub fn card_agrees(self, journal: &mut [u8], message: &mut [u8]) -> Step
+        ensures { λ r. ⌜ stepResult r (lend (now (journal .exit)) (now (message .exit))) ≡ call card-agrees (self .state) (lend (now (journal .entry)) (now (message .entry))) ⌝ }
+    {
+        let state = self.state;
+        step_of(call_card::card_agrees(state, journal, message))
+    }
+
+    // The card declines it.
+    pub fn card_declines(self, journal: &mut [u8], message: &mut [u8]) -> Step
+        ensures { λ r. ⌜ stepResult r (lend (now (journal .exit)) (now (message .exit))) ≡ call card-declines (self .state) (lend (now (journal .entry)) (now (message .entry))) ⌝ }
+    {
+        let state = self.state;
+        step_of(call_card::card_declines(state, journal, message))
+    }
+
     // The pending reversal leaves.
     pub fn send_reversal(self, journal: &mut [u8], message: &mut [u8]) -> Step
         ensures { λ r. ⌜ stepResult r (lend (now (journal .exit)) (now (message .exit))) ≡ call send-reversal (self .state) (lend (now (journal .entry)) (now (message .entry))) ⌝ }
@@ -131,7 +147,7 @@ impl Terminal {
         step_of(call_upload::send_next_upload(state, journal, message))
     }
 
-    // The call that a value names, with what the desk keyed and the bytes of an answer.
+    // The call that a value names, with what the desk keyed and the bytes of its field 55 or of an answer.
     pub fn make(
         self,
         c: Call,
@@ -144,10 +160,12 @@ impl Terminal {
     {
         match c {
             Call::SignedOn(batch) => self.signed_on(batch, journal, message),
-            Call::Start => self.start(desk, journal, message),
+            Call::Start => self.start(desk, bytes, journal, message),
             Call::Answer(good) => self.answer(bytes, good, journal, message),
             Call::NoAnswer => self.no_answer(journal, message),
             Call::PowerReturned => self.power_returned(journal, message),
+            Call::CardAgrees => self.card_agrees(journal, message),
+            Call::CardDeclines => self.card_declines(journal, message),
             Call::SendReversal => self.send_reversal(journal, message),
             Call::Settle => self.settle(journal, message),
             Call::SendNextUpload => self.send_next_upload(journal, message),

@@ -1,5 +1,6 @@
-// The bytes of a case: a head, its journal and its answer. The head has the event at 0, a batch number, what the desk keyed, the
-// word on the MAC, how long the message buffer, the journal and the answer are, and the image of the state.
+// The bytes of a case: a head, its journal and the bytes handed in, those of an answer or of the desk's field 55. The head has the event
+// at 0, a batch number, what the desk keyed, the word on the MAC, how long the message buffer, the journal and the bytes handed in are, and
+// the image of the state.
 use crate::integers::bytes_at;
 use crate::integers::from;
 use crate::integers::part;
@@ -18,15 +19,17 @@ const BATCH: usize = 1;
 
 const DESK: usize = 5;
 
-const MAC: usize = 47;
+const CHIP: usize = 47;
 
-const MESSAGE_LENGTH: usize = 48;
+const MAC: usize = 48;
 
-const JOURNAL_LENGTH: usize = 50;
+const MESSAGE_LENGTH: usize = 49;
 
-const ANSWER_LENGTH: usize = 52;
+const JOURNAL_LENGTH: usize = 51;
 
-const STATE: usize = 54;
+const BYTES_LENGTH: usize = 53;
+
+const STATE: usize = 55;
 
 const HEAD: usize = STATE + image::SIZE;
 
@@ -35,7 +38,7 @@ pub fn message_length(s: &[u8]) -> usize {
     u16_at(s, MESSAGE_LENGTH) as usize
 }
 
-// The image of the state, the bytes of the journal and of the answer.
+// The image of the state, the bytes of the journal and those handed in.
 pub fn state_bytes(s: &[u8]) -> &[u8] {
     part(s, STATE, image::SIZE)
 }
@@ -44,26 +47,27 @@ pub fn journal_of(s: &[u8]) -> &[u8] {
     part(s, HEAD, u16_at(s, JOURNAL_LENGTH) as usize)
 }
 
-fn answer_of(s: &[u8]) -> &[u8] {
+fn handed_in(s: &[u8]) -> &[u8] {
     let at = HEAD + u16_at(s, JOURNAL_LENGTH) as usize;
-    part(s, at, u16_at(s, ANSWER_LENGTH) as usize)
+    part(s, at, u16_at(s, BYTES_LENGTH) as usize)
 }
 
-// Whether a case has all its bytes, and names an event, a word on the MAC and a state.
+// Whether a case has all its bytes, and names an event, a word on chip and MAC, and a state.
 pub fn is_whole(s: &[u8]) -> bool {
     let event = texts::byte_at(s, 0);
     let journal = u16_at(s, JOURNAL_LENGTH);
-    let answer = u16_at(s, ANSWER_LENGTH);
+    let handed = u16_at(s, BYTES_LENGTH);
     let reading = image::read(state_bytes(s));
-    (s.len() == HEAD + journal as usize + answer as usize)
-        & (answer <= 512)
+    (s.len() == HEAD + journal as usize + handed as usize)
+        & (handed <= 512)
         & (1 <= event)
-        & (event <= 8)
+        & (event <= 10)
+        & (texts::byte_at(s, CHIP) <= 1)
         & (texts::byte_at(s, MAC) <= 1)
         & reading.accepted
 }
 
-// What the desk keyed, from its 42 bytes.
+// What the desk keyed, from its 43 bytes.
 fn desk_of(s: &[u8]) -> Desk {
     let mut authorisation = [0u8; 6];
     let mut reference = [0u8; 12];
@@ -78,6 +82,7 @@ fn desk_of(s: &[u8]) -> Desk {
         day: texts::byte_at(s, 23),
         authorisation: authorisation,
         reference: reference,
+        chip: texts::byte_at(s, 42) == 1,
     }
 }
 
@@ -94,8 +99,8 @@ pub fn call(s: &[u8], journal: &mut [u8], message: &mut [u8]) -> Step {
     let reading = image::read(state_bytes(s));
     let state = reading.state;
     let terminal = Terminal { state: state };
-    let desk = desk_of(part(s, DESK, 42));
-    terminal.make(call_of(s), desk, answer_of(s), journal, message)
+    let desk = desk_of(part(s, DESK, 43));
+    terminal.make(call_of(s), desk, handed_in(s), journal, message)
 }
 
 fn call_of(s: &[u8]) -> Call {
@@ -107,6 +112,8 @@ fn call_of(s: &[u8]) -> Call {
         5 => Call::PowerReturned,
         6 => Call::SendReversal,
         7 => Call::Settle,
-        _ => Call::SendNextUpload,
+        8 => Call::SendNextUpload,
+        9 => Call::CardAgrees,
+        _ => Call::CardDeclines,
     }
 }

@@ -19,10 +19,10 @@ ghost use Rattle.entry.specs.Entry.{entrySize};
 ghost use Rattle.state.specs.Calls.{lend};
 ghost use Rattle.image_definitions.specs.Layout.{size};
 ghost use Rattle.image_definitions.specs.Image.{image as imageOf};
-ghost use Rattle.call_definitions.specs.Events.{eventOf, signed-on, starts, answers, no-answer, power-returned, send-reversal, settles, send-next-upload};
+ghost use Rattle.call_definitions.specs.Events.{eventOf, signed-on, starts, answers, no-answer, power-returned, card-agrees, card-declines, send-reversal, settles, send-next-upload};
 ghost use Rattle.interface_definitions.specs.Interface.{gives, numberOf, lengthOf, onImage, settingsOf, deskOf, nothingKeyed, returned, freshImage, numberAt, totalsOn, readNumber, held, fieldAt};
 
-// What a function returns beside the numbers of document 01: a message leaves; a message does not hold the field.
+// What a function returns beside the numbers of documents 01 and 02: a message leaves; a message does not hold the field.
 const SENDS: u8 = 255;
 
 const ABSENT: u8 = 254;
@@ -108,8 +108,10 @@ pub extern "C" fn whistlaurel_start(
     day: u8,
     authorisation: &[u8; 6],
     reference: &[u8; 12],
+    has_chip: bool,
+    chip: &[u8],
 ) -> u8
-    ensures { λ r. ⌜ gives r (now (length .exit)) (now (image .exit)) (now (journal .exit)) (now (message .exit)) ≡ onImage (starts (deskOf kind amount «card_number» «card_length» original month day (now (authorisation .entry)) (now (reference .entry)))) (now (image .entry)) (lend (now (journal .entry)) (now (message .entry))) ⌝ }
+    ensures { λ r. ⌜ gives r (now (length .exit)) (now (image .exit)) (now (journal .exit)) (now (message .exit)) ≡ onImage (starts (deskOf kind amount «card_number» «card_length» original month day (now (authorisation .entry)) (now (reference .entry)) «has_chip») (now (chip .entry))) (now (image .entry)) (lend (now (journal .entry)) (now (message .entry))) ⌝ }
 {
     let desk = Desk {
         kind: kind,
@@ -123,8 +125,9 @@ pub extern "C" fn whistlaurel_start(
         day: day,
         authorisation: *authorisation,
         reference: *reference,
+        chip: has_chip,
     };
-    make(image, journal, message, length, Call::Start, desk, b"")
+    make(image, journal, message, length, Call::Start, desk, chip)
 }
 
 // The centre's bytes, and the key pad's word on the MAC.
@@ -174,6 +177,32 @@ pub extern "C" fn whistlaurel_power_returned(
     ensures { λ r. ⌜ gives r (now (length .exit)) (now (image .exit)) (now (journal .exit)) (now (message .exit)) ≡ onImage power-returned (now (image .entry)) (lend (now (journal .entry)) (now (message .entry))) ⌝ }
 {
     plain(image, journal, message, length, Call::PowerReturned)
+}
+
+// The card agrees to the request that the centre has approved.
+#[no_mangle]
+pub extern "C" fn whistlaurel_card_agrees(
+    image: &mut [u8],
+    journal: &mut [u8],
+    message: &mut [u8],
+    length: &mut usize,
+) -> u8
+    ensures { λ r. ⌜ gives r (now (length .exit)) (now (image .exit)) (now (journal .exit)) (now (message .exit)) ≡ onImage card-agrees (now (image .entry)) (lend (now (journal .entry)) (now (message .entry))) ⌝ }
+{
+    plain(image, journal, message, length, Call::CardAgrees)
+}
+
+// The card declines it.
+#[no_mangle]
+pub extern "C" fn whistlaurel_card_declines(
+    image: &mut [u8],
+    journal: &mut [u8],
+    message: &mut [u8],
+    length: &mut usize,
+) -> u8
+    ensures { λ r. ⌜ gives r (now (length .exit)) (now (image .exit)) (now (journal .exit)) (now (message .exit)) ≡ onImage card-declines (now (image .entry)) (lend (now (journal .entry)) (now (message .entry))) ⌝ }
+{
+    plain(image, journal, message, length, Call::CardDeclines)
 }
 
 // The pending reversal leaves.
@@ -297,6 +326,7 @@ fn nothing_keyed() -> Desk
         day: 0,
         authorisation: [0u8; 6],
         reference: [0u8; 12],
+        chip: false,
     }
 }
 

@@ -31,8 +31,9 @@ use Rattle.outgoing.proofs.Leaving.{written-is}
 use Rattle.outgoing_theorems.specs.Theorems.{Reads}
 use Rattle.outgoing_theorems.proofs.Theorems.{sent-reads-back}
 use Rattle.answer_match.specs.Match.{isValue, matchesSent, approves, approvalHolds, isAnswer, goodMac}
-use Rattle.approval.specs.Approval.{approvedEntry}
-use Rattle.approval.proofs.Approval.{in-form}
+use Rattle.approval.specs.Approval.{approvalOf, approvedEntry}
+use Rattle.approval.proofs.Approval.{answer-holds, in-form}
+use Rattle.state_rules.proofs.Holds.{ApprovalHolds}
 use Rattle.worked.specs.Desk.{settings}
 
 -- the bytes of a message of held fields read back to them
@@ -127,7 +128,7 @@ pub good-mac : (trace : ℕ) → goodMac true (answered trace) ≡ true
 unfolding goodMac
 good-mac trace = named (reads trace) 64 (omega arith) (omega arith) refl
 
--- and its entry is in form
+-- and what it says and its entry are in form
 date-packed : isPacked 4 (find (fields 0) 13 .bytes) ≡ true
 unfolding isPacked halfAllowed half pack packedByte
 date-packed = refl
@@ -140,10 +141,15 @@ sale-listed : isKind 22 ≡ true
 unfolding isKind
 sale-listed = refl
 
-pub entry-form : (trace : ℕ) → 1 ≤ trace → trace ≤ 999999 → inForm (approvedEntry (asked 9999999999 trace) (answered trace)) ≡ true
-entry-form trace least most =
+pub approval-holds : (trace : ℕ) → ApprovalHolds (approvalOf (answered trace))
+approval-holds trace =
     let r = reads trace in
-    in-form (asked 9999999999 trace) (answered trace) sale-listed least most (omega arith) (omega arith) (omega arith) (omega arith)
-    (λ e. rw (r .fields 13 refl) date-packed) (named r 37 (omega arith) (omega arith) refl) (rw (r .fields 37 refl))
-    (rw (r .fields 37 refl) reference-printable)
+    answer-holds (answered trace) (λ e. rw (r .fields 13 refl) date-packed) (named r 37 (omega arith) (omega arith) refl)
+    (rw (r .fields 37 refl)) (rw (r .fields 37 refl) reference-printable)
     (λ e. absurd (true≢false (sym (rw (r .named 38 (omega arith) (omega arith)) at e))))
+
+pub entry-form : (trace : ℕ) → 1 ≤ trace → trace ≤ 999999
+    → inForm (approvedEntry (asked 9999999999 trace) (approvalOf (answered trace))) ≡ true
+entry-form trace least most =
+    in-form (asked 9999999999 trace) (approvalOf (answered trace)) sale-listed least most (omega arith) (omega arith) (omega arith)
+    (omega arith) (approval-holds trace)

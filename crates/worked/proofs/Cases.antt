@@ -75,7 +75,7 @@ pub g-free : afterG .state .phase ≡ Resting
 unfolding machine
 g-free = refl
 
-pub h : afterH .state .phase ≡ Pending (record { request = firstSale; reason = Silence; sendings = 1 })
+pub h : afterH .state .phase ≡ Pending (record { request = firstSale 8000; reason = Silence; sendings = 1 })
 unfolding machine
 h = refl
 

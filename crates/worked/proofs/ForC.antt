@@ -1,14 +1,14 @@
 -- The functions for C on the worked cases: each example computes.
 use mathlib.Core.Path.{refl}
 use Rattle.parts.specs.Parts.{taken}
-use Rattle.image_definitions.specs.Layout.{widths, bytesOf}
-use Rattle.image_definitions.specs.Image.{valuesOf, image, stateOf, judged, readImage}
+use Rattle.image_definitions.specs.Layout.{widths, bytesOf, firstOf}
+use Rattle.image_definitions.specs.Image.{valuesOf, regionOf, image, stateOf, judged, readImage}
 use Rattle.interface_definitions.specs.Interface.{fieldAt, numberAt, totalsOn}
 use Rattle.worked.specs.ForC.{ForC}
 use Rattle.worked.proofs.Machine.{machine}
 
 pub for-c : ForC
-unfolding machine taken widths bytesOf valuesOf image stateOf judged readImage fieldAt numberAt totalsOn
+unfolding machine taken widths bytesOf firstOf valuesOf regionOf image stateOf judged readImage fieldAt numberAt totalsOn
 for-c =
     record {
       keyed = refl;

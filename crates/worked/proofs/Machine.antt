@@ -7,6 +7,7 @@ use Rattle.digits.specs.Numbers.{value, numberOf}
 use Rattle.field.specs.Table.{formats, indicators}
 use Rattle.field.specs.Bitmap.{bit, names, listedAt, listed}
 use Rattle.field.specs.Contents.{allowed, allPrintable}
+use Rattle.elements.specs.Elements.{tagSize, lengthSize, elementSize, tagsAfter, hasTag, elementsAfter, elementsInForm, chipInForm}
 use Rattle.span.specs.Span.{contentsAt, spanAt, span, fieldBytes}
 use Rattle.message.specs.Message.{fieldIn}
 use Rattle.reading.specs.Reading.{readFields, readMessage}
@@ -20,7 +21,7 @@ use Rattle.journal.specs.Journal.{debitEntry, creditEntry, sumsOf, hasTrace, is
 use Rattle.checks.specs.Checks.{firstBroken}
 use Rattle.state.specs.Calls.{judged}
 use Rattle.rules.specs.Rules.{tooShort, originalUnvoided, requestKept, journalKept, keepsRule2}
-use Rattle.state_rules.specs.StateRules.{settingsInForm, isCard, requestInForm, reversalInForm, stateInForm, past, sumsKept, balanced, stateKept}
+use Rattle.state_rules.specs.StateRules.{settingsInForm, isCard, requestInForm, reversalInForm, approvalInForm, consentKept, chipKept, stateInForm, past, sumsKept, balanced, stateKept}
 use Rattle.outgoing.specs.Outgoing.{requestMessage, reversalMessage}
 use Rattle.call_definitions.specs.Start.{originalOf, start}
 use Rattle.desk.specs.DeskRules.{deskInForm}
@@ -28,22 +29,23 @@ use Rattle.call_definitions.specs.SignOn.{signedOn}
 use Rattle.effect_definitions.specs.StateEffects.{adopts, pendingOrUnanswered, failed, onReversal, onSettlement, onEnd}
 use Rattle.call_definitions.specs.SendReversal.{sendReversal}
 use Rattle.answer_match.specs.Match.{matchesSent, approvalHolds, isAnswer, goodMac, endsReversal, closesBatch}
-use Rattle.approval.specs.Approval.{fieldOr, zeroFilled, approvedEntry}
-use Rattle.call_definitions.specs.Answer.{noAnswer, answer}
-use Rattle.effect_definitions.specs.JournalEffects.{silentMark, silent, originalVoided, approved, onRequest, onItem, answered, resent}
+use Rattle.approval.specs.Approval.{fieldOr, zeroFilled, approvalOf, approvedEntry}
+use Rattle.call_definitions.specs.Answer.{noAnswer, cardAgrees, cardDeclines, answer}
+use Rattle.effect_definitions.specs.JournalEffects.{silentMark, silent, originalVoided, approved, granted, onRequest, agreed, onItem, answered, resent}
 use Rattle.call_definitions.specs.Settle.{settle}
 use Rattle.batch_messages.specs.BatchMessages.{settlementMessage, itemMessage, endMessage}
 use Rattle.call_definitions.specs.SendNextUpload.{sendNextUpload}
 
 unfoldable pub machine : ℕ
 unfolding half unpack packedByte pack halfAllowed isPacked allDigits value numberOf formats indicators bit names listedAt listed
-    allowed allPrintable contentsAt spanAt span fieldBytes fieldIn readFields readMessage namedBytes fieldsBytes messageBytes
-    packedNumber sameBytes matches copies numberIn isKind indicatorOf processingOf conditionOf isDebit isCredit sideOf isDue
-    takesOriginal originalKind isVoidable decode encode allZero within cardInForm inForm keepsVoided keepsUnmarked keepsResends
-    keepsSilent debitEntry creditEntry sumsOf hasTrace isOriginal dueWith nextDue absent following taken putEntry setByte
-    firstBroken judged tooShort settingsInForm isCard requestInForm reversalInForm stateInForm past sumsKept balanced originalUnvoided
-    requestKept stateKept journalKept keepsRule2 requestMessage reversalMessage deskInForm originalOf start adopts signedOn sendReversal matchesSent
-    approvalHolds isAnswer goodMac endsReversal closesBatch fieldOr zeroFilled approvedEntry pendingOrUnanswered failed silentMark silent
-    noAnswer originalVoided approved onRequest onReversal onSettlement onItem onEnd answered answer settlementMessage settle
-    itemMessage endMessage resent sendNextUpload
+    allowed allPrintable tagSize lengthSize elementSize tagsAfter hasTag elementsAfter elementsInForm chipInForm contentsAt spanAt span
+    fieldBytes fieldIn readFields readMessage namedBytes fieldsBytes messageBytes packedNumber sameBytes matches copies numberIn isKind
+    indicatorOf processingOf conditionOf isDebit isCredit sideOf isDue takesOriginal originalKind isVoidable decode encode allZero
+    within cardInForm inForm keepsVoided keepsUnmarked keepsResends keepsSilent debitEntry creditEntry sumsOf hasTrace isOriginal
+    dueWith nextDue absent following taken putEntry setByte firstBroken judged tooShort settingsInForm isCard requestInForm
+    reversalInForm approvalInForm consentKept chipKept stateInForm past sumsKept balanced originalUnvoided requestKept stateKept
+    journalKept keepsRule2 requestMessage reversalMessage deskInForm originalOf start adopts signedOn sendReversal matchesSent
+    approvalHolds isAnswer goodMac endsReversal closesBatch fieldOr zeroFilled approvalOf approvedEntry pendingOrUnanswered failed
+    silentMark silent noAnswer cardAgrees cardDeclines originalVoided approved granted onRequest agreed onReversal onSettlement onItem
+    onEnd answered answer settlementMessage settle itemMessage endMessage resent sendNextUpload
 machine = 0

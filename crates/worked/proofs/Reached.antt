@@ -9,6 +9,7 @@ reached =
     record {
       resting = refl;
       request-out = refl;
+      card-awaited = refl;
       pending = refl;
       reversal-out = refl;
       settlement-out = refl;

@@ -28,19 +28,19 @@ use Rattle.journal.proofs.Traces.{absent-last}
 use Rattle.traces.proofs.Absent.{absent-none}
 use Rattle.state.specs.declared.State.{State}
 use Rattle.state.specs.declared.Outcome.the-variants.{Send, Refused}
-use Rattle.state.specs.State.{fresh}
+use Rattle.state.specs.State.{noChip, fresh}
 use Rattle.checks.specs.Checks.{firstBroken}
 use Rattle.state.specs.Calls.{Lent, lend, withJournal, Result, judged, quiet, sends}
 use Rattle.rules.specs.Rules.{tooShort, keepsRule2, journalKept}
-use Rattle.state_rules.specs.StateRules.{settingsInForm, stateInForm, past, sumsKept, balanced, stateKept}
+use Rattle.state_rules.specs.StateRules.{settingsInForm, consentKept, chipKept, stateInForm, past, sumsKept, balanced, stateKept}
 use Rattle.rules.proofs.InOrder.{Fit}
 use Rattle.outgoing.specs.Outgoing.{requestMessage}
 use Rattle.call_definitions.specs.SignOn.{signedOn}
 use Rattle.effect_definitions.specs.StateEffects.{adopts, requested, oneMore}
-use Rattle.approval.specs.Approval.{approvedEntry}
+use Rattle.approval.specs.Approval.{approvalOf, approvedEntry}
 use Rattle.approval.proofs.Approval.{shaped}
 use Rattle.call_definitions.specs.Answer.{answer}
-use Rattle.effect_definitions.specs.JournalEffects.{originalVoided, approved, onRequest, answered as answeredBy}
+use Rattle.effect_definitions.specs.JournalEffects.{originalVoided, approved, granted, onRequest, answered as answeredBy}
 use Rattle.call_theorems.proofs.Back.{ready-fits, fit-ready}
 use Rattle.call_theorems.proofs.Refusing.{Fits}
 use Rattle.call_theorems.proofs.Signing.{signed-on-fits}
@@ -49,22 +49,22 @@ use Rattle.call_theorems.proofs.Events.{answer-fits}
 use Rattle.call_definitions.specs.Events.{run}
 use Rattle.worked.specs.Desk.{settings, opened, sale, approval}
 use Rattle.worked.specs.Worked.{sales, hundred}
-use Rattle.worked.proofs.Approvals.{asked, approvalBytes, answered, reads, approving, is-answer, good-mac, entry-form}
+use Rattle.worked.proofs.Approvals.{asked, approvalBytes, answered, reads, approving, is-answer, good-mac, approval-holds, entry-form}
 use Rattle.worked.proofs.Starts.{at, desk, saleBytes, goes, goes-not}
 
 -- its approval is taken: one entry more
 abbrev entry : ℕ → Entry
-entry n = approvedEntry (asked 9999999999 (suc n)) (answered (suc n))
+entry n = approvedEntry (asked 9999999999 (suc n)) (approvalOf (answered (suc n)))
 
-taken-in : (n : ℕ) (lent : Lent) → Fit (requested (at n) (asked 9999999999 (suc n))) lent
-    → answer (approvalBytes (suc n)) true (requested (at n) (asked 9999999999 (suc n))) lent
-    ≡ quiet (oneMore (requested (at n) (asked 9999999999 (suc n)))) (withJournal (putEntry n (entry n) (lent .journal)) lent)
-unfolding answer judged firstBroken answeredBy onRequest approved originalVoided takesOriginal
+taken-in : (n : ℕ) (lent : Lent) → Fit (requested (at n) noChip (asked 9999999999 (suc n))) lent
+    → answer (approvalBytes (suc n)) true (requested (at n) noChip (asked 9999999999 (suc n))) lent
+    ≡ quiet (oneMore (requested (at n) noChip (asked 9999999999 (suc n)))) (withJournal (putEntry n (entry n) (lent .journal)) lent)
+unfolding answer judged firstBroken answeredBy onRequest granted approved originalVoided takesOriginal
 taken-in n lent fit =
-    let r = fit-ready (requested (at n) (asked 9999999999 (suc n))) lent fit in
+    let r = fit-ready (requested (at n) noChip (asked 9999999999 (suc n))) lent fit in
     rw (r .long, r .order, reads (suc n) .outcome, is-answer (suc n), approving (suc n), good-mac (suc n))
 
-one-more : (n : ℕ) → n < 999998 → oneMore (requested (at n) (asked 9999999999 (suc n))) ≡ at (suc n)
+one-more : (n : ℕ) → n < 999998 → oneMore (requested (at n) noChip (asked 9999999999 (suc n))) ≡ at (suc n)
 unfolding following
 one-more n h = rw (lt-ltb (suc n) 999999 (omega arith), add-one n, add-one (suc n))
 
@@ -93,7 +93,7 @@ other-trace n x h = rw (ne-eqb (suc n) x (λ e. omega arith))
 one-sold : (n : ℕ) (j : List ℕ) → n < 100 → entrySize * 300 ≤ length j → Sold n j → Sold (suc n) (putEntry n (entry n) j)
 one-sold n j small room s =
     let e : entriesOf (suc n) (putEntry n (entry n) j) ≡ entriesOf n j ++ (entry n ∷ []) =
-    put-appends n (entry n) j (shaped (asked 9999999999 (suc n)) (answered (suc n)))
+    put-appends n (entry n) j (shaped (asked 9999999999 (suc n)) (approvalOf (answered (suc n))) (approval-holds (suc n)))
     (entry-form (suc n) (omega arith) (omega arith)) (omega arith) in
     let d : n * 9999999999 + 9999999999 ≡ suc n * 9999999999 = omega arith in
     record {
@@ -132,11 +132,11 @@ one-after n lent small fit sold =
     let q = asked 9999999999 (suc n) in
     let g = goes 9999999999 n lent fit (omega arith) largest-form (sold .free (suc n) (omega arith))
     (not-past 9999999999 n (lent .journal) sold (omega arith)) in
-    let r = sends (saleBytes 9999999999 (suc n)) (requested (at n) q) lent in
-    let f : Fits r = rw g at (start-fits (desk 9999999999) (at n) lent fit) in
+    let r = sends (saleBytes 9999999999 (suc n)) (requested (at n) noChip q) lent in
+    let f : Fits r = rw g at (start-fits (desk 9999999999) [] (at n) lent fit) in
     let a = taken-in n (r .lent) f in
-    let h : Fits (quiet (oneMore (requested (at n) q)) (withJournal (putEntry n (entry n) (lent .journal)) (r .lent))) =
-    rw a at (answer-fits (approvalBytes (suc n)) true (requested (at n) q) (r .lent) f) in
+    let h : Fits (quiet (oneMore (requested (at n) noChip q)) (withJournal (putEntry n (entry n) (lent .journal)) (r .lent))) =
+    rw a at (answer-fits (approvalBytes (suc n)) true (requested (at n) noChip q) (r .lent) f) in
     rw (g, a) (record { state = one-more n (omega arith); fits = h; sold = one-sold n (lent .journal) small (fit .journal-room) sold })
 
 next-after : (n : ℕ) (s : State) (lent : Lent) → n < 100 → After n s lent
@@ -151,7 +151,7 @@ all-after (suc n) r h b =
 
 -- a fresh terminal that has signed on
 fresh-order : keepsRule2 (fresh (settings 300)) [] ≡ true
-unfolding keepsRule2 stateKept journalKept settingsInForm stateInForm within allPrintable sumsKept sumsOf balanced
+unfolding keepsRule2 stateKept journalKept settingsInForm consentKept chipKept stateInForm within allPrintable sumsKept sumsOf balanced
 fresh-order = refl
 
 one-number : within 1 1 999999 ≡ true

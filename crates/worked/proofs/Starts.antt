@@ -1,6 +1,6 @@
 -- Case *i: a sale after n approved sales leaves, or is refused by 21.
 use mathlib.Core.Path.{_≡_, refl}
-use mathlib.Core.List.{List}
+use mathlib.Core.List.{List, []}
 use mathlib.Core.Bool.{true, false}
 use Prim.Native.Nat.{ℕ, zero, suc, _<_}
 use native.Mathlib.Omega.{arith}
@@ -12,6 +12,7 @@ use Rattle.kinds.specs.Kinds.{isKind, takesOriginal}
 use Rattle.entry.specs.declared.Entry.{Entry}
 use Rattle.journal.specs.Journal.{entriesOf, absent, totalsOf, takenFrom, taken}
 use Rattle.state.specs.declared.State.{State}
+use Rattle.state.specs.State.{noChip}
 use Rattle.state.specs.declared.Phase.the-variants.{Resting}
 use Rattle.checks.specs.Checks.{firstBroken}
 use Rattle.state.specs.Calls.{Lent, judged, refused, sends}
@@ -37,6 +38,7 @@ at n =
       next = record { 0 = suc n };
       entries = n;
       counts = salesApproved n;
+      chip = noChip;
       phase = Resting;
     }
 
@@ -51,12 +53,13 @@ desk amount =
       day = 15;
       authorisation = replicate 6 0x33;
       reference = replicate 12 0x34;
+      chip = false;
     }
 
 -- the bytes that leave
 abbrev pub saleBytes : ℕ → ℕ → List ℕ
 saleBytes amount trace =
-    messageBytes (requestMessage (settings 300) (record { 0 = 1 }) (asked amount trace)
+    messageBytes (requestMessage (settings 300) (record { 0 = 1 }) noChip (asked amount trace)
     (record {
       batch = record { 0 = 0 };
       trace = record { 0 = 0 };
@@ -81,7 +84,7 @@ taken-free es x h = taken-from (length es) es x h
 -- a sale after n of them: judged by rule 21 alone
 module _ (amount n : ℕ) (lent : Lent) (fit : Fit (at n) lent) (few : n < 300) (form : within 1 amount 9999999999 ≡ true) where
   pub goes : absent (suc n) (entriesOf n (lent .journal)) ≡ true → past 22 amount (totalsOf (entriesOf n (lent .journal))) ≡ false
-      → start (desk amount) (at n) lent ≡ sends (saleBytes amount (suc n)) (requested (at n) (asked amount (suc n))) lent
+      → start (desk amount) [] (at n) lent ≡ sends (saleBytes amount (suc n)) (requested (at n) noChip (asked amount (suc n))) lent
   unfolding start judged firstBroken takesOriginal
   goes free p =
       let r = fit-ready (at n) lent fit in
@@ -96,7 +99,7 @@ module _ (amount n : ℕ) (lent : Lent) (fit : Fit (at n) lent) (few : n < 300) 
         taken-free (entriesOf n (lent .journal)) (suc n) free,
       )
 
-  pub goes-not : past 22 amount (totalsOf (entriesOf n (lent .journal))) ≡ true → start (desk amount) (at n) lent ≡ refused 21 (at n) lent
+  pub goes-not : past 22 amount (totalsOf (entriesOf n (lent .journal))) ≡ true → start (desk amount) [] (at n) lent ≡ refused 21 (at n) lent
   unfolding start judged firstBroken takesOriginal
   goes-not p =
       let r = fit-ready (at n) lent fit in

@@ -1,6 +1,6 @@
--- Document 01, "Worked at the desk": terminals, cards and answers of the starred cases.
+-- Document 01, "Worked at the desk": terminals, cards and answers of the worked cases.
 use mathlib.Core.List.{List, [], _∷_}
-use mathlib.Core.Bool.{true}
+use mathlib.Core.Bool.{Bool, true, false}
 use Prim.Native.Nat.{ℕ, _*_}
 use lib.ListN.{replicate}
 use Rattle.digits.specs.Numbers.{digitsOf}
@@ -21,21 +21,32 @@ abbrev pub settings : ℕ → Settings
 settings limit =
     record { limit = limit; sendings = 3; refund = 100000; terminal = replicate 8 0x31; merchant = replicate 15 0x32 }
 
--- a fresh terminal with room for its journal, that has signed on to batch 1
-abbrev pub opened : ℕ → Result
-opened limit =
-    run (signed-on (record { 0 = 1 }) ∷ [])
-      (quiet (fresh (settings limit)) (lend (replicate (entrySize * limit) 0) (replicate largest 0)))
+-- a fresh terminal with room for its journal, signed off; and once it has signed on to batch 1
+abbrev pub signedOff : ℕ → Result
+signedOff limit = quiet (fresh (settings limit)) (lend (replicate (entrySize * limit) 0) (replicate largest 0))
 
--- what the desk keys
-abbrev pub keyed : ℕ → ℕ → ℕ → Event
-keyed kind amount original =
+abbrev pub opened : ℕ → Result
+opened limit = run (signed-on (record { 0 = 1 }) ∷ []) (signedOff limit)
+
+-- what the desk keys, with a chip's field 55 or without
+abbrev keyedWith : Bool → List ℕ → ℕ → ℕ → ℕ → Event
+keyedWith chip b kind amount original =
     starts (record {
       kind = kind; amount = amount; card = record { number = 6222021234567894; length = 16 }; original = record { 0 = original };
-      month = 11; day = 15; authorisation = replicate 6 0x33; reference = replicate 12 0x34 })
+      month = 11; day = 15; authorisation = replicate 6 0x33; reference = replicate 12 0x34; chip = chip }) b
+
+abbrev pub keyed : ℕ → ℕ → ℕ → Event
+keyed kind amount original = keyedWith false [] kind amount original
 
 abbrev pub sale : ℕ → Event
 sale amount = keyed 22 amount 0
+
+-- document 02, request 1: field 55 of two elements, and a sale with a chip
+abbrev pub field55 : List ℕ
+field55 = 0x9F ∷ 0x26 ∷ 0x01 ∷ 0xAA ∷ 0x82 ∷ 0x02 ∷ 0x00 ∷ 0x00 ∷ []
+
+abbrev pub chipSale : List ℕ → ℕ → Event
+chipSale b amount = keyedWith true b 22 amount 0
 
 -- the centre's answer of a type to a request of a kind and a trace, with a code and further fields
 abbrev pub reply : ℕ → ℕ → ℕ → ℕ → ℕ → List Item → Event

@@ -1,6 +1,7 @@
 -- The functions for C on the worked cases: fields of the sale that leaves, and the totals and the batch after its approval.
 use mathlib.Core.Path.{_≡_}
 use mathlib.Core.List.{[], _∷_}
+use mathlib.Core.Bool.{false}
 use lib.ListN.{replicate}
 use Rattle.state.specs.Calls.{Result}
 use Rattle.call_definitions.specs.Events.{run, starts}
@@ -15,7 +16,7 @@ sold = run (sale 12000 ∷ approval 22 12000 1 ∷ []) (opened 1)
 
 pub record ForC : Type 0 where
   -- what is keyed and what is set, in the order of C
-  pub keyed : starts (deskOf 22 12000 6222021234567894 16 0 11 15 (replicate 6 0x33) (replicate 12 0x34)) ≡ sale 12000
+  pub keyed : starts (deskOf 22 12000 6222021234567894 16 0 11 15 (replicate 6 0x33) (replicate 12 0x34) false) [] ≡ sale 12000
   pub set : settingsOf 300 3 100000 (replicate 8 0x31) (replicate 15 0x32) ≡ settings 300
   -- field 4 has 12 digits in six bytes, and bytes past them stay
   pub amount : fieldAt sent 4 (held 0 (replicate 8 0xEE)) ≡ returned 0 (held 12 (0 ∷ 0 ∷ 0 ∷ 1 ∷ 0x20 ∷ 0 ∷ 0xEE ∷ 0xEE ∷ []))

@@ -1,4 +1,5 @@
 pub mod Desk
 pub mod Worked
+pub mod WithChip
 pub mod Reached
 pub mod ForC

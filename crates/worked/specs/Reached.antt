@@ -1,7 +1,7 @@
 -- Every phase and every ending of a request is reached by some list of calls, shown by example.
 use mathlib.Core.Path.{_≡_}
 use mathlib.Core.List.{List, [], _∷_, _++_}
-use mathlib.Core.Bool.{true}
+use mathlib.Core.Bool.{true, cond}
 use Prim.Native.Nat.{ℕ}
 use lib.ListN.{replicate}
 use Rattle.digits.specs.Numbers.{digitsOf}
@@ -14,11 +14,12 @@ use Rattle.state.specs.declared.Phase.the-variants.{Resting, Waiting, Pending, 
 use Rattle.state.specs.declared.State.{State}
 use Rattle.outgoing.specs.Outgoing.{field60}
 use Rattle.call_definitions.specs.Events.{Event, answers, no-answer, send-reversal, settles, send-next-upload, run}
-use Rattle.worked.specs.Desk.{opened, keyed, sale, reply, approval, toReversal}
+use Rattle.worked.specs.Desk.{opened, keyed, sale, field55, chipSale, reply, approval, toReversal}
 
 -- a phase without what it holds
 pub data Stage : Type 0 where
-  rests waits-for-request waits-for-reversal waits-for-settlement waits-for-item waits-for-end pends settles-again uploads-on : Stage
+  rests waits-for-request waits-for-card waits-for-reversal waits-for-settlement waits-for-item waits-for-end : Stage
+  pends settles-again uploads-on : Stage
 
 abbrev pub awaitedStage : Awaited → Stage
 awaitedStage (awaited.Request q) = waits-for-request
@@ -38,8 +39,12 @@ stage Uploading = uploads-on
 abbrev pub after : List Event → State
 after es = run es (opened 1) .state
 
+-- document 02, request 1: a request that the centre has approved may wait for the card's word
+abbrev pub stageIn : State → Stage
+stageIn s = cond (s .chip .approved) waits-for-card (stage (s .phase))
+
 abbrev pub stageAfter : List Event → Stage
-stageAfter es = stage (after es .phase)
+stageAfter es = stageIn (after es)
 
 -- the centre's answer to a settlement of a trace, with its reconciliation digit
 abbrev pub reconciled : ℕ → ℕ → Event
@@ -60,6 +65,7 @@ pub record Reached : Type 0 where
   -- each phase
   pub resting : stageAfter [] ≡ rests
   pub request-out : stageAfter (sale 100 ∷ []) ≡ waits-for-request
+  pub card-awaited : stageAfter (chipSale field55 100 ∷ approval 22 100 1 ∷ []) ≡ waits-for-card
   pub pending : stageAfter (sale 100 ∷ no-answer ∷ []) ≡ pends
   pub reversal-out : stageAfter (sale 100 ∷ no-answer ∷ send-reversal ∷ []) ≡ waits-for-reversal
   pub settlement-out : stageAfter (settles ∷ []) ≡ waits-for-settlement

@@ -3,6 +3,7 @@ use mathlib.Core.Path.{_≡_}
 use mathlib.Core.List.{List, [], _∷_}
 use mathlib.Core.Bool.{cond}
 use Prim.Native.Nat.{ℕ, zero, suc}
+use lib.Dec.{eqb}
 use lib.ListN.{take, drop, replicate}
 use Rattle.field.specs.Table.{formats}
 use Rattle.field.specs.Bitmap.{names}
@@ -69,9 +70,13 @@ filler Digits = 0x00
 filler Printable = 0x20
 filler Any = 0xFF
 
+-- field 55 is one element: tag 82, a value of 252 bytes
+abbrev pub filled : Format → List ℕ
+filled f = cond (eqb (f .number) 55) (0x82 ∷ 0x81 ∷ 0xFC ∷ replicate 252 0xFF) (replicate (room f) (filler (f .class)))
+
 abbrev pub fullest : List Format → List Item
 fullest [] = []
-fullest (f ∷ fs) = record { number = f .number; field = record { count = f .high; bytes = replicate (room f) (filler (f .class)) } } ∷ fullest fs
+fullest (f ∷ fs) = record { number = f .number; field = record { count = f .high; bytes = filled f } } ∷ fullest fs
 
 -- *f, *g, *h: what the desk does and hears, after signing on
 abbrev pub afterF : Result
@@ -89,10 +94,10 @@ afterH = run (sale 8000 ∷ no-answer ∷ send-reversal ∷ toReversal 1 0x39 0x
 abbrev pub afterK : Result
 afterK = run (sale 12000 ∷ no-answer ∷ send-reversal ∷ toReversal 1 0x32 0x35 ∷ []) (opened 1)
 
-abbrev pub firstSale : Request
-firstSale =
+abbrev pub firstSale : ℕ → Request
+firstSale amount =
     record {
-      kind = 22; amount = 8000; card = record { number = 6222021234567894; length = 16 }; trace = record { 0 = 1 };
+      kind = 22; amount = amount; card = record { number = 6222021234567894; length = 16 }; trace = record { 0 = 1 };
       original = record { 0 = 0 } }
 
 -- the settlement request that would leave now, 80 bytes, as it is read
@@ -131,7 +136,7 @@ pub record Worked : Type 0 where
   pub d-fields : fieldsNamed (take 8 (drop 2 sent)) 1 64 ≡ 2 ∷ 3 ∷ 4 ∷ 11 ∷ 22 ∷ 25 ∷ 41 ∷ 42 ∷ 49 ∷ 60 ∷ 64 ∷ []
   -- *e a sale with a 16-digit card is 76 bytes
   pub e : firstSent .outcome ≡ Send 76
-  -- all fields together make 248 bytes
+  -- all fields together make 505 bytes
   pub longest : (writeMessage (messageOf 0x0510 (fullest formats)) (replicate largest 0)) .outcome ≡ Written largest
   -- *f sale 12,000 approved, sale 8,000 silent, reversal answered 25, first sale voided:
   -- debit 12,000/1, credit 12,000/1; sent 3, approved 2, reversed 1
@@ -147,7 +152,7 @@ pub record Worked : Type 0 where
   pub g : afterG .state .counts .«given_up» ≡ 1
   pub g-free : afterG .state .phase ≡ Resting
   -- *h code 96 to a reversal is a failed sending
-  pub h : afterH .state .phase ≡ Pending (record { request = firstSale; reason = Silence; sendings = 1 })
+  pub h : afterH .state .phase ≡ Pending (record { request = firstSale 8000; reason = Silence; sendings = 1 })
   -- *i entry limit 300, 100 sales of 9,999,999,999: one more of 99 goes, of 100 is refused (21)
   pub i : run (sale 99 ∷ []) hundred .outcome ≡ Send 76
   pub i-refused : run (sale 100 ∷ []) hundred .outcome ≡ Refused 21

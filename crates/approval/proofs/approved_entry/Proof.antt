@@ -1,48 +1,15 @@
--- `approval::approved_entry` meets its contract: each part is made by itself.
+-- `approval::approved_entry` meets its contract.
 use borrow.Author.Needs.{needs}
-use Rattle.approval.proofs.Approval.{entry-is}
+use Rattle.approval.specs.Approval.{approvedEntry}
 use Rattle.approval.proofs.approved_entry.Statement.{statement}
 use Rattle.approval.proofs.approved_entry.Tie as tie
-
-slice-aggregate-field-into : tie.Need-slice-aggregate-field-into
-slice-aggregate-field-into c = search needs
-
-field-into-requires : tie.Need-field-into-requires
-field-into-requires c κs = search needs
-
-slice-aggregate-field-into-2 : tie.Need-slice-aggregate-field-into-2
-slice-aggregate-field-into-2 c = search needs
-
-field-into-requires-2 : tie.Need-field-into-requires-2
-field-into-requires-2 c κs = search needs
-
-slice-aggregate-field-into-3 : tie.Need-slice-aggregate-field-into-3
-slice-aggregate-field-into-3 c = search needs
-
-field-into-requires-3 : tie.Need-field-into-requires-3
-field-into-requires-3 c κs = search needs
 
 zero-filled-requires : tie.Need-zero-filled-requires
 zero-filled-requires c κs = search needs
 
 returns : tie.Need-returns
-returns c =
-    let at-args = c .before .before .before .before .before .before .before .before .before .before .before .before .args in
-    let at-field-into = c .before .before .before .before .before .before .before .before .field-into in
-    let at-field-into2 = c .before .before .before .before .before .field-into2 in
-    let at-field-into3 = c .before .before .field-into3 in
-    entry-is (at-args .q) (at-args .m) (c .zero-filled .ensures) (at-field-into .ensures .1) (at-field-into2 .ensures .1)
-    (at-field-into3 .ensures .1)
+unfolding approvedEntry
+returns c = rw (c .zero-filled .ensures)
 
 pub approved-entry-spec : {M : Type 1} → statement M
-approved-entry-spec =
-    tie.close
-    (tie.spec
-    slice-aggregate-field-into
-    field-into-requires
-    slice-aggregate-field-into-2
-    field-into-requires-2
-    slice-aggregate-field-into-3
-    field-into-requires-3
-    zero-filled-requires
-    returns)
+approved-entry-spec = tie.close (tie.spec zero-filled-requires returns)

@@ -1,7 +1,7 @@
 -- `call_answer::answer_in` meets its contract.
 use borrow.Author.Needs.{needs}
 use Rattle.state.proofs.Phases.{not-waiting}
-use Rattle.call_answer.proofs.Steps.{answer-unawaited, answer-changes, answer-unmatched}
+use Rattle.call_answer.proofs.Steps.{answer-unawaited, answer-to-card, answer-changes, answer-unmatched}
 use Rattle.call_answer.proofs.answer_in.Statement.{statement}
 use Rattle.call_answer.proofs.answer_in.Tie as tie
 
@@ -15,6 +15,14 @@ returns : tie.Need-returns
 returns c =
     let at-args = c .before .before .before .args in
     answer-unawaited _ _ (at-args .s) _ _ (not-waiting (at-args .s .phase) (c .before .match .keys2)) (c .refused .ensures)
+
+refused-requires-2 : tie.Need-refused-requires-2
+refused-requires-2 c κs = search needs
+
+returns-2 : tie.Need-returns-2
+returns-2 c =
+    let at-phase = c .before .before .before .before .phase in
+    answer-to-card _ _ _ _ _ _ (at-phase .given .1) (c .before .if1 .taken) (c .refused2 .ensures)
 
 trace-sent-requires : tie.Need-trace-sent-requires
 trace-sent-requires c κs = search needs
@@ -34,32 +42,37 @@ quiet-requires c κs = search needs
 same-length : tie.Need-same-length
 same-length c = search needs
 
-returns-2 : tie.Need-returns-2
-returns-2 c =
-    let at-phase = c .before .before .before .before .before .before .before .before .before .before .before .before .phase in
+returns-3 : tie.Need-returns-3
+returns-3 c =
+    let at-pre = c .before .before .before .before .before .before .before .before .before .before .before .before .before .before .before
+    .before .before .pre in
+    let at-phase = c .before .before .before .before .before .before .before .before .before .before .before .before .before .before
+    .phase in
+    let at-if1 = c .before .before .before .before .before .before .before .before .before .before .before .if1 in
     let at-trace-sent = c .before .before .before .before .before .before .before .before .trace-sent in
     let at-batch-sent = c .before .before .before .before .before .before .before .batch-sent in
     let at-is-answer = c .before .before .before .before .before .before .is-answer in
-    let at-if1 = c .before .before .before .before .before .if1 in
+    let at-if2 = c .before .before .before .before .before .if2 in
     let at-answered = c .before .before .before .answered in
-    answer-changes _ _ _ _ _ _ (at-phase .given .1) _ (rw (at-batch-sent .ensures, at-trace-sent .ensures) at (at-is-answer .ensures)) _ _
-    (at-if1 .taken) (at-answered .ensures (c .before .before .before .before .before .before .before .before .before .before .before
-    .before .before .before .before .pre)) (c .quiet .ensures)
+    answer-changes _ _ _ _ _ _ (at-phase .given .1) (at-if1 .left) _ (rw (at-batch-sent .ensures, at-trace-sent .ensures) at
+    (at-is-answer .ensures)) _ _
+    (at-if2 .taken) (at-answered .ensures at-pre) (c .quiet .ensures)
 
-refused-requires-2 : tie.Need-refused-requires-2
-refused-requires-2 c κs = search needs
+refused-requires-3 : tie.Need-refused-requires-3
+refused-requires-3 c κs = search needs
 
 same-length-2 : tie.Need-same-length-2
 same-length-2 c = search needs
 
-returns-3 : tie.Need-returns-3
-returns-3 c =
-    let at-phase = c .before .before .before .before .before .before .before .before .phase in
+returns-4 : tie.Need-returns-4
+returns-4 c =
+    let at-phase = c .before .before .before .before .before .before .before .before .before .before .phase in
+    let at-if1 = c .before .before .before .before .before .before .before .if1 in
     let at-trace-sent = c .before .before .before .before .trace-sent in
     let at-batch-sent = c .before .before .before .batch-sent in
     let at-is-answer = c .before .before .is-answer in
-    answer-unmatched _ _ _ _ _ _ (at-phase .given .1) _ (rw (at-batch-sent .ensures, at-trace-sent .ensures) at (at-is-answer .ensures))
-    (c .before .if1 .left) (c .refused2 .ensures)
+    answer-unmatched _ _ _ _ _ _ (at-phase .given .1) (at-if1 .left) _
+    (rw (at-batch-sent .ensures, at-trace-sent .ensures) at (at-is-answer .ensures)) (c .before .if2 .left) (c .refused3 .ensures)
 
 pub answer-in-spec : {M : Type 1} → statement M
 answer-in-spec =
@@ -68,13 +81,15 @@ answer-in-spec =
     enum-known-phase
     refused-requires
     returns
+    refused-requires-2
+    returns-2
     trace-sent-requires
     batch-sent-requires
     is-answer-requires
     answered-requires
     quiet-requires
     same-length
-    returns-2
-    refused-requires-2
+    returns-3
+    refused-requires-3
     same-length-2
-    returns-3)
+    returns-4)

@@ -28,7 +28,7 @@ returns c =
     let at-write-outgoing = c .before .before .before .before .write-outgoing in
     let at-requested = c .before .requested in
     rw (c .sends .ensures)
-    (leaves (at-args .s) (at-args .q) (at-args .o) (now (at-args .message)) at-pre _ _ _ _ (at-request-message .ensures)
+    (leaves (at-args .s) (at-args .chip) (at-args .q) (at-args .o) (now (at-args .message)) at-pre _ _ _ _ (at-request-message .ensures)
     (at-write-outgoing .ensures .0) (at-write-outgoing .ensures .1) (at-requested .ensures (at-pre .counts)))
 
 pub send-spec : {M : Type 1} → statement M

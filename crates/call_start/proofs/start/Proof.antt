@@ -28,17 +28,20 @@ same-length-2 c = search needs
 
 returns : tie.Need-returns
 returns c =
-    let at-args = c .before .before .before .before .before .before .before .before .before .before .before .args in
+    let at-args = c .before .before .before .before .before .before .before .before .before .before .before .before .args in
     let at-original-of = c .before .before .before .before .before .before .before .original-of in
     let at-entry-of = c .before .before .before .before .before .entry-of in
     let at-refusal = c .before .before .refusal in
     rw (c .refused .ensures)
-    (is-refused (at-args .d) (at-args .s) (lend (now (at-args .journal)) (now (at-args .message))) (at-original-of .result) (at-entry-of .result) _
-    (at-original-of .ensures)
+    (is-refused (at-args .d) (now (at-args .chip)) (at-args .s) (lend (now (at-args .journal)) (now (at-args .message)))
+    (at-original-of .result) (at-entry-of .result) _ (at-original-of .ensures)
     (at-entry-of .ensures) (at-refusal .ensures) (c .before .if1 .taken))
 
 take-requires : tie.Need-take-requires
 take-requires c κs = search needs
+
+chip-from-requires : tie.Need-chip-from-requires
+chip-from-requires c κs = search needs
 
 request-of-requires : tie.Need-request-of-requires
 request-of-requires c κs = search needs
@@ -49,29 +52,32 @@ named-by-requires c κs = search needs
 send-requires : tie.Need-send-requires
 send-requires c κs =
     let at-args = c .before .before .before .before .before .before .before .before .before .before .before .before .before .before .before
-    .before .before .args in
+    .before .before .before .before .args in
     let at-original-of-ensures = c .before .before .before .before .before .before .before .before .before .before .before .before .before
-    .original-of .ensures in
+    .before .original-of .ensures in
     let at-original-of-result = c .before .before .before .before .before .before .before .before .before .before .before .before .before
-    .original-of .result in
-    let at-entry-of-ensures = c .before .before .before .before .before .before .before .before .before .before .before .entry-of
+    .before .original-of .result in
+    let at-entry-of-ensures = c .before .before .before .before .before .before .before .before .before .before .before .before .entry-of
     .ensures in
-    let at-entry-of-result = c .before .before .before .before .before .before .before .before .before .before .before .entry-of .result in
-    let at-refusal-ensures = c .before .before .before .before .before .before .before .before .refusal .ensures in
-    let at-if1-left = c .before .before .before .before .before .before .before .if1 .left in
-    let at-take-result = c .before .before .before .take .result in
+    let at-entry-of-result = c .before .before .before .before .before .before .before .before .before .before .before .before .entry-of
+    .result in
+    let at-refusal-ensures = c .before .before .before .before .before .before .before .before .before .refusal .ensures in
+    let at-if1-left = c .before .before .before .before .before .before .before .before .if1 .left in
+    let at-take-result = c .before .before .before .before .take .result in
+    let at-chip-from-ensures = c .before .before .before .chip-from .ensures in
     let at-request-of-ensures = c .before .before .request-of .ensures in
-    let settings = c .before .before .before .before .before .before .before .before .before .before .before .before .before .before
-    .before .before .before .good .0 .1 .1 .0 in
+    let names = c .before .before .before .before .before .before .before .before .before .before .before .before .before .before
+    .before .before .before .before .before .good .0 .1 .1 .0 .1 .1 .1 in
     let terminal : length (at-args .s .settings .terminal) ≡ 8 = search needs in
     let merchant : length (at-args .s .settings .merchant) ≡ 15 = search needs in
     let texts = c .before .before .before .before .before .before .before .before .before .before .before .before .before .before .before
-    .before .before .good .1 .0 .1 .1 .1 .1 .1 .1 .1 .1 in
+    .before .before .before .before .good .1 .0 .1 .1 .1 .1 .1 .1 .1 .1 in
     let reference : length (at-args .d .reference) ≡ 12 = search needs in
     let authorisation : length (at-args .d .authorisation) ≡ 6 = search needs in
-    left-may (at-args .d) (at-args .s) (lend (now (at-args .journal)) (now (at-args .message))) at-original-of-result at-entry-of-result _
-    at-original-of-ensures at-entry-of-ensures at-refusal-ensures
-    terminal merchant reference authorisation at-if1-left at-take-result _ _ at-request-of-ensures (c .before .named-by .ensures)
+    left-may (at-args .d) (now (at-args .chip)) (at-args .s) (lend (now (at-args .journal)) (now (at-args .message))) at-original-of-result
+    at-entry-of-result _ at-original-of-ensures at-entry-of-ensures at-refusal-ensures
+    terminal merchant reference authorisation at-if1-left at-take-result _ _ _ at-chip-from-ensures
+    at-request-of-ensures (c .before .named-by .ensures)
 
 same-length-3 : tie.Need-same-length-3
 same-length-3 c = search needs
@@ -82,20 +88,22 @@ same-length-4 c = search needs
 returns-2 : tie.Need-returns-2
 returns-2 c =
     let at-args = c .before .before .before .before .before .before .before .before .before .before .before .before .before .before .before
-    .before .before .before .before .before .args in
+    .before .before .before .before .before .before .before .args in
     let at-original-of = c .before .before .before .before .before .before .before .before .before .before .before .before .before .before
-    .before .before .original-of in
+    .before .before .before .original-of in
     let at-entry-of = c .before .before .before .before .before .before .before .before .before .before .before .before .before .before
-    .entry-of in
-    let at-refusal = c .before .before .before .before .before .before .before .before .before .before .before .refusal in
-    let at-if1 = c .before .before .before .before .before .before .before .before .before .before .if1 in
-    let at-take = c .before .before .before .before .before .before .take in
+    .before .entry-of in
+    let at-refusal = c .before .before .before .before .before .before .before .before .before .before .before .before .refusal in
+    let at-if1 = c .before .before .before .before .before .before .before .before .before .before .before .if1 in
+    let at-take = c .before .before .before .before .before .before .before .take in
+    let at-chip-from = c .before .before .before .before .before .before .chip-from in
     let at-request-of = c .before .before .before .before .before .request-of in
     let at-named-by = c .before .before .before .before .named-by in
     let at-send = c .before .before .send in
-    is-left (at-args .d) (at-args .s) (lend (now (at-args .journal)) (now (at-args .message))) (at-original-of .result) (at-entry-of .result) _
-    (at-original-of .ensures) (at-entry-of .ensures) (at-refusal .ensures)
-    (at-if1 .left) (at-take .result) _ _ _ _ (at-take .ensures) (at-request-of .ensures) (at-named-by .ensures) (at-send .ensures)
+    is-left (at-args .d) (now (at-args .chip)) (at-args .s) (lend (now (at-args .journal)) (now (at-args .message)))
+    (at-original-of .result) (at-entry-of .result) _ (at-original-of .ensures) (at-entry-of .ensures) (at-refusal .ensures)
+    (at-if1 .left) (at-take .result) _ _ _ _ _ (at-take .ensures) (at-chip-from .ensures)
+    (at-request-of .ensures) (at-named-by .ensures) (at-send .ensures)
 
 pub start-spec : {M : Type 1} → statement M
 start-spec =
@@ -109,6 +117,7 @@ start-spec =
     same-length-2
     returns
     take-requires
+    chip-from-requires
     request-of-requires
     named-by-requires
     send-requires

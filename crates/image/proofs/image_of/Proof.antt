@@ -1,88 +1,28 @@
--- `image::image_of` meets its contract: the rows passed are written.
-use mathlib.Core.Path.{refl}
-use Prim.Native.Nat.{_-_}
-use native.Mathlib.Omega.{arith}
+-- `image::image_of` meets its contract: the rows, and the region behind them.
 use borrow.Author.Needs.{needs}
-use Rattle.image_definitions.specs.Layout.{widths, rows}
-use Rattle.image_definitions.specs.Image.{image}
-use Rattle.image_definitions.proofs.Laid.{WrittenTo, written-none, written-more, written-done, placed-within}
+use Rattle.image.proofs.Region.{image-put}
 use Rattle.image.proofs.image_of.Statement.{statement}
 use Rattle.image.proofs.image_of.Tie as tie
 
-abbrev Inv-loop : tie.InvT-loop
-Inv-loop values ws out₀ at₀ k₀ out at k = WrittenTo ws values at k out
+row-bytes-requires : tie.Need-row-bytes-requires
+row-bytes-requires c κs = tt
 
-abbrev μ-loop : tie.MeasureT-loop
-μ-loop values ws out₀ at₀ k₀ out at k = rows - k
+slice-aggregate-put : tie.Need-slice-aggregate-put
+slice-aggregate-put c = search needs
 
-values-of-requires : tie.Need-values-of-requires Inv-loop μ-loop
-values-of-requires c κs = tt
+put-requires : tie.Need-put-requires
+put-requires c κs = search needs
 
-loop-holds : tie.Need-loop-holds Inv-loop μ-loop
-loop-holds c = written-none _ _ _ refl
+with-region-requires : tie.Need-with-region-requires
+with-region-requires c κs = tt
 
-mul-end : tie.Need-mul-end Inv-loop μ-loop
-mul-end c = search needs
-
-array-read-end : tie.Need-array-read-end Inv-loop μ-loop
-array-read-end c = search needs
-
-add-end : tie.Need-add-end Inv-loop μ-loop
-add-end c = omega (arith, placed-within (c .before .loop .inv .place) (search needs))
-
-mul-put-number : tie.Need-mul-put-number Inv-loop μ-loop
-mul-put-number c = search needs
-
-array-read-put-number : tie.Need-array-read-put-number Inv-loop μ-loop
-array-read-put-number c = search needs
-
-sub-put-number : tie.Need-sub-put-number Inv-loop μ-loop
-sub-put-number c = search needs
-
-part-out-start : tie.Need-part-out-start Inv-loop μ-loop
-part-out-start c = search needs
-
-part-out-end : tie.Need-part-out-end Inv-loop μ-loop
-part-out-end c = omega (arith, placed-within (c .before .loop .inv .place) (search needs), c .before .loop .inv .len)
-
-put-number-requires : tie.Need-put-number-requires Inv-loop μ-loop
-put-number-requires c κs = tt
-
-add-k : tie.Need-add-k Inv-loop μ-loop
-add-k c = search needs
-
-loop-less : tie.Need-loop-less Inv-loop μ-loop
-loop-less c = search needs
-
-loop-again : tie.Need-loop-again Inv-loop μ-loop
-loop-again c =
-    let at-loop-inv = c .before .before .before .before .loop .inv in
-    written-more at-loop-inv (search needs) (c .before .put-number .ensures)
-
-returns : tie.Need-returns Inv-loop μ-loop
-unfolding widths image
+returns : tie.Need-returns
 returns c =
-    let at-values-of-ensures = c .before .before .values-of .ensures in
-    rw at-values-of-ensures at (written-done (c .before .loop .inv) (search needs))
+    let at-args = c .before .before .before .before .before .args in
+    let at-row-bytes = c .before .before .before .row-bytes in
+    image-put (at-args .s) _ (at-row-bytes .ensures) (c .before .put .ensures) (c .with-region .ensures)
 
 pub image-of-spec : {M : Type 1} → statement M
 image-of-spec =
     tie.close
-    (tie.spec
-    Inv-loop
-    μ-loop
-    values-of-requires
-    loop-holds
-    mul-end
-    array-read-end
-    add-end
-    mul-put-number
-    array-read-put-number
-    sub-put-number
-    part-out-start
-    part-out-end
-    put-number-requires
-    add-k
-    loop-less
-    loop-again
-    returns)
+    (tie.spec row-bytes-requires slice-aggregate-put put-requires with-region-requires returns)

@@ -41,6 +41,18 @@ part-phase-of-end c = search needs
 phase-of-requires : tie.Need-phase-of-requires
 phase-of-requires c κs = search needs
 
+sub-chip-in : tie.Need-sub-chip-in
+sub-chip-in c = search needs
+
+part-chip-in-start : tie.Need-part-chip-in-start
+part-chip-in-start c = search needs
+
+part-chip-in-end : tie.Need-part-chip-in-end
+part-chip-in-end c = search needs
+
+chip-in-requires : tie.Need-chip-in-requires
+chip-in-requires c κs = search needs
+
 array-read-low32 : tie.Need-array-read-low32
 array-read-low32 c = lit< tt
 
@@ -53,8 +65,8 @@ array-read-low32-2 c = lit< tt
 low32-requires-2 : tie.Need-low32-requires-2
 low32-requires-2 c κs = tt
 
-array-read-t24 : tie.Need-array-read-t24
-array-read-t24 c = lit< tt
+array-read-t30 : tie.Need-array-read-t30
+array-read-t30 c = lit< tt
 
 array-read-low16 : tie.Need-array-read-low16
 array-read-low16 c = lit< tt
@@ -65,14 +77,16 @@ low16-requires c κs = tt
 returns : tie.Need-returns
 unfolding stateOf
 returns c =
-    let at-settings-of = c .before .before .before .before .before .before .before .before .before .settings-of in
-    let at-counts-of = c .before .before .before .before .before .before .counts-of in
-    let at-phase-of = c .before .before .before .phase-of in
+    let at-settings-of = c .before .before .before .before .before .before .before .before .before .before .before .before .settings-of in
+    let at-counts-of = c .before .before .before .before .before .before .before .before .before .counts-of in
+    let at-phase-of = c .before .before .before .before .before .before .phase-of in
+    let at-chip-in = c .before .before .before .chip-in in
     let at-low32 = c .before .before .low32 in
     rw (
       at-settings-of .ensures,
       at-counts-of .ensures,
       at-phase-of .ensures,
+      at-chip-in .ensures,
       at-low32 .ensures,
       c .before .low322 .ensures,
       c .low16 .ensures,
@@ -94,11 +108,15 @@ state-of-spec =
     part-phase-of-start
     part-phase-of-end
     phase-of-requires
+    sub-chip-in
+    part-chip-in-start
+    part-chip-in-end
+    chip-in-requires
     array-read-low32
     low32-requires
     array-read-low32-2
     low32-requires-2
-    array-read-t24
+    array-read-t30
     array-read-low16
     low16-requires
     returns)

@@ -1,6 +1,6 @@
--- `image::values_of` meets its contract: the numbers are put group by group.
-use borrow.Author.Needs.{needs}
-use Rattle.image_definitions.proofs.Values.{values-put}
+-- `image::values_of` meets its contract: the numbers are listed one by one.
+use lib.Dec.{lit<}
+use Rattle.image_definitions.proofs.Values.{values-listed}
 use Rattle.image.proofs.values_of.Statement.{statement}
 use Rattle.image.proofs.values_of.Tie as tie
 
@@ -16,42 +16,99 @@ counts-values-requires c κs = tt
 phase-values-requires : tie.Need-phase-values-requires
 phase-values-requires c κs = tt
 
-slice-aggregate-put-values : tie.Need-slice-aggregate-put-values
-slice-aggregate-put-values c = search needs
+chip-values-requires : tie.Need-chip-values-requires
+chip-values-requires c κs = tt
 
-put-values-requires : tie.Need-put-values-requires
-put-values-requires c κs = search needs
+array-read-t17 : tie.Need-array-read-t17
+array-read-t17 c = lit< tt
 
-slice-aggregate-put-values-2 : tie.Need-slice-aggregate-put-values-2
-slice-aggregate-put-values-2 c = search needs
+array-read-t20 : tie.Need-array-read-t20
+array-read-t20 c = lit< tt
 
-put-values-requires-2 : tie.Need-put-values-requires-2
-put-values-requires-2 c κs = search needs
+array-read-t23 : tie.Need-array-read-t23
+array-read-t23 c = lit< tt
 
-slice-aggregate-put-values-3 : tie.Need-slice-aggregate-put-values-3
-slice-aggregate-put-values-3 c = search needs
+array-read-t26 : tie.Need-array-read-t26
+array-read-t26 c = lit< tt
 
-put-values-requires-3 : tie.Need-put-values-requires-3
-put-values-requires-3 c κs = search needs
+array-read-t29 : tie.Need-array-read-t29
+array-read-t29 c = lit< tt
 
-slice-aggregate-put-values-4 : tie.Need-slice-aggregate-put-values-4
-slice-aggregate-put-values-4 c = search needs
+array-read-t32 : tie.Need-array-read-t32
+array-read-t32 c = lit< tt
 
-put-values-requires-4 : tie.Need-put-values-requires-4
-put-values-requires-4 c κs = search needs
+array-read-t35 : tie.Need-array-read-t35
+array-read-t35 c = lit< tt
+
+array-read-t38 : tie.Need-array-read-t38
+array-read-t38 c = lit< tt
+
+array-read-t41 : tie.Need-array-read-t41
+array-read-t41 c = lit< tt
+
+array-read-t44 : tie.Need-array-read-t44
+array-read-t44 c = lit< tt
+
+array-read-t47 : tie.Need-array-read-t47
+array-read-t47 c = lit< tt
+
+array-read-t50 : tie.Need-array-read-t50
+array-read-t50 c = lit< tt
+
+array-read-t53 : tie.Need-array-read-t53
+array-read-t53 c = lit< tt
+
+array-read-t56 : tie.Need-array-read-t56
+array-read-t56 c = lit< tt
+
+array-read-t59 : tie.Need-array-read-t59
+array-read-t59 c = lit< tt
+
+array-read-t62 : tie.Need-array-read-t62
+array-read-t62 c = lit< tt
+
+array-read-t65 : tie.Need-array-read-t65
+array-read-t65 c = lit< tt
+
+array-read-t68 : tie.Need-array-read-t68
+array-read-t68 c = lit< tt
+
+array-read-t71 : tie.Need-array-read-t71
+array-read-t71 c = lit< tt
+
+array-read-t74 : tie.Need-array-read-t74
+array-read-t74 c = lit< tt
+
+array-read-t77 : tie.Need-array-read-t77
+array-read-t77 c = lit< tt
+
+array-read-t80 : tie.Need-array-read-t80
+array-read-t80 c = lit< tt
+
+array-read-t83 : tie.Need-array-read-t83
+array-read-t83 c = lit< tt
+
+array-read-t86 : tie.Need-array-read-t86
+array-read-t86 c = lit< tt
+
+array-read-t89 : tie.Need-array-read-t89
+array-read-t89 c = lit< tt
+
+array-read-t92 : tie.Need-array-read-t92
+array-read-t92 c = lit< tt
+
+array-read-t95 : tie.Need-array-read-t95
+array-read-t95 c = lit< tt
+
+array-read-t98 : tie.Need-array-read-t98
+array-read-t98 c = lit< tt
 
 returns : tie.Need-returns
 returns c =
-    let at-args = c .before .before .before .before .before .before .before .before .before .before .before .before .before .before .args in
-    let at-settings-values = c .before .before .before .before .before .before .before .before .before .before .before .settings-values in
-    let at-member-values = c .before .before .before .before .before .before .before .before .before .before .member-values in
-    let at-counts-values = c .before .before .before .before .before .before .before .before .before .counts-values in
-    let at-phase-values = c .before .before .before .before .before .before .before .before .phase-values in
-    let at-put-values = c .before .before .before .before .before .before .put-values in
-    let at-put-values2 = c .before .before .before .before .put-values2 in
-    let at-put-values3 = c .before .before .put-values3 in
-    values-put (at-args .s) (at-settings-values .ensures) (at-member-values .ensures) (at-counts-values .ensures) (at-phase-values .ensures)
-    (at-put-values .ensures) (at-put-values2 .ensures) (at-put-values3 .ensures) (c .put-values4 .ensures)
+    values-listed (c .before .before .before .before .before .before .before .before .args .s)
+    (c .before .before .before .before .settings-values .ensures) (c .before .before .before .member-values .ensures)
+    (c .before .before .counts-values .ensures) (c .before .phase-values .ensures)
+    (c .chip-values .ensures)
 
 pub values-of-spec : {M : Type 1} → statement M
 values-of-spec =
@@ -61,12 +118,33 @@ values-of-spec =
     member-values-requires
     counts-values-requires
     phase-values-requires
-    slice-aggregate-put-values
-    put-values-requires
-    slice-aggregate-put-values-2
-    put-values-requires-2
-    slice-aggregate-put-values-3
-    put-values-requires-3
-    slice-aggregate-put-values-4
-    put-values-requires-4
+    chip-values-requires
+    array-read-t17
+    array-read-t20
+    array-read-t23
+    array-read-t26
+    array-read-t29
+    array-read-t32
+    array-read-t35
+    array-read-t38
+    array-read-t41
+    array-read-t44
+    array-read-t47
+    array-read-t50
+    array-read-t53
+    array-read-t56
+    array-read-t59
+    array-read-t62
+    array-read-t65
+    array-read-t68
+    array-read-t71
+    array-read-t74
+    array-read-t77
+    array-read-t80
+    array-read-t83
+    array-read-t86
+    array-read-t89
+    array-read-t92
+    array-read-t95
+    array-read-t98
     returns)

@@ -10,11 +10,8 @@ approves-requires c κs = search needs
 is-good-requires : tie.Need-is-good-requires
 is-good-requires c κs = search needs
 
-approved-entry-requires : tie.Need-approved-entry-requires
-approved-entry-requires c κs = search needs
-
-approved-requires : tie.Need-approved-requires
-approved-requires c κs = search needs
+granted-requires : tie.Need-granted-requires
+granted-requires c κs = search needs
 
 same-length : tie.Need-same-length
 same-length c = search needs
@@ -22,13 +19,17 @@ same-length c = search needs
 returns : tie.Need-returns
 unfolding onRequest
 returns c room =
-    let at-approves = c .before .before .before .before .before .before .before .before .approves in
-    let at-if1 = c .before .before .before .before .before .before .before .if1 in
-    let at-is-good = c .before .before .before .before .before .before .is-good in
-    let at-if2 = c .before .before .before .before .before .if2 in
-    let at-approved-entry = c .before .before .before .before .approved-entry in
-    let at-approved = c .before .before .approved in
-    rw (← at-approves .ensures, at-if1 .taken, ← at-is-good .ensures, at-if2 .taken, ← at-approved-entry .ensures) (at-approved .ensures room)
+    let at-approves = c .before .before .before .before .before .before .before .approves in
+    let at-if1 = c .before .before .before .before .before .before .if1 in
+    let at-is-good = c .before .before .before .before .before .is-good in
+    let at-if2 = c .before .before .before .before .if2 in
+    let at-granted = c .before .before .granted in
+    rw (
+      ← at-approves .ensures,
+      at-if1 .taken,
+      ← at-is-good .ensures,
+      at-if2 .taken,
+    ) (at-granted .ensures room)
 
 pending-or-unanswered-requires : tie.Need-pending-or-unanswered-requires
 pending-or-unanswered-requires c κs = search needs
@@ -56,8 +57,7 @@ on-request-spec =
     (tie.spec
     approves-requires
     is-good-requires
-    approved-entry-requires
-    approved-requires
+    granted-requires
     same-length
     returns
     pending-or-unanswered-requires

@@ -7,6 +7,9 @@ use Rattle.journal_effects.proofs.silent.Tie as tie
 enum-known-a : tie.Need-enum-known-a
 enum-known-a c = search needs
 
+silence-of-requires : tie.Need-silence-of-requires
+silence-of-requires c κs = search needs
+
 pending-or-unanswered-requires : tie.Need-pending-or-unanswered-requires
 pending-or-unanswered-requires c κs = search needs
 
@@ -40,8 +43,8 @@ in-phase-requires-3 c κs = search needs
 returns : tie.Need-returns
 unfolding silent
 returns c room =
-    let at-a = c .before .before .a in
-    rw (c .pending-or-unanswered .ensures room, at-a .given .1)
+    let at-a = c .before .before .before .a in
+    rw (c .pending-or-unanswered .ensures room, c .before .silence-of .ensures, at-a .given .1)
 
 returns-2 : tie.Need-returns-2
 unfolding silent
@@ -72,6 +75,7 @@ silent-spec =
     tie.close
     (tie.spec
     enum-known-a
+    silence-of-requires
     pending-or-unanswered-requires
     enum-known-a-2
     failed-requires

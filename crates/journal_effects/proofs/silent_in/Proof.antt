@@ -2,7 +2,8 @@
 use mathlib.Core.Path.{sym}
 use borrow.Author.Needs.{needs}
 use Rattle.state.proofs.Phases.{not-waiting}
-use Rattle.journal_effects.proofs.Silence.{nothing-silent, awaited-silent}
+use Rattle.effect_definitions.specs.JournalEffects.{silentIn}
+use Rattle.journal_effects.proofs.Phases.{nothing-changed, awaited-in}
 use Rattle.journal_effects.proofs.silent_in.Statement.{statement}
 use Rattle.journal_effects.proofs.silent_in.Tie as tie
 
@@ -12,7 +13,7 @@ enum-known-phase c = search needs
 returns : tie.Need-returns
 returns c room =
     let at-args = c .before .before .args in
-    sym (nothing-silent (at-args .s .phase) _ _ (not-waiting (at-args .s .phase) (c .match .keys2)))
+    sym (nothing-changed (at-args .s .phase) _ _ (not-waiting (at-args .s .phase) (c .match .keys2)) .0)
 
 silent-requires : tie.Need-silent-requires
 silent-requires c κs = search needs
@@ -24,7 +25,7 @@ returns-2 : tie.Need-returns-2
 returns-2 c room =
     let at-phase = c .before .before .before .before .before .phase in
     let at-silent = c .before .before .silent in
-    awaited-silent _ _ _ _ (at-phase .given .1) (at-silent .ensures room)
+    awaited-in silentIn _ _ _ _ (at-phase .given .1) (at-silent .ensures room)
 
 pub silent-in-spec : {M : Type 1} → statement M
 silent-in-spec =

@@ -1,17 +1,18 @@
 -- `message_vectors::cut_copies` meets its contract.
 use mathlib.Core.Path.{sym}
-use borrow.Author.Needs.{needs}
-use native.Mathlib.Omega.{arith}
-use lib.Seq.{length-take-le}
 use Prim.Native.Nat.{_-_, _≤_}
+use native.Mathlib.Omega.{arith}
+use lib.ListN.{length}
+use lib.Seq.{length-take-le}
+use borrow.Author.Needs.{needs}
 use Rattle.message_vectors.proofs.cut_copies.Statement.{statement}
 use Rattle.message_vectors.proofs.cut_copies.Tie as tie
 
 abbrev Inv-loop : tie.InvT-loop
-Inv-loop sale n₀ t4 n = n ≤ 77
+Inv-loop s n₀ t4 n = n ≤ length s
 
 abbrev μ-loop : tie.MeasureT-loop
-μ-loop sale n₀ t4 n = 77 - n
+μ-loop s n₀ t4 n = length s - n
 
 slice-aggregate-say : tie.Need-slice-aggregate-say Inv-loop μ-loop
 slice-aggregate-say c = search needs
@@ -21,9 +22,6 @@ say-requires c κs = search needs
 
 loop-holds : tie.Need-loop-holds Inv-loop μ-loop
 loop-holds c = search needs
-
-array-share-prefix-sale : tie.Need-array-share-prefix-sale Inv-loop μ-loop
-array-share-prefix-sale c = search needs
 
 slice-aggregate-show-reading : tie.Need-slice-aggregate-show-reading Inv-loop μ-loop
 slice-aggregate-show-reading c = sym (length-take-le _ _ (omega arith))
@@ -39,6 +37,9 @@ loop-less c = search needs
 
 loop-again : tie.Need-loop-again Inv-loop μ-loop
 loop-again c = search needs
+
+show-reading-requires-2 : tie.Need-show-reading-requires-2 Inv-loop μ-loop
+show-reading-requires-2 c κs = search needs
 
 slice-aggregate-say-2 : tie.Need-slice-aggregate-say-2 Inv-loop μ-loop
 slice-aggregate-say-2 c = search needs
@@ -58,12 +59,12 @@ cut-copies-spec =
     slice-aggregate-say
     say-requires
     loop-holds
-    array-share-prefix-sale
     slice-aggregate-show-reading
     show-reading-requires
     add-n
     loop-less
     loop-again
+    show-reading-requires-2
     slice-aggregate-say-2
     say-requires-2
     returns)

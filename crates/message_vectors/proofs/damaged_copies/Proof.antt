@@ -1,14 +1,15 @@
 -- `message_vectors::damaged_copies` meets its contract.
-use borrow.Author.Needs.{needs}
 use Prim.Native.Nat.{_-_, _≤_}
+use lib.ListN.{length}
+use borrow.Author.Needs.{needs}
 use Rattle.message_vectors.proofs.damaged_copies.Statement.{statement}
 use Rattle.message_vectors.proofs.damaged_copies.Tie as tie
 
 abbrev Inv-loop : tie.InvT-loop
-Inv-loop b i₀ t5 i = i ≤ 76
+Inv-loop s b i₀ t5 i = i ≤ length s
 
 abbrev μ-loop : tie.MeasureT-loop
-μ-loop b i₀ t5 i = 76 - i
+μ-loop s b i₀ t5 i = length s - i
 
 slice-aggregate-say : tie.Need-slice-aggregate-say Inv-loop μ-loop
 slice-aggregate-say c = search needs
@@ -19,14 +20,8 @@ say-requires c κs = search needs
 loop-holds : tie.Need-loop-holds Inv-loop μ-loop
 loop-holds c = search needs
 
-array-write-copy : tie.Need-array-write-copy Inv-loop μ-loop
-array-write-copy c = search needs
-
-slice-aggregate-show-reading : tie.Need-slice-aggregate-show-reading Inv-loop μ-loop
-slice-aggregate-show-reading c = search needs
-
-show-reading-requires : tie.Need-show-reading-requires Inv-loop μ-loop
-show-reading-requires c κs = search needs
+show-damaged-requires : tie.Need-show-damaged-requires Inv-loop μ-loop
+show-damaged-requires c κs = search needs
 
 add-i : tie.Need-add-i Inv-loop μ-loop
 add-i c = search needs
@@ -55,9 +50,7 @@ damaged-copies-spec =
     slice-aggregate-say
     say-requires
     loop-holds
-    array-write-copy
-    slice-aggregate-show-reading
-    show-reading-requires
+    show-damaged-requires
     add-i
     loop-less
     loop-again

@@ -31,7 +31,7 @@ returns c =
       at-typed .ensures,
       at-indicator-of .ensures,
     )
-    (sym (all-append (cardFields (at-args .x) (at-args .batch) (at-args .q)) (originalFields (at-args .q .kind) (at-args .o))
+    (sym (all-append (cardFields (at-args .x) (at-args .batch) (at-args .chip) (at-args .q)) (originalFields (at-args .q .kind) (at-args .o))
     (messageOf (indicatorOf (at-args .q .kind)) [])))
 
 pub request-message-spec : {M : Type 1} → statement M

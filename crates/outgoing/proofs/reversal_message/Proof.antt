@@ -1,6 +1,10 @@
 -- `outgoing::reversal_message` meets its contract.
-use mathlib.Core.Path.{_∙_}
+use mathlib.Core.Path.{sym, _∙_}
+use mathlib.Core.List.{[], _∷_}
 use borrow.Author.Needs.{needs}
+use Rattle.message.specs.Build.{bytes, messageOf}
+use Rattle.compose.proofs.Composed.{all-append}
+use Rattle.outgoing.specs.Outgoing.{cardFields, reasonCode}
 use Rattle.outgoing.proofs.reversal_message.Statement.{statement}
 use Rattle.outgoing.proofs.reversal_message.Tie as tie
 
@@ -15,8 +19,12 @@ with-reason-requires c κs = search needs
 
 returns : tie.Need-returns
 returns c =
+    let at-args = c .before .before .before .before .args in
     let at-typed = c .before .before .typed in
-    c .with-reason .ensures ∙ rw (c .before .with-card-fields .ensures, at-typed .ensures)
+    let xs = cardFields (at-args .x) (at-args .batch) (at-args .chip) (at-args .v .request) in
+    c .with-reason .ensures
+    ∙ rw (c .before .with-card-fields .ensures, at-typed .ensures)
+    (sym (all-append xs (bytes 39 (reasonCode (at-args .v .reason)) ∷ []) (messageOf 0x0400 [])))
 
 pub reversal-message-spec : {M : Type 1} → statement M
 reversal-message-spec =

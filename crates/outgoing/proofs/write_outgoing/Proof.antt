@@ -1,4 +1,4 @@
--- `outgoing::put_message` meets its contract.
+-- `outgoing::write_outgoing` meets its contract.
 use borrow.Author.Needs.{needs}
 use Rattle.outgoing.proofs.write_outgoing.Statement.{statement}
 use Rattle.outgoing.proofs.write_outgoing.Tie as tie

@@ -20,47 +20,34 @@ bounds-of-requires c κs = search needs
 sub-if2 : tie.Need-sub-if2
 sub-if2 c = search needs
 
-sub-copy : tie.Need-sub-copy
-sub-copy c = search needs
-
-part-copy-start : tie.Need-part-copy-start
-part-copy-start c = search needs
-
-part-copy-end : tie.Need-part-copy-end
-part-copy-end c =
-    let at-args-m = c .before .before .before .before .before .before .before .before .before .args .m in
-    let l : length (at-args-m .contents) ≡ rooms = search needs in
-    omega arith
-
-copy-requires : tie.Need-copy-requires
-copy-requires c κs = search needs
+copy-at-requires : tie.Need-copy-at-requires
+copy-at-requires c κs = search needs
 
 same-length : tie.Need-same-length
 same-length c = search needs
 
 returns : tie.Need-returns
 returns c =
-    let at-args-m = c .before .before .before .before .before .before .before .before .before .before .before .before .before .before .args
-    .m in
-    let at-args-out = c .before .before .before .before .before .before .before .before .before .before .before .before .before .before
-    .args .out in
+    let at-args-out = c .before .before .before .before .before .before .before .before .before .before .before .before .before .args
+    .out in
     let at-named-ensures = c .before .before .before .before .before .before .before .before .before .named .ensures in
     let at-if1-taken = c .before .before .before .before .before .before .before .before .if1 .taken in
-    let at-copy-ensures = c .before .before .copy .ensures in
-    let l : length (at-args-m .contents) ≡ rooms = search needs in
+    let at-copy-at-ensures = c .before .before .copy-at .ensures in
+    let m = c .before .before .before .before .before .before .before .before .before .before .before .before .before .args .t1 in
+    let l : length (m .contents) ≡ rooms = search needs in
     let b = c .before .before .before .before .before .before .before .bounds-of .ensures in
     let h = c .before .before .before .before .before .before .if2 .taken in
     let named = sym at-named-ensures ∙ at-if1-taken in
     let q = copies-is b (length (now at-args-out)) l named ∙ eq-eqb _ _ h in
-    (sym q, rw q (copied b _ l h (at-copy-ensures .1)))
+    (sym q, rw q (copied b _ l h at-copy-at-ensures))
 
 returns-2 : tie.Need-returns-2
 returns-2 c =
-    let at-args-m = c .before .before .before .before .before .before .before .before .args .m in
-    let at-args-out = c .before .before .before .before .before .before .before .before .args .out in
+    let at-args-out = c .before .before .before .before .before .before .before .args .out in
     let at-named-ensures = c .before .before .before .named .ensures in
     let at-if1-taken = c .before .before .if1 .taken in
-    let l : length (at-args-m .contents) ≡ rooms = search needs in
+    let m = c .before .before .before .before .before .before .before .args .t1 in
+    let l : length (m .contents) ≡ rooms = search needs in
     let named = sym at-named-ensures ∙ at-if1-taken in
     let q = copies-is (c .before .bounds-of .ensures) (length (now at-args-out)) l named ∙ ne-eqb _ _ (c .if2 .left) in
     (sym q, rw q)
@@ -76,10 +63,7 @@ field-into-spec =
     named-requires
     bounds-of-requires
     sub-if2
-    sub-copy
-    part-copy-start
-    part-copy-end
-    copy-requires
+    copy-at-requires
     same-length
     returns
     returns-2

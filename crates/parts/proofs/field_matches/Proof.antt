@@ -1,9 +1,6 @@
 -- `parts::field_matches` meets its contract.
 use mathlib.Core.Path.{_≡_, sym, _∙_}
 use borrow.Author.Needs.{needs}
-use native.Mathlib.Omega.{arith}
-use lib.ListN.{length}
-use Rattle.message.specs.Message.{rooms}
 use Rattle.parts.specs.Parts.{matches}
 use Rattle.parts.proofs.field_matches.Statement.{statement}
 use Rattle.parts.proofs.field_matches.Tie as tie
@@ -14,20 +11,8 @@ named-requires c κs = search needs
 bounds-of-requires : tie.Need-bounds-of-requires
 bounds-of-requires c κs = search needs
 
-sub-same : tie.Need-sub-same
-sub-same c = search needs
-
-part-same-start : tie.Need-part-same-start
-part-same-start c = search needs
-
-part-same-end : tie.Need-part-same-end
-part-same-end c =
-    let at-args-m = c .before .before .before .before .before .before .before .before .args .m in
-    let l : length (at-args-m .contents) ≡ rooms = search needs in
-    omega arith
-
-same-requires : tie.Need-same-requires
-same-requires c κs = search needs
+same-at-requires : tie.Need-same-at-requires
+same-at-requires c κs = search needs
 
 returns : tie.Need-returns
 unfolding matches
@@ -36,7 +21,7 @@ returns c =
     let at-if1 = c .before .before .before .before .if1 in
     let at-bounds-of = c .before .before .before .bounds-of in
     let named = sym (at-named .ensures) ∙ at-if1 .taken in
-    rw (named, ← at-bounds-of .ensures .bytes-are) (c .same .ensures)
+    rw (named, ← at-bounds-of .ensures .bytes-are) (c .same-at .ensures)
 
 returns-2 : tie.Need-returns-2
 unfolding matches
@@ -48,9 +33,6 @@ field-matches-spec =
     (tie.spec
     named-requires
     bounds-of-requires
-    sub-same
-    part-same-start
-    part-same-end
-    same-requires
+    same-at-requires
     returns
     returns-2)

@@ -2,9 +2,7 @@
 use mathlib.Core.Path.{_≡_, sym, _∙_}
 use borrow.Author.Needs.{needs}
 use native.Mathlib.Omega.{arith}
-use lib.ListN.{length}
 use lib.Seq.{length-take-le}
-use Rattle.message.specs.Message.{rooms}
 use Rattle.parts.specs.Parts.{numberIn}
 use Rattle.parts.proofs.Places.{front-there, number-short, number-read}
 use Rattle.parts.proofs.number_in.Statement.{statement}
@@ -29,30 +27,18 @@ returns-2 c =
 add-past : tie.Need-add-past
 add-past c = search needs
 
-sub-unpack-into : tie.Need-sub-unpack-into
-sub-unpack-into c = search needs
-
-part-unpack-into-start : tie.Need-part-unpack-into-start
-part-unpack-into-start c = search needs
-
-part-unpack-into-end : tie.Need-part-unpack-into-end
-part-unpack-into-end c =
-    let at-args-m = c .before .before .before .before .before .before .before .before .before .before .before .args .m in
-    let l : length (at-args-m .contents) ≡ rooms = search needs in
-    omega arith
-
 array-borrow-prefix-ds : tie.Need-array-borrow-prefix-ds
 array-borrow-prefix-ds c =
     let at-bounds-of-ensures = c .before .before .before .before .before .before .bounds-of .ensures in
     omega (arith, at-bounds-of-ensures .count-small)
 
-slice-aggregate-unpack-into : tie.Need-slice-aggregate-unpack-into
-slice-aggregate-unpack-into c =
+slice-aggregate-unpack-at : tie.Need-slice-aggregate-unpack-at
+slice-aggregate-unpack-at c =
     let at-bounds-of-ensures = c .before .before .before .before .before .before .before .bounds-of .ensures in
     sym (length-take-le _ _ (omega (arith, at-bounds-of-ensures .count-small)))
 
-unpack-into-requires : tie.Need-unpack-into-requires
-unpack-into-requires c κs = search needs
+unpack-at-requires : tie.Need-unpack-at-requires
+unpack-at-requires c κs = search needs
 
 sub-number-of : tie.Need-sub-number-of
 sub-number-of c = search needs
@@ -63,8 +49,8 @@ part-number-of-start c = search needs
 part-number-of-end : tie.Need-part-number-of-end
 part-number-of-end c =
     let at-bounds-of-ensures = c .before .before .before .before .before .before .before .before .before .before .bounds-of .ensures in
-    let at-unpack-into = c .before .before .unpack-into in
-    front-there _ (at-unpack-into .last .1 .0) (at-unpack-into .kept .1 .0) (omega (arith, at-bounds-of-ensures .count-small))
+    let at-unpack-at = c .before .before .unpack-at in
+    front-there _ (at-unpack-at .last .1 .1 .1 .0) (at-unpack-at .kept .1 .1 .1 .0) (omega (arith, at-bounds-of-ensures .count-small))
 
 number-of-requires : tie.Need-number-of-requires
 number-of-requires c κs = search needs
@@ -78,7 +64,7 @@ returns-3 c =
     let at-bounds-of-ensures = c .before .before .before .before .before .before .before .before .before .before .before .before .bounds-of
     .ensures in
     let named = sym at-named-ensures ∙ at-if1-taken in
-    let unpacked = c .before .before .before .before .unpack-into .ensures in
+    let unpacked = c .before .before .before .before .unpack-at .ensures in
     number-read at-bounds-of-ensures _ _ _ named (omega arith) unpacked (c .number-of .ensures)
 
 returns-4 : tie.Need-returns-4
@@ -94,12 +80,9 @@ number-in-spec =
     returns
     returns-2
     add-past
-    sub-unpack-into
-    part-unpack-into-start
-    part-unpack-into-end
     array-borrow-prefix-ds
-    slice-aggregate-unpack-into
-    unpack-into-requires
+    slice-aggregate-unpack-at
+    unpack-at-requires
     sub-number-of
     part-number-of-start
     part-number-of-end

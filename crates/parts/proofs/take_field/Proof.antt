@@ -24,27 +24,15 @@ returns : tie.Need-returns
 returns c =
     let at-named-ensures = c .before .before .before .named .ensures in
     let at-if1-taken = c .before .before .if1 .taken in
-    let m = c .before .before .before .before .before .before .before .before .args .m in
-    let out = c .before .before .before .before .before .before .before .before .args .out in
+    let m = c .before .before .before .before .before .before .before .args .t1 in
+    let out = c .before .before .before .before .before .before .before .args .out in
     let l : length (m .contents) ≡ rooms = search needs in
     let named = sym at-named-ensures ∙ at-if1-taken in
     let q = rw (lt-ltb _ _ (c .if2 .taken)) at (taken-is (c .before .bounds-of .ensures) (length (now out)) l named) in
     (sym q, rw q)
 
-sub-copy : tie.Need-sub-copy
-sub-copy c = search needs
-
-part-copy-start : tie.Need-part-copy-start
-part-copy-start c = search needs
-
-part-copy-end : tie.Need-part-copy-end
-part-copy-end c =
-    let m = c .before .before .before .before .before .before .before .before .before .args .m in
-    let l : length (m .contents) ≡ rooms = search needs in
-    omega arith
-
-copy-requires : tie.Need-copy-requires
-copy-requires c κs = search needs
+copy-at-requires : tie.Need-copy-at-requires
+copy-at-requires c κs = search needs
 
 same-length : tie.Need-same-length
 same-length c = search needs
@@ -54,15 +42,14 @@ returns-2 c =
     let at-named-ensures = c .before .before .before .before .before .before .before .before .before .named .ensures in
     let at-if1-taken = c .before .before .before .before .before .before .before .before .if1 .taken in
     let at-if2-left = c .before .before .before .before .before .before .if2 .left in
-    let at-copy-ensures = c .before .before .copy .ensures in
-    let m = c .before .before .before .before .before .before .before .before .before .before .before .before .before .before .args .m in
-    let out = c .before .before .before .before .before .before .before .before .before .before .before .before .before .before .args
-    .out in
+    let at-copy-at-ensures = c .before .before .copy-at .ensures in
+    let m = c .before .before .before .before .before .before .before .before .before .before .before .before .before .args .t1 in
+    let out = c .before .before .before .before .before .before .before .before .before .before .before .before .before .args .out in
     let l : length (m .contents) ≡ rooms = search needs in
     let named = sym at-named-ensures ∙ at-if1-taken in
     let b = c .before .before .before .before .before .before .before .bounds-of .ensures in
     let q = rw (le-ltb _ _ at-if2-left) at (taken-is b (length (now out)) l named) in
-    (sym q, rw q (copied-front b _ (at-copy-ensures .1)))
+    (sym q, rw q (copied-front b _ l at-copy-at-ensures))
 
 returns-3 : tie.Need-returns-3
 unfolding taken
@@ -76,10 +63,7 @@ take-field-spec =
     bounds-of-requires
     sub-if2
     returns
-    sub-copy
-    part-copy-start
-    part-copy-end
-    copy-requires
+    copy-at-requires
     same-length
     returns-2
     returns-3)

@@ -6,7 +6,7 @@ use native.Mathlib.Omega.{arith}
 use denote.Ref.{now}
 use Rattle.reading.specs.Reading.{readMessage}
 use Rattle.digits.proofs.Lists.{tail-part}
-use Rattle.reading.proofs.Fields.{bitmap-copied, bitmap-bytes}
+use Rattle.reading.proofs.Fields.{bitmap-copied, bitmap-bytes, accepted-plain}
 use Rattle.reading.proofs.read.Statement.{statement}
 use Rattle.reading.proofs.read.Tie as tie
 
@@ -134,26 +134,31 @@ returns-2 c =
 enum-told : tie.Need-enum-told
 enum-told c = search needs
 
-accept-requires : tie.Need-accept-requires
-accept-requires c κs = tt
+named-requires : tie.Need-named-requires
+named-requires c κs = search needs
+
+judged-requires : tie.Need-judged-requires
+judged-requires c κs = tt
 
 returns-3 : tie.Need-returns-3
 unfolding readMessage
 returns-3 c =
     let at-if1 = c .before .before .before .before .before .before .before .before .before .before .before .before .before .before .before
-    .before .before .before .before .before .before .before .before .if1 in
+    .before .before .before .before .before .before .before .before .before .before .before .if1 in
     let at-wide = c .before .before .before .before .before .before .before .before .before .before .before .before .before .before .before
-    .before .before .before .before .before .before .wide in
+    .before .before .before .before .before .before .before .before .before .wide in
     let at-wide2 = c .before .before .before .before .before .before .before .before .before .before .before .before .before .before
-    .before .before .before .before .before .wide2 in
+    .before .before .before .before .before .before .before .before .wide2 in
     let at-listed-indicator = c .before .before .before .before .before .before .before .before .before .before .before .before .before
-    .before .before .before .before .before .listed-indicator in
+    .before .before .before .before .before .before .before .before .listed-indicator in
     let at-if2 = c .before .before .before .before .before .before .before .before .before .before .before .before .before .before .before
-    .before .before .if2 in
-    let at-copy = c .before .before .before .before .before .before .before .before .before .before .before .before .before .before .copy in
-    let at-all-listed = c .before .before .before .before .before .before .before .before .before .before .before .all-listed in
-    let at-if3 = c .before .before .before .before .before .before .before .before .before .before .if3 in
-    let at-read-fields = c .before .before .before .before .before .read-fields in
+    .before .before .before .before .before .if2 in
+    let at-copy = c .before .before .before .before .before .before .before .before .before .before .before .before .before .before .before
+    .before .before .copy in
+    let at-all-listed = c .before .before .before .before .before .before .before .before .before .before .before .before .before .before
+    .all-listed in
+    let at-if3 = c .before .before .before .before .before .before .before .before .before .before .before .before .before .if3 in
+    let at-read-fields = c .before .before .before .before .before .before .before .before .read-fields in
     rw (
       le-ltb _ _ (at-if1 .left),
       ← at-wide .ensures,
@@ -162,15 +167,45 @@ returns-3 c =
       ← bitmap-copied _ _ (at-if1 .left) (at-copy .ensures .1),
       sym (at-all-listed .ensures) ∙ at-if3 .taken,
       rw tail-part at (at-read-fields .ensures),
-      c .before .enum-told .given .1,
-    ) (c .accept .ensures)
-
-refusal-requires-3 : tie.Need-refusal-requires-3
-refusal-requires-3 c κs = tt
+      c .before .before .before .before .enum-told .given .1,
+    ) (c .judged .ensures)
 
 returns-4 : tie.Need-returns-4
 unfolding readMessage
 returns-4 c =
+    let at-if1 = c .before .before .before .before .before .before .before .before .before .before .before .before .before .before .before
+    .before .before .before .before .before .before .before .before .before .before .if1 in
+    let at-wide = c .before .before .before .before .before .before .before .before .before .before .before .before .before .before .before
+    .before .before .before .before .before .before .before .before .wide in
+    let at-wide2 = c .before .before .before .before .before .before .before .before .before .before .before .before .before .before
+    .before .before .before .before .before .before .before .wide2 in
+    let at-listed-indicator = c .before .before .before .before .before .before .before .before .before .before .before .before .before
+    .before .before .before .before .before .before .before .listed-indicator in
+    let at-if2 = c .before .before .before .before .before .before .before .before .before .before .before .before .before .before .before
+    .before .before .before .before .if2 in
+    let at-copy = c .before .before .before .before .before .before .before .before .before .before .before .before .before .before .before
+    .before .copy in
+    let at-all-listed = c .before .before .before .before .before .before .before .before .before .before .before .before .before
+    .all-listed in
+    let at-if3 = c .before .before .before .before .before .before .before .before .before .before .before .before .if3 in
+    let at-read-fields = c .before .before .before .before .before .before .before .read-fields in
+    rw (
+      le-ltb _ _ (at-if1 .left),
+      ← at-wide .ensures,
+      ← at-wide2 .ensures,
+      sym (at-listed-indicator .ensures) ∙ at-if2 .taken,
+      ← bitmap-copied _ _ (at-if1 .left) (at-copy .ensures .1),
+      sym (at-all-listed .ensures) ∙ at-if3 .taken,
+      rw tail-part at (at-read-fields .ensures),
+      c .before .before .before .enum-told .given .1,
+    ) (sym (accepted-plain _ (sym (c .before .named .ensures) ∙ c .if4 .left)))
+
+refusal-requires-3 : tie.Need-refusal-requires-3
+refusal-requires-3 c κs = tt
+
+returns-5 : tie.Need-returns-5
+unfolding readMessage
+returns-5 c =
     let at-if1 = c .before .before .before .before .before .before .before .before .before .before .before .before .before .before .if1 in
     let at-wide = c .before .before .before .before .before .before .before .before .before .before .before .before .wide in
     let at-wide2 = c .before .before .before .before .before .before .before .before .before .before .wide2 in
@@ -191,9 +226,9 @@ returns-4 c =
 refusal-requires-4 : tie.Need-refusal-requires-4
 refusal-requires-4 c κs = tt
 
-returns-5 : tie.Need-returns-5
+returns-6 : tie.Need-returns-6
 unfolding readMessage
-returns-5 c =
+returns-6 c =
     let at-if1 = c .before .before .before .before .before .before .before .if1 in
     let at-wide = c .before .before .before .before .before .wide in
     let at-wide2 = c .before .before .before .wide2 in
@@ -235,9 +270,11 @@ read-spec =
     refusal-requires-2
     returns-2
     enum-told
-    accept-requires
+    named-requires
+    judged-requires
     returns-3
-    refusal-requires-3
     returns-4
+    refusal-requires-3
+    returns-5
     refusal-requires-4
-    returns-5)
+    returns-6)

@@ -51,38 +51,20 @@ is-text-requires-2 c κs = search needs
 enum-told-3 : tie.Need-enum-told-3
 enum-told-3 c = search needs
 
-decimal-in-requires-3 : tie.Need-decimal-in-requires-3
-decimal-in-requires-3 c κs = search needs
-
-is-number-requires-4 : tie.Need-is-number-requires-4
-is-number-requires-4 c κs = search needs
-
-enum-told-4 : tie.Need-enum-told-4
-enum-told-4 c = search needs
-
-all-printable-requires : tie.Need-all-printable-requires
-all-printable-requires c κs = search needs
-
-enum-told-5 : tie.Need-enum-told-5
-enum-told-5 c = search needs
-
-is-hexadecimal-requires : tie.Need-is-hexadecimal-requires
-is-hexadecimal-requires c κs = search needs
-
-enum-told-6 : tie.Need-enum-told-6
-enum-told-6 c = search needs
-
-is-good-requires : tie.Need-is-good-requires
-is-good-requires c κs = search needs
-
 slice-aggregate-same : tie.Need-slice-aggregate-same
 slice-aggregate-same c = search needs
 
 same-requires : tie.Need-same-requires
 same-requires c κs = search needs
 
-enum-told-7 : tie.Need-enum-told-7
-enum-told-7 c = search needs
+enum-told-4 : tie.Need-enum-told-4
+enum-told-4 c = search needs
+
+is-field55-requires : tie.Need-is-field55-requires
+is-field55-requires c κs = search needs
+
+enum-told-5 : tie.Need-enum-told-5
+enum-told-5 c = search needs
 
 slice-aggregate-same-2 : tie.Need-slice-aggregate-same-2
 slice-aggregate-same-2 c = search needs
@@ -90,8 +72,35 @@ slice-aggregate-same-2 c = search needs
 same-requires-2 : tie.Need-same-requires-2
 same-requires-2 c κs = search needs
 
+is-field55-requires-2 : tie.Need-is-field55-requires-2
+is-field55-requires-2 c κs = search needs
+
+enum-told-6 : tie.Need-enum-told-6
+enum-told-6 c = search needs
+
+decimal-in-requires-3 : tie.Need-decimal-in-requires-3
+decimal-in-requires-3 c κs = search needs
+
+is-number-requires-4 : tie.Need-is-number-requires-4
+is-number-requires-4 c κs = search needs
+
+enum-told-7 : tie.Need-enum-told-7
+enum-told-7 c = search needs
+
+all-printable-requires : tie.Need-all-printable-requires
+all-printable-requires c κs = search needs
+
 enum-told-8 : tie.Need-enum-told-8
 enum-told-8 c = search needs
+
+is-hexadecimal-requires : tie.Need-is-hexadecimal-requires
+is-hexadecimal-requires c κs = search needs
+
+enum-told-9 : tie.Need-enum-told-9
+enum-told-9 c = search needs
+
+is-good-requires : tie.Need-is-good-requires
+is-good-requires c κs = search needs
 
 slice-aggregate-same-3 : tie.Need-slice-aggregate-same-3
 slice-aggregate-same-3 c = search needs
@@ -99,17 +108,35 @@ slice-aggregate-same-3 c = search needs
 same-requires-3 : tie.Need-same-requires-3
 same-requires-3 c κs = search needs
 
+enum-told-10 : tie.Need-enum-told-10
+enum-told-10 c = search needs
+
 slice-aggregate-same-4 : tie.Need-slice-aggregate-same-4
 slice-aggregate-same-4 c = search needs
 
 same-requires-4 : tie.Need-same-requires-4
 same-requires-4 c κs = search needs
 
-enum-told-9 : tie.Need-enum-told-9
-enum-told-9 c = search needs
+enum-told-11 : tie.Need-enum-told-11
+enum-told-11 c = search needs
 
-enum-told-10 : tie.Need-enum-told-10
-enum-told-10 c = search needs
+slice-aggregate-same-5 : tie.Need-slice-aggregate-same-5
+slice-aggregate-same-5 c = search needs
+
+same-requires-5 : tie.Need-same-requires-5
+same-requires-5 c κs = search needs
+
+slice-aggregate-same-6 : tie.Need-slice-aggregate-same-6
+slice-aggregate-same-6 c = search needs
+
+same-requires-6 : tie.Need-same-requires-6
+same-requires-6 c κs = search needs
+
+enum-told-12 : tie.Need-enum-told-12
+enum-told-12 c = search needs
+
+enum-told-13 : tie.Need-enum-told-13
+enum-told-13 c = search needs
 
 returns : tie.Need-returns
 returns c =
@@ -145,36 +172,49 @@ returns-5 c =
 returns-6 : tie.Need-returns-6
 returns-6 c =
     let at-enum-told3 = c .before .before .enum-told3 in
-    rw (at-enum-told3 .given .1, c .is-number4 .ensures, c .before .decimal-in3 .ensures)
+    rw (at-enum-told3 .given .1, c .same .ensures)
 
 returns-7 : tie.Need-returns-7
-returns-7 c = rw (c .before .enum-told4 .given .1, c .all-printable .ensures)
+returns-7 c = rw (c .before .enum-told4 .given .1, c .is-field55 .ensures)
 
 returns-8 : tie.Need-returns-8
-returns-8 c = rw (c .before .enum-told5 .given .1, c .is-hexadecimal .ensures)
+returns-8 c =
+    let at-enum-told5 = c .before .before .before .enum-told5 in
+    rw (at-enum-told5 .given .1, c .before .same2 .ensures, c .is-field552 .ensures)
 
 returns-9 : tie.Need-returns-9
 returns-9 c =
-    let at-enum-told6 = c .before .before .before .enum-told6 in
-    let at-is-good = c .before .before .is-good in
-    rw (at-enum-told6 .given .1, c .same .ensures, at-is-good .ensures)
+    let at-enum-told6 = c .before .before .enum-told6 in
+    rw (at-enum-told6 .given .1, c .is-number4 .ensures, c .before .decimal-in3 .ensures)
 
 returns-10 : tie.Need-returns-10
-returns-10 c =
-    let at-enum-told7 = c .before .before .enum-told7 in
-    rw (at-enum-told7 .given .1, c .same2 .ensures)
+returns-10 c = rw (c .before .enum-told7 .given .1, c .all-printable .ensures)
 
 returns-11 : tie.Need-returns-11
-returns-11 c =
-    let at-enum-told8 = c .before .before .before .before .enum-told8 in
-    let at-same3 = c .before .before .same3 in
-    rw (at-enum-told8 .given .1, at-same3 .ensures, c .same4 .ensures)
+returns-11 c = rw (c .before .enum-told8 .given .1, c .is-hexadecimal .ensures)
 
 returns-12 : tie.Need-returns-12
-returns-12 c = search needs
+returns-12 c =
+    let at-enum-told9 = c .before .before .before .enum-told9 in
+    let at-is-good = c .before .before .is-good in
+    rw (at-enum-told9 .given .1, c .same3 .ensures, at-is-good .ensures)
 
 returns-13 : tie.Need-returns-13
-returns-13 c = rw (c .enum-told10 .given .1)
+returns-13 c =
+    let at-enum-told10 = c .before .before .enum-told10 in
+    rw (at-enum-told10 .given .1, c .same4 .ensures)
+
+returns-14 : tie.Need-returns-14
+returns-14 c =
+    let at-enum-told11 = c .before .before .before .before .enum-told11 in
+    let at-same5 = c .before .before .same5 in
+    rw (at-enum-told11 .given .1, at-same5 .ensures, c .same6 .ensures)
+
+returns-15 : tie.Need-returns-15
+returns-15 c = rw (c .enum-told12 .given .1)
+
+returns-16 : tie.Need-returns-16
+returns-16 c = rw (c .enum-told13 .given .1)
 
 pub fits-spec : {M : Type 1} → statement M
 fits-spec =
@@ -196,26 +236,35 @@ fits-spec =
     is-dash-requires-2
     is-text-requires-2
     enum-told-3
-    decimal-in-requires-3
-    is-number-requires-4
-    enum-told-4
-    all-printable-requires
-    enum-told-5
-    is-hexadecimal-requires
-    enum-told-6
-    is-good-requires
     slice-aggregate-same
     same-requires
-    enum-told-7
+    enum-told-4
+    is-field55-requires
+    enum-told-5
     slice-aggregate-same-2
     same-requires-2
+    is-field55-requires-2
+    enum-told-6
+    decimal-in-requires-3
+    is-number-requires-4
+    enum-told-7
+    all-printable-requires
     enum-told-8
+    is-hexadecimal-requires
+    enum-told-9
+    is-good-requires
     slice-aggregate-same-3
     same-requires-3
+    enum-told-10
     slice-aggregate-same-4
     same-requires-4
-    enum-told-9
-    enum-told-10
+    enum-told-11
+    slice-aggregate-same-5
+    same-requires-5
+    slice-aggregate-same-6
+    same-requires-6
+    enum-told-12
+    enum-told-13
     returns
     returns-2
     returns-3
@@ -228,4 +277,7 @@ fits-spec =
     returns-10
     returns-11
     returns-12
-    returns-13)
+    returns-13
+    returns-14
+    returns-15
+    returns-16)

@@ -22,22 +22,19 @@ asked-by-requires c κs = search needs
 enum-known-a : tie.Need-enum-known-a
 enum-known-a c = search needs
 
-word-requires : tie.Need-word-requires
-word-requires c κs = search needs
+slice-aggregate-bytes-into : tie.Need-slice-aggregate-bytes-into
+slice-aggregate-bytes-into c = search needs
 
-slice-aggregate-answer-into : tie.Need-slice-aggregate-answer-into
-slice-aggregate-answer-into c = search needs
-
-answer-into-requires : tie.Need-answer-into-requires
-answer-into-requires c κs = search needs
+bytes-into-requires : tie.Need-bytes-into-requires
+bytes-into-requires c κs = search needs
 
 array-share-prefix-bytes : tie.Need-array-share-prefix-bytes
 array-share-prefix-bytes c = search needs
 
 slice-aggregate-make : tie.Need-slice-aggregate-make
 slice-aggregate-make c =
-    let at-answer-into = c .before .before .answer-into in
-    sym (length-take-le _ _ (at-answer-into .ensures .0))
+    let at-bytes-into = c .before .before .bytes-into in
+    sym (length-take-le _ _ (at-bytes-into .ensures .0))
 
 make-requires : tie.Need-make-requires
 make-requires c κs = search needs
@@ -66,27 +63,24 @@ same-length-3 c = search needs
 returns : tie.Need-returns
 returns c =
     let at-args = c .before .before .before .before .before .before .before .before .before .before .before .before .before .before .before
-    .before .before .before .before .before .before .before .before .before .before .before .before .before .before .before .before .before
-    .args in
+    .before .before .before .before .before .before .before .before .before .before .before .before .before .before .before .before .args in
     let at-parse = c .before .before .before .before .before .before .before .before .before .before .before .before .before .before
-    .before .before .before .before .before .before .before .before .before .before .before .before .before .parse in
+    .before .before .before .before .before .before .before .before .before .before .before .before .parse in
     let at-last-message = c .before .before .before .before .before .before .before .before .before .before .before .before .before .before
-    .before .before .before .before .before .before .before .before .before .last-message in
+    .before .before .before .before .before .before .before .before .last-message in
     let at-left-as = c .before .before .before .before .before .before .before .before .before .before .before .before .before .before
-    .before .before .before .before .before .before .before .before .left-as in
+    .before .before .before .before .before .before .before .left-as in
     let at-asked-by = c .before .before .before .before .before .before .before .before .before .before .before .before .before .before
-    .before .before .before .before .before .before .before .asked-by in
+    .before .before .before .before .before .before .asked-by in
     let at-a = c .before .before .before .before .before .before .before .before .before .before .before .before .before .before .before
-    .before .before .before .before .a in
-    let at-word = c .before .before .before .before .before .before .before .before .before .before .before .before .before .before .before
-    .before .word in
-    let at-answer-into = c .before .before .before .before .before .before .before .before .before .before .before .before .before .before
-    .answer-into in
+    .before .before .before .a in
+    let at-bytes-into = c .before .before .before .before .before .before .before .before .before .before .before .before .before .before
+    .bytes-into in
     let at-make = c .before .before .before .before .before .before .before .before .before .make in
     let at-told = c .before .before .told in
     call-done (at-args .number) (at-args .s .now) (at-args .r) (lend (at-args .journal .now) (at-args .message .now)) (at-parse .ensures)
     (at-last-message .ensures) (at-left-as .ensures) (at-asked-by .ensures) (at-a .given .1)
-    (rw (at-word .ensures) at (at-answer-into .ensures .1 refl)) (did (at-args .r) (at-make .result)
+    (at-bytes-into .ensures .1 refl) (did (at-args .r) (at-make .result)
     (at-make .ensures) (at-told .ensures))
 
 same-length-4 : tie.Need-same-length-4
@@ -123,9 +117,8 @@ act-spec =
     left-as-requires
     asked-by-requires
     enum-known-a
-    word-requires
-    slice-aggregate-answer-into
-    answer-into-requires
+    slice-aggregate-bytes-into
+    bytes-into-requires
     array-share-prefix-bytes
     slice-aggregate-make
     make-requires

@@ -2,10 +2,13 @@
 use mathlib.Core.Bool.{true, false}
 use Rattle.templates.proofs.Templates.{adds-is}
 use Rattle.screen.proofs.Lines.{state-filled}
-use Rattle.screen.specs.Shows.{stateLine, phaseName}
+use Rattle.screen.specs.Shows.{stateLine, phaseName, stateNumber}
 use borrow.Author.Needs.{needs}
 use Rattle.screen.proofs.shows.add_state.Statement.{statement}
 use Rattle.screen.proofs.shows.add_state.Tie as tie
+
+cast-t12 : tie.Need-cast-t12
+cast-t12 c = search needs
 
 cast-t13 : tie.Need-cast-t13
 cast-t13 c = search needs
@@ -13,14 +16,11 @@ cast-t13 c = search needs
 cast-t14 : tie.Need-cast-t14
 cast-t14 c = search needs
 
-cast-t15 : tie.Need-cast-t15
-cast-t15 c = search needs
-
 slice-aggregate-row : tie.Need-slice-aggregate-row
 slice-aggregate-row c = search needs
 
-phase-number-requires : tie.Need-phase-number-requires
-phase-number-requires c κs = search needs
+state-number-requires : tie.Need-state-number-requires
+state-number-requires c κs = search needs
 
 row-requires : tie.Need-row-requires
 row-requires c κs = search needs
@@ -38,16 +38,16 @@ same-length : tie.Need-same-length
 same-length c = search needs
 
 returns : tie.Need-returns
-unfolding stateLine phaseName
+unfolding stateLine phaseName stateNumber
 returns c =
-    let at-phase-number = c .before .before .before .before .before .before .before .before .phase-number in
+    let at-state-number = c .before .before .before .before .before .before .before .before .state-number in
     let at-row = c .before .before .before .before .before .before .before .row in
     let at-if1 = c .before .before .before .before .before .before .if1 in
     let at-add-filled = c .before .before .add-filled in
     rw (at-if1 .taken)
     (adds-is (state-filled true _ _ _ _) (rw (
       at-row .ensures,
-      at-phase-number .ensures,
+      at-state-number .ensures,
     ) at (at-add-filled .ensures)))
 
 slice-aggregate-add-filled-3 : tie.Need-slice-aggregate-add-filled-3
@@ -63,27 +63,27 @@ same-length-2 : tie.Need-same-length-2
 same-length-2 c = search needs
 
 returns-2 : tie.Need-returns-2
-unfolding stateLine phaseName
+unfolding stateLine phaseName stateNumber
 returns-2 c =
-    let at-phase-number = c .before .before .before .before .before .before .before .before .phase-number in
+    let at-state-number = c .before .before .before .before .before .before .before .before .state-number in
     let at-row = c .before .before .before .before .before .before .before .row in
     let at-if1 = c .before .before .before .before .before .before .if1 in
     let at-add-filled2 = c .before .before .add-filled2 in
     rw (at-if1 .left) (adds-is (state-filled false _ _ _ _)
     (rw (
       at-row .ensures,
-      at-phase-number .ensures,
+      at-state-number .ensures,
     ) at (at-add-filled2 .ensures)))
 
 pub add-state-spec : {M : Type 1} → statement M
 add-state-spec =
     tie.close
     (tie.spec
+    cast-t12
     cast-t13
     cast-t14
-    cast-t15
     slice-aggregate-row
-    phase-number-requires
+    state-number-requires
     row-requires
     slice-aggregate-add-filled
     slice-aggregate-add-filled-2

@@ -36,17 +36,29 @@ power-returned-requires c κs = search needs
 enum-told-4 : tie.Need-enum-told-4
 enum-told-4 c = search needs
 
-send-reversal-requires : tie.Need-send-reversal-requires
-send-reversal-requires c κs = search needs
+card-agrees-requires : tie.Need-card-agrees-requires
+card-agrees-requires c κs = search needs
 
 enum-told-5 : tie.Need-enum-told-5
 enum-told-5 c = search needs
 
-settle-requires : tie.Need-settle-requires
-settle-requires c κs = search needs
+card-declines-requires : tie.Need-card-declines-requires
+card-declines-requires c κs = search needs
 
 enum-told-6 : tie.Need-enum-told-6
 enum-told-6 c = search needs
+
+send-reversal-requires : tie.Need-send-reversal-requires
+send-reversal-requires c κs = search needs
+
+enum-told-7 : tie.Need-enum-told-7
+enum-told-7 c = search needs
+
+settle-requires : tie.Need-settle-requires
+settle-requires c κs = search needs
+
+enum-told-8 : tie.Need-enum-told-8
+enum-told-8 c = search needs
 
 send-next-upload-requires : tie.Need-send-next-upload-requires
 send-next-upload-requires c κs = search needs
@@ -120,8 +132,8 @@ same-length-12 c = search needs
 returns-6 : tie.Need-returns-6
 returns-6 c =
     let at-enum-told4 = c .before .before .before .before .before .before .before .enum-told4 in
-    let at-send-reversal = c .before .before .before .before .send-reversal in
-    rw (at-enum-told4 .given .1) (at-send-reversal .ensures)
+    let at-card-agrees = c .before .before .before .before .card-agrees in
+    rw (at-enum-told4 .given .1) (at-card-agrees .ensures)
 
 same-length-13 : tie.Need-same-length-13
 same-length-13 c = search needs
@@ -132,8 +144,8 @@ same-length-14 c = search needs
 returns-7 : tie.Need-returns-7
 returns-7 c =
     let at-enum-told5 = c .before .before .before .before .before .before .before .enum-told5 in
-    let at-settle = c .before .before .before .before .settle in
-    rw (at-enum-told5 .given .1) (at-settle .ensures)
+    let at-card-declines = c .before .before .before .before .card-declines in
+    rw (at-enum-told5 .given .1) (at-card-declines .ensures)
 
 same-length-15 : tie.Need-same-length-15
 same-length-15 c = search needs
@@ -144,8 +156,32 @@ same-length-16 c = search needs
 returns-8 : tie.Need-returns-8
 returns-8 c =
     let at-enum-told6 = c .before .before .before .before .before .before .before .enum-told6 in
+    let at-send-reversal = c .before .before .before .before .send-reversal in
+    rw (at-enum-told6 .given .1) (at-send-reversal .ensures)
+
+same-length-17 : tie.Need-same-length-17
+same-length-17 c = search needs
+
+same-length-18 : tie.Need-same-length-18
+same-length-18 c = search needs
+
+returns-9 : tie.Need-returns-9
+returns-9 c =
+    let at-enum-told7 = c .before .before .before .before .before .before .before .enum-told7 in
+    let at-settle = c .before .before .before .before .settle in
+    rw (at-enum-told7 .given .1) (at-settle .ensures)
+
+same-length-19 : tie.Need-same-length-19
+same-length-19 c = search needs
+
+same-length-20 : tie.Need-same-length-20
+same-length-20 c = search needs
+
+returns-10 : tie.Need-returns-10
+returns-10 c =
+    let at-enum-told8 = c .before .before .before .before .before .before .before .enum-told8 in
     let at-send-next-upload = c .before .before .before .before .send-next-upload in
-    rw (at-enum-told6 .given .1) (at-send-next-upload .ensures)
+    rw (at-enum-told8 .given .1) (at-send-next-upload .ensures)
 
 pub make-spec : {M : Type 1} → statement M
 make-spec =
@@ -162,10 +198,14 @@ make-spec =
     enum-told-3
     power-returned-requires
     enum-told-4
-    send-reversal-requires
+    card-agrees-requires
     enum-told-5
-    settle-requires
+    card-declines-requires
     enum-told-6
+    send-reversal-requires
+    enum-told-7
+    settle-requires
+    enum-told-8
     send-next-upload-requires
     same-length
     same-length-2
@@ -190,4 +230,10 @@ make-spec =
     returns-7
     same-length-15
     same-length-16
-    returns-8)
+    returns-8
+    same-length-17
+    same-length-18
+    returns-9
+    same-length-19
+    same-length-20
+    returns-10)

@@ -1,0 +1,42 @@
+-- `approval::approval_of` meets its contract: each part is made by itself.
+use borrow.Author.Needs.{needs}
+use Rattle.approval.proofs.Approval.{approval-is}
+use Rattle.approval.proofs.approval_of.Statement.{statement}
+use Rattle.approval.proofs.approval_of.Tie as tie
+
+slice-aggregate-field-into : tie.Need-slice-aggregate-field-into
+slice-aggregate-field-into c = search needs
+
+field-into-requires : tie.Need-field-into-requires
+field-into-requires c κs = search needs
+
+slice-aggregate-field-into-2 : tie.Need-slice-aggregate-field-into-2
+slice-aggregate-field-into-2 c = search needs
+
+field-into-requires-2 : tie.Need-field-into-requires-2
+field-into-requires-2 c κs = search needs
+
+slice-aggregate-field-into-3 : tie.Need-slice-aggregate-field-into-3
+slice-aggregate-field-into-3 c = search needs
+
+field-into-requires-3 : tie.Need-field-into-requires-3
+field-into-requires-3 c κs = search needs
+
+returns : tie.Need-returns
+returns c =
+    let at-args = c .before .before .before .before .before .before .before .before .before .args in
+    let at-field-into = c .before .before .before .before .before .before .before .field-into in
+    let at-field-into2 = c .before .before .before .before .field-into2 in
+    approval-is (at-args .m) (at-field-into .ensures .1) (at-field-into2 .ensures .1) (c .before .field-into3 .ensures .1)
+
+pub approval-of-spec : {M : Type 1} → statement M
+approval-of-spec =
+    tie.close
+    (tie.spec
+    slice-aggregate-field-into
+    field-into-requires
+    slice-aggregate-field-into-2
+    field-into-requires-2
+    slice-aggregate-field-into-3
+    field-into-requires-3
+    returns)

@@ -1,0 +1,2 @@
+-- Laws of the desk for other crates to cite.
+pub mod Chips
