@@ -1,15 +1,15 @@
 -- What the loop over the table keeps while it reads the fields.
 use mathlib.Core.Path.{_≡_, refl, ap, sym, _∙_}
 use mathlib.Core.List.{List, [], _∷_, _++_, append-assoc, append-nil}
-use mathlib.Core.Bool.{true, false, cond}
+use mathlib.Core.Bool.{Bool, true, false, cond}
 use Prim.Native.Nat.{ℕ, zero, suc, _+_, _-_, _≤_, _<_}
 use native.Mathlib.Omega.{arith}
 use native.Mathlib.Decide.{decLt}
 use native.Mathlib.Numerals.{add-one}
-use lib.Dec.{eqb}
-use lib.ListN.{length, getD, take, drop, set, replicate, length-append, length-take, length-drop, length-set, length-replicate, replicate-append-replicate, take-append-drop}
+use lib.Dec.{ltb, eqb}
+use lib.ListN.{length, getD, take, drop, set, replicate, length-append, length-take, length-drop, length-set, length-replicate, getD-replicate, replicate-append-replicate, take-append-drop}
 use lib.Seq.{drop-drop, take-at, drop-at, take-suc-set, take-all, length-take-le, getD-set-other, getD-take, getD-drop, set-getD}
-use borrow.Author.Tests.{eq-eqb, ne-eqb}
+use borrow.Author.Tests.{eq-eqb, ne-eqb, le-ltb}
 use Rattle.digits.proofs.Lists.{getD-past, tail-part, put-tail}
 use Rattle.field.specs.Table.{formats, rows}
 use Rattle.field.specs.Bitmap.{names}
@@ -25,9 +25,10 @@ use Rattle.message.proofs.Places.{At, roomsOf, rooms-formats, places-rest}
 use Rattle.message.specs.Message.{rooms}
 use Rattle.message.specs.declared.Message.{Message}
 use Rattle.message.proofs.Late.{late-none}
-use Rattle.reading.specs.Found.{Copied}
-use Rattle.reading.specs.Reading.{Fields, bad, good, prepend, afterSpan, readFields, bitmapOf, accepted}
-use Rattle.reading.specs.declared.ReadOutcome.the-variants.{Read}
+use Rattle.reading.specs.Found.{told, parsed, bitmapIn, Copied}
+use Rattle.reading.specs.Reading.{Fields, bad, good, prepend, afterSpan, readFields, bitmapOf, accepted, assembled}
+use Rattle.reading.specs.declared.ReadOutcome.{ReadOutcome}
+use Rattle.reading.specs.declared.ReadOutcome.the-variants.{Read, Refused as Unread}
 
 -- where the contents of the field at place k of the table stand
 abbrev pub startOf : ℕ → ℕ
@@ -190,13 +191,30 @@ bitmap-copied s e h q =
     let l : length (bitmapOf s) ≡ 8 = length-take-le 8 (drop 2 s) (rw length-drop (omega arith)) in
     q ∙ rw (l, take-all 8 (bitmapOf s) (omega arith)) (append-nil (bitmapOf s))
 
+pub bitmap-there : (s : List ℕ) {bm : List ℕ} → 10 ≤ length s → bm ≡ bitmapIn s → bm ≡ bitmapOf s
+bitmap-there s h e = e ∙ rw (le-ltb _ _ h)
+
 -- its bytes are bytes of s
-pub bitmap-bytes : (s e : List ℕ) → e ≡ bitmapOf s → ((i : ℕ) → getD s i 0 < 256) → (j : ℕ) → getD e j 0 < 256
-bitmap-bytes s e q y j = rw q (go (decLt j 8))
+pub bitmap-bytes : (s e : List ℕ) → e ≡ bitmapIn s → ((i : ℕ) → getD s i 0 < 256) → (j : ℕ) → getD e j 0 < 256
+bitmap-bytes s e q y j = rw q (either (ltb (length s) 10))
   where
-    go : Dec (j < 8) → getD (bitmapOf s) j 0 < 256
-    go (yes h) = rw (getD-take 8 (drop 2 s) j 0 h, getD-drop 2 s j 0) (y (2 + j))
-    go (no h) = rw (getD-past (bitmapOf s) j (omega (arith, length-take 8 (drop 2 s)))) (omega arith)
+    there : Dec (j < 8) → getD (bitmapOf s) j 0 < 256
+    there (yes h) = rw (getD-take 8 (drop 2 s) j 0 h, getD-drop 2 s j 0) (y (2 + j))
+    there (no h) = rw (getD-past (bitmapOf s) j (omega (arith, length-take 8 (drop 2 s)))) (omega arith)
+
+    zeros : Dec (j < 8) → getD (replicate 8 0) j 0 < 256
+    zeros (yes h) = rw (getD-replicate {A = ℕ} 8 j 0 0 h) (omega arith)
+    zeros (no h) = rw (getD-past (replicate 8 0) j (omega arith)) (omega arith)
+
+    either : (short : Bool) → getD (cond short (replicate 8 0) (bitmapOf s)) j 0 < 256
+    either true = zeros (decLt j 8)
+    either false = there (decLt j 8)
+
+-- the message of an outcome, with the counts and the contents that were left
+pub assembled-told : (o : ReadOutcome) (i : ℕ) (bm cs bs : List ℕ)
+    → assembled i bm (told o cs bs) ≡ parsed o (record { indicator = i; bitmap = bm; counts = cs; contents = bs })
+assembled-told Read i bm cs bs = refl
+assembled-told (Unread e) i bm cs bs = refl
 
 -- a message without field 55 breaks no rule on it as a whole
 pub accepted-plain : (m : Message) → names (m .bitmap) 55 ≡ false → accepted m ≡ record { outcome = Read; message = m }

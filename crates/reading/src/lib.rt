@@ -3,12 +3,12 @@ use field::Format;
 use message::Message;
 use span::Span;
 ghost use mathlib.Core.Path.{_≡_};
-ghost use Prim.Native.Nat.{_≤_};
-ghost use lib.ListN.{length};
+ghost use Prim.Native.Nat.{_≤_, _<_};
+ghost use lib.ListN.{length, getD};
 ghost use Rattle.field.specs.Table.{formats};
 ghost use Rattle.field.specs.Contents.{room};
-ghost use Rattle.reading.specs.Reading.{refused, accepted, readFields, readMessage};
-ghost use Rattle.reading.specs.Found.{Fresh, told, Copied};
+ghost use Rattle.reading.specs.Reading.{refused, accepted, indicatorIn, readFields, readMessage};
+ghost use Rattle.reading.specs.Found.{Fresh, told, parsed, bitmapIn, Copied};
 
 // A message was read, or the bytes are refused by a number of document 01.
 pub enum ReadOutcome {
@@ -26,36 +26,91 @@ pub struct Reading {
 pub fn read(s: &[u8]) -> Reading
     ensures { λ r. ⌜ r ≡ readMessage (now (s .entry)) ⌝ }
 {
+    let bitmap = bitmap_in(s);
+    let mut counts = [0u8; field::ROWS];
+    let mut contents = [0u8; message::ROOM];
+    let o = parse(s, &bitmap, &mut counts, &mut contents);
+    if let ReadOutcome::Refused(e) = o {
+        return refusal(e);
+    }
+    let indicator = indicator_in(s);
+    if field::named(&bitmap, 55) {
+        return judged(indicator, bitmap, counts, contents);
+    }
+    Reading {
+        outcome: ReadOutcome::Read,
+        message: Message {
+            indicator: indicator,
+            bitmap: bitmap,
+            counts: counts,
+            contents: contents,
+        },
+    }
+}
+
+// Whether bytes of any length are a message, which is not made.
+pub fn outcome_of(s: &[u8]) -> ReadOutcome
+    ensures { λ r. ⌜ r ≡ readMessage (now (s .entry)) .outcome ⌝ }
+{
+    let bitmap = bitmap_in(s);
+    let mut counts = [0u8; field::ROWS];
+    let mut contents = [0u8; message::ROOM];
+    let o = parse(s, &bitmap, &mut counts, &mut contents);
+    if let ReadOutcome::Refused(e) = o {
+        return ReadOutcome::Refused(e);
+    }
+    if field::named(&bitmap, 55) {
+        let indicator = indicator_in(s);
+        let r = judged(indicator, bitmap, counts, contents);
+        return r.outcome;
+    }
+    ReadOutcome::Read
+}
+
+// The counts and contents of a message whose bitmap this is, by rules 3 to 9.
+fn parse(s: &[u8], bitmap: &[u8; 8], counts: &mut [u8], contents: &mut [u8]) -> ReadOutcome
+    requires { ⌜ Fresh (now bitmap) (now counts) (now contents) × (now bitmap ≡ bitmapIn (now s)) ⌝ }
+    ensures { λ r. ⌜ readMessage (now (s .entry)) ≡ parsed r (record { indicator = indicatorIn (now (s .entry)); bitmap = now (bitmap .entry); counts = now (counts .exit); contents = now (contents .exit) }) ⌝ }
+{
     if s.len() < 10 {
-        return refusal(3);
+        return ReadOutcome::Refused(3);
     }
-    let indicator = wide(s[0]) * 256 + wide(s[1]);
-    if field::listed_indicator(indicator) {
-        let mut bitmap = [0u8; 8];
-        bytes::copy(&s[2..10], &mut bitmap);
-        if field::all_listed(&bitmap) {
-            let mut counts = [0u8; field::ROWS];
-            let mut contents = [0u8; message::ROOM];
-            let o = read_fields(&bitmap, &s[10..], &mut counts, &mut contents);
-            if let ReadOutcome::Refused(e) = o {
-                return refusal(e);
-            }
-            if field::named(&bitmap, 55) {
-                return judged(indicator, bitmap, counts, contents);
-            }
-            return Reading {
-                outcome: ReadOutcome::Read,
-                message: Message {
-                    indicator: indicator,
-                    bitmap: bitmap,
-                    counts: counts,
-                    contents: contents,
-                },
-            };
+    if field::listed_indicator(indicator_in(s)) {
+        if field::all_listed(bitmap) {
+            return read_fields(bitmap, &s[10..], counts, contents);
         }
-        return refusal(5);
+        return ReadOutcome::Refused(5);
     }
-    refusal(4)
+    ReadOutcome::Refused(4)
+}
+
+// Byte i of s; zero past the end.
+fn byte_at(s: &[u8], i: usize) -> u16
+    ensures { λ r. ⌜ (r ≡ getD (now (s .entry)) i 0) × (r < 256) ⌝ }
+{
+    if i < s.len() {
+        return s[i] as u16;
+    }
+    0
+}
+
+// The type of a message.
+fn indicator_in(s: &[u8]) -> u16
+    ensures { λ r. ⌜ r ≡ indicatorIn (now (s .entry)) ⌝ }
+{
+    byte_at(s, 0) * 256 + byte_at(s, 1)
+}
+
+// The bitmap of a message; zeros where s is shorter.
+fn bitmap_in(s: &[u8]) -> [u8; 8]
+    ensures { λ r. ⌜ r ≡ bitmapIn (now (s .entry)) ⌝ }
+{
+    let mut bitmap = [0u8; 8];
+    if s.len() < 10 {
+        return bitmap;
+    }
+    bytes::copy(&s[2..10], &mut bitmap);
+    bitmap
 }
 
 fn refusal(e: u8) -> Reading
@@ -145,10 +200,4 @@ fn judged(
         outcome: ReadOutcome::Read,
         message: message,
     }
-}
-
-fn wide(x: u8) -> u16
-    ensures { λ r. ⌜ r ≡ x ⌝ }
-{
-    x as u16
 }

@@ -281,9 +281,7 @@ pub extern "C" fn whistlaurel_totals(image: &[u8], journal: &[u8], totals: &mut 
 pub extern "C" fn whistlaurel_read(bytes: &[u8]) -> u8
     ensures { λ r. ⌜ r ≡ readNumber (readMessage (now (bytes .entry)) .outcome) ⌝ }
 {
-    let r = reading::read(bytes);
-    let outcome = r.outcome;
-    match outcome {
+    match reading::outcome_of(bytes) {
         ReadOutcome::Read => 0,
         ReadOutcome::Refused(e) => e,
     }
