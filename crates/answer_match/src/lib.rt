@@ -1,5 +1,7 @@
 // What an answer must hold to be one, and what it says (document 01, "Calls").
 use digits::Number;
+use message::Contents;
+use message::Head;
 use message::Message;
 use numbers::Batch;
 use numbers::Trace;
@@ -11,6 +13,7 @@ ghost use Prim.Native.Nat.{_+_, _*_, _≤_};
 ghost use lib.ListN.{length};
 ghost use Rattle.digits.specs.Digits.{pack};
 ghost use Rattle.digits.specs.Numbers.{digitsOf};
+ghost use Rattle.message.specs.Message.{whole};
 ghost use Rattle.parts.specs.Parts.{matches};
 ghost use Rattle.answer_match.specs.Match.{indicatorSent, isValue, isValueWithin, matchesSent, hasCode, approves, approvalHolds, holdsNamed, isAnswer, goodMac, endsReversal, closesBatch};
 
@@ -18,14 +21,16 @@ ghost use Rattle.answer_match.specs.Match.{indicatorSent, isValue, isVal
 pub fn approves(m: Message) -> bool
     ensures { λ r. ⌜ r ≡ approves m ⌝ }
 {
-    has_code(b'0', b'0', m)
+    is_approval(message::head_of(m), &m.contents)
 }
 
 // Rule 22: whether a message answers what is awaited, which was sent with this trace.
 pub fn is_answer(x: Settings, batch: Batch, trace: Trace, a: Awaited, m: Message) -> bool
     ensures { λ r. ⌜ r ≡ isAnswer x batch trace a m ⌝ }
 {
-    matches_sent(x, batch, indicator_sent(a), trace, m) & holds_named(a, m)
+    let h = message::head_of(m);
+    matches_sent(x, batch, indicator_sent(a), trace, h, &m.contents)
+        & holds_named(a, h, &m.contents)
 }
 
 // Whether the MAC is good.
@@ -40,14 +45,18 @@ pub fn is_good(good: bool, m: Message) -> bool
 pub fn ends_reversal(good: bool, m: Message) -> bool
     ensures { λ r. ⌜ r ≡ endsReversal good m ⌝ }
 {
-    (approves(m) & is_good(good, m)) | has_code(b'2', b'5', m) | has_code(b'1', b'2', m)
+    let h = message::head_of(m);
+    (is_approval(h, &m.contents) & is_good(good, m))
+        | has_code(b'2', b'5', h, &m.contents)
+        | has_code(b'1', b'2', h, &m.contents)
 }
 
 // Whether the answer to a settlement closes the batch.
 pub fn closes_batch(m: Message) -> bool
     ensures { λ r. ⌜ r ≡ closesBatch m ⌝ }
 {
-    is_value(1, parts::part_of(m, Part::Reconciliation))
+    let h = message::head_of(m);
+    is_value(1, parts::part_of(h, &m.contents, Part::Reconciliation))
 }
 
 // The type of what is awaited, as it was sent.
@@ -82,53 +91,68 @@ fn is_value_within(low: u64, high: u64, x: Number) -> bool
 }
 
 // Whether field n holds this number in packed digits, two for each byte of room.
-fn holds_number(m: Message, n: u8, x: u64, room: &mut [u8]) -> bool
-    ensures { λ r. ⌜ r ≡ matches m n (pack (digitsOf (2 * length (now (room .entry))) x)) ⌝ }
+fn holds_number(h: Head, contents: &Contents, n: u8, x: u64, room: &mut [u8]) -> bool
+    ensures { λ r. ⌜ r ≡ matches (whole h (now (contents .entry))) n (pack (digitsOf (2 * length (now (room .entry))) x)) ⌝ }
 {
     digits::put_number(x, room);
-    parts::field_matches(m, n, room)
+    parts::field_matches(h, contents, n, room)
 }
 
-fn matches_sent(x: Settings, batch: Batch, indicator: u16, trace: Trace, m: Message) -> bool
+fn matches_sent(
+    x: Settings,
+    batch: Batch,
+    indicator: u16,
+    trace: Trace,
+    h: Head,
+    contents: &Contents,
+) -> bool
     requires { ⌜ indicator ≤ 0x0500 ⌝ }
-    ensures { λ r. ⌜ r ≡ matchesSent x batch indicator trace m ⌝ }
+    ensures { λ r. ⌜ r ≡ matchesSent x batch indicator trace (whole h (now (contents .entry))) ⌝ }
 {
     let terminal = x.terminal;
     let merchant = x.merchant;
     let mut digits = [0u8; 3];
-    (m.indicator == indicator + 0x10)
-        & holds_number(m, 11, trace.0 as u64, &mut digits)
-        & parts::field_matches(m, 41, &terminal)
-        & parts::field_matches(m, 42, &merchant)
-        & is_value(batch.0 as u64, parts::part_of(m, Part::Batch))
+    (h.indicator == indicator + 0x10)
+        & holds_number(h, contents, 11, trace.0 as u64, &mut digits)
+        & parts::field_matches(h, contents, 41, &terminal)
+        & parts::field_matches(h, contents, 42, &merchant)
+        & is_value(batch.0 as u64, parts::part_of(h, contents, Part::Batch))
 }
 
-fn has_code(a: u8, b: u8, m: Message) -> bool
-    ensures { λ r. ⌜ r ≡ hasCode a b m ⌝ }
+fn has_code(a: u8, b: u8, h: Head, contents: &Contents) -> bool
+    ensures { λ r. ⌜ r ≡ hasCode a b (whole h (now (contents .entry))) ⌝ }
 {
     let code = [a, b];
-    parts::field_matches(m, 39, &code)
+    parts::field_matches(h, contents, 39, &code)
 }
 
-fn approval_holds(amount: u64, m: Message) -> bool
-    ensures { λ r. ⌜ r ≡ approvalHolds amount m ⌝ }
+fn is_approval(h: Head, contents: &Contents) -> bool
+    ensures { λ r. ⌜ r ≡ approves (whole h (now (contents .entry))) ⌝ }
 {
-    let bitmap = m.bitmap;
+    has_code(b'0', b'0', h, contents)
+}
+
+fn approval_holds(amount: u64, h: Head, contents: &Contents) -> bool
+    ensures { λ r. ⌜ r ≡ approvalHolds amount (whole h (now (contents .entry))) ⌝ }
+{
+    let bitmap = h.bitmap;
     let mut digits = [0u8; 6];
-    !approves(m)
-        | (holds_number(m, 4, amount, &mut digits)
+    !is_approval(h, contents)
+        | (holds_number(h, contents, 4, amount, &mut digits)
             & field::named(&bitmap, 13)
             & field::named(&bitmap, 37))
 }
 
-fn holds_named(a: Awaited, m: Message) -> bool
-    ensures { λ r. ⌜ r ≡ holdsNamed a m ⌝ }
+fn holds_named(a: Awaited, h: Head, contents: &Contents) -> bool
+    ensures { λ r. ⌜ r ≡ holdsNamed a (whole h (now (contents .entry))) ⌝ }
 {
-    let bitmap = m.bitmap;
+    let bitmap = h.bitmap;
     match a {
-        Awaited::Request(q) => field::named(&bitmap, 39) & approval_holds(q.amount, m),
+        Awaited::Request(q) => field::named(&bitmap, 39) & approval_holds(q.amount, h, contents),
         Awaited::Reversal(_) => field::named(&bitmap, 39),
-        Awaited::Settlement(_) => is_value_within(1, 3, parts::part_of(m, Part::Reconciliation)),
+        Awaited::Settlement(_) => {
+            is_value_within(1, 3, parts::part_of(h, contents, Part::Reconciliation))
+        }
         Awaited::Item(_) => field::named(&bitmap, 39),
         Awaited::End(_) => field::named(&bitmap, 39),
     }

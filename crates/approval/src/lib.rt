@@ -15,9 +15,10 @@ pub fn approval_of(m: Message) -> Approval
     let mut date = [0u8; 2];
     let mut authorisation = [0x20u8; 6];
     let mut reference = [0u8; 12];
-    parts::field_into(m, 13, &mut date);
-    parts::field_into(m, 38, &mut authorisation);
-    parts::field_into(m, 37, &mut reference);
+    let h = message::head_of(m);
+    parts::field_into(h, &m.contents, 13, &mut date);
+    parts::field_into(h, &m.contents, 38, &mut authorisation);
+    parts::field_into(h, &m.contents, 37, &mut reference);
     Approval {
         date: date,
         authorisation: authorisation,

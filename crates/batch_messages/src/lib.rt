@@ -1,6 +1,8 @@
 // The messages of a batch: settlement, upload item and the upload's end (document 01, "Messages").
 use entry::Entry;
 use kinds::Totals;
+use message::Contents;
+use message::Head;
 use message::Message;
 use numbers::Batch;
 use numbers::Trace;
@@ -8,6 +10,7 @@ use parts::Part;
 use state::Settings;
 ghost use mathlib.Core.Path.{_≡_};
 ghost use mathlib.Core.List.{[]};
+ghost use Rattle.message.specs.Message.{whole};
 ghost use Rattle.message.specs.Build.{digits, messageOf};
 ghost use Rattle.compose.specs.Compose.{withItem, withAll};
 ghost use Rattle.batch_messages.specs.BatchMessages.{field48, settlementFields, itemFields, endFields};
@@ -19,12 +22,14 @@ pub fn settlement_message(x: Settings, batch: Batch, trace: Trace, t: Totals) ->
     let terminal = x.terminal;
     let merchant = x.merchant;
     let currency = [b'1', b'5', b'6'];
-    let m11 = compose::with_number(compose::typed(0x0500), 11, 6, trace.0 as u64);
-    let m41 = compose::with_bytes(m11, 41, &terminal);
-    let m42 = compose::with_bytes(m41, 42, &merchant);
-    let m48 = with_field48(m42, t);
-    let m49 = compose::with_bytes(m48, 49, &currency);
-    outgoing::with_field60(m49, 0, batch, 201)
+    let mut contents = [0u8; message::ROOM];
+    let h11 = compose::with_number(compose::typed(0x0500), 11, 6, trace.0 as u64, &mut contents);
+    let h41 = compose::with_bytes(h11, 41, &terminal, &mut contents);
+    let h42 = compose::with_bytes(h41, 42, &merchant, &mut contents);
+    let h48 = with_field48(h42, t, &mut contents);
+    let h49 = compose::with_bytes(h48, 49, &currency, &mut contents);
+    let h60 = outgoing::with_field60(h49, 0, batch, 201, &mut contents);
+    message::joined(h60, contents)
 }
 
 // An upload item: an entry as it was approved.
@@ -38,16 +43,19 @@ pub fn item_message(x: Settings, batch: Batch, e: Entry) -> Message
     let reference = e.reference;
     let currency = [b'1', b'5', b'6'];
     let card = approval::card_of(e);
-    let m2 = compose::with_number(compose::typed(0x0320), 2, card.length, card.number);
-    let m3 = compose::with_number(m2, 3, 6, kinds::processing_of(e.kind) as u64);
-    let m4 = compose::with_number(m3, 4, 12, e.amount);
-    let m11 = compose::with_number(m4, 11, 6, trace.0 as u64);
-    let m37 = compose::with_bytes(m11, 37, &reference);
-    let m38 = compose::with_bytes(m37, 38, &authorisation);
-    let m41 = compose::with_bytes(m38, 41, &terminal);
-    let m42 = compose::with_bytes(m41, 42, &merchant);
-    let m49 = compose::with_bytes(m42, 49, &currency);
-    outgoing::with_field60(m49, e.kind, batch, 201)
+    let mut contents = [0u8; message::ROOM];
+    let h = compose::typed(0x0320);
+    let h2 = compose::with_number(h, 2, card.length, card.number, &mut contents);
+    let h3 = compose::with_number(h2, 3, 6, kinds::processing_of(e.kind) as u64, &mut contents);
+    let h4 = compose::with_number(h3, 4, 12, e.amount, &mut contents);
+    let h11 = compose::with_number(h4, 11, 6, trace.0 as u64, &mut contents);
+    let h37 = compose::with_bytes(h11, 37, &reference, &mut contents);
+    let h38 = compose::with_bytes(h37, 38, &authorisation, &mut contents);
+    let h41 = compose::with_bytes(h38, 41, &terminal, &mut contents);
+    let h42 = compose::with_bytes(h41, 42, &merchant, &mut contents);
+    let h49 = compose::with_bytes(h42, 49, &currency, &mut contents);
+    let h60 = outgoing::with_field60(h49, e.kind, batch, 201, &mut contents);
+    message::joined(h60, contents)
 }
 
 // The upload's end.
@@ -56,19 +64,21 @@ pub fn end_message(x: Settings, batch: Batch, trace: Trace) -> Message
 {
     let terminal = x.terminal;
     let merchant = x.merchant;
-    let m11 = compose::with_number(compose::typed(0x0320), 11, 6, trace.0 as u64);
-    let m41 = compose::with_bytes(m11, 41, &terminal);
-    let m42 = compose::with_bytes(m41, 42, &merchant);
-    outgoing::with_field60(m42, 0, batch, 202)
+    let mut contents = [0u8; message::ROOM];
+    let h11 = compose::with_number(compose::typed(0x0320), 11, 6, trace.0 as u64, &mut contents);
+    let h41 = compose::with_bytes(h11, 41, &terminal, &mut contents);
+    let h42 = compose::with_bytes(h41, 42, &merchant, &mut contents);
+    let h60 = outgoing::with_field60(h42, 0, batch, 202, &mut contents);
+    message::joined(h60, contents)
 }
 
-fn with_field48(m: Message, t: Totals) -> Message
-    ensures { λ r. ⌜ r ≡ withItem (digits 48 (field48 t)) m ⌝ }
+fn with_field48(h: Head, t: Totals, contents: &mut Contents) -> Head
+    ensures { λ r. ⌜ whole r (now (contents .exit)) ≡ withItem (digits 48 (field48 t)) (whole h (now (contents .entry))) ⌝ }
 {
     let mut ds = [0u8; parts::FIELD48];
     parts::put_part(Part::DebitAmount, t.debit, &mut ds);
     parts::put_part(Part::DebitCount, t.debits as u64, &mut ds);
     parts::put_part(Part::CreditAmount, t.credit, &mut ds);
     parts::put_part(Part::CreditCount, t.credits as u64, &mut ds);
-    compose::with_digits(m, 48, &ds)
+    compose::with_digits(h, 48, &ds, contents)
 }

@@ -1,8 +1,11 @@
 // The simulated centre: what it answers to a message that left.
 use centre_types::Left;
+use message::Contents;
+use message::Head;
 use message::Message;
 ghost use mathlib.Core.Path.{_≡_};
 ghost use Prim.Native.Nat.{_*_, _≤_};
+ghost use Rattle.message.specs.Message.{whole};
 ghost use Rattle.message.specs.Build.{digits, bytes};
 ghost use Rattle.compose.specs.Compose.{withItem, withAll};
 ghost use Rattle.centre_totals.specs.Totals.{field48With};
@@ -13,107 +16,129 @@ pub fn reply(sent: Message, date: u16, code: [u8; 2]) -> Message
     ensures { λ r. ⌜ r ≡ reply sent date code ⌝ }
 {
     let left = centre_types::left_as(sent.indicator);
-    let m = compose::typed(centre_types::answer_type(sent.indicator));
-    let m39 = compose::with_bytes(with_sent_fields(m, sent), 39, &code);
-    with_also(m39, left, sent, date, code)
+    let mut contents = [0u8; message::ROOM];
+    let h = compose::typed(centre_types::answer_type(sent.indicator));
+    let as_sent = with_sent_fields(h, sent, &mut contents);
+    let h39 = compose::with_bytes(as_sent, 39, &code, &mut contents);
+    let all = with_also(h39, left, sent, date, code, &mut contents);
+    message::joined(all, contents)
 }
 
 // The answer to a settlement, with this reconciliation digit.
 pub fn reconciliation(sent: Message, digit: u8) -> Message
     ensures { λ r. ⌜ r ≡ reconciliation sent digit ⌝ }
 {
-    let m = compose::typed(centre_types::answer_type(sent.indicator));
-    with_sent_fields(with_field48(m, sent, digit), sent)
+    let mut contents = [0u8; message::ROOM];
+    let h = compose::typed(centre_types::answer_type(sent.indicator));
+    let h48 = with_field48(h, sent, digit, &mut contents);
+    let all = with_sent_fields(h48, sent, &mut contents);
+    message::joined(all, contents)
 }
 
-// The message with field n as sent, of so many digits.
-fn with_digits_sent(m: Message, n: u8, count: u8, sent: Message) -> Message
-    ensures { λ r. ⌜ r ≡ withItem (digitsSent n count sent) m ⌝ }
+// The head with field n as sent, of so many digits.
+fn with_digits_sent(h: Head, n: u8, count: u8, sent: Message, contents: &mut Contents) -> Head
+    ensures { λ r. ⌜ whole r (now (contents .exit)) ≡ withItem (digitsSent n count sent) (whole h (now (contents .entry))) ⌝ }
 {
-    let x = digits::numeral(parts::number_in(sent, n, 0, count as usize));
-    compose::with_number(m, n, count, x)
+    let as_sent = message::head_of(sent);
+    let x = digits::numeral(parts::number_in(as_sent, &sent.contents, n, 0, count as usize));
+    compose::with_number(h, n, count, x, contents)
 }
 
-// The message with field n as sent, of so many bytes.
-fn with_bytes_sent(m: Message, n: u8, count: usize, sent: Message) -> Message
+// The head with field n as sent, of so many bytes.
+fn with_bytes_sent(h: Head, n: u8, count: usize, sent: Message, contents: &mut Contents) -> Head
     requires { ⌜ count ≤ 15 ⌝ }
-    ensures { λ r. ⌜ r ≡ withItem (bytesSent n count sent) m ⌝ }
+    ensures { λ r. ⌜ whole r (now (contents .exit)) ≡ withItem (bytesSent n count sent) (whole h (now (contents .entry))) ⌝ }
 {
     let mut b = [0x20u8; 15];
-    parts::field_into(sent, n, &mut b[..count]);
-    compose::with_bytes(m, n, &b[..count])
+    parts::field_into(message::head_of(sent), &sent.contents, n, &mut b[..count]);
+    compose::with_bytes(h, n, &b[..count], contents)
 }
 
 // Fields 11, 41, 42, 60 as sent.
-fn with_sent_fields(m: Message, sent: Message) -> Message
-    ensures { λ r. ⌜ r ≡ withAll (sentFields sent) m ⌝ }
+fn with_sent_fields(h: Head, sent: Message, contents: &mut Contents) -> Head
+    ensures { λ r. ⌜ whole r (now (contents .exit)) ≡ withAll (sentFields sent) (whole h (now (contents .entry))) ⌝ }
 {
-    let m11 = with_digits_sent(m, 11, 6, sent);
-    let m41 = with_bytes_sent(m11, 41, 8, sent);
-    let m42 = with_bytes_sent(m41, 42, 15, sent);
-    with_digits_sent(m42, 60, 11, sent)
+    let h11 = with_digits_sent(h, 11, 6, sent, contents);
+    let h41 = with_bytes_sent(h11, 41, 8, sent, contents);
+    let h42 = with_bytes_sent(h41, 42, 15, sent, contents);
+    with_digits_sent(h42, 60, 11, sent, contents)
 }
 
 fn trace_sent(sent: Message) -> u64
     ensures { λ r. ⌜ r ≡ sentNumber 11 0 6 sent ⌝ }
 {
-    digits::numeral(parts::number_in(sent, 11, 0, 6))
+    let h = message::head_of(sent);
+    digits::numeral(parts::number_in(h, &sent.contents, 11, 0, 6))
 }
 
-// The message with field n holding the trace as digits, two for each of so many bytes.
-fn with_trace_figures(m: Message, n: u8, pairs: usize, sent: Message) -> Message
+// The head with field n holding the trace as digits, two for each of so many bytes.
+fn with_trace_figures(h: Head, n: u8, pairs: usize, sent: Message, contents: &mut Contents) -> Head
     requires { ⌜ pairs ≤ 6 ⌝ }
-    ensures { λ r. ⌜ r ≡ withItem (bytes n (traceFigures (2 * pairs) sent)) m ⌝ }
+    ensures { λ r. ⌜ whole r (now (contents .exit)) ≡ withItem (bytes n (traceFigures (2 * pairs) sent)) (whole h (now (contents .entry))) ⌝ }
 {
     let end = 2 * pairs;
     let mut figures = [0u8; 6];
     let mut text = [0u8; 12];
     digits::put_number(trace_sent(sent), &mut figures[..pairs]);
     hexadecimal::put_hex(&figures[..pairs], &mut text[..end]);
-    compose::with_bytes(m, n, &text[..end])
+    compose::with_bytes(h, n, &text[..end], contents)
 }
 
-fn with_authorisation(m: Message, sent: Message, code: [u8; 2]) -> Message
-    ensures { λ r. ⌜ r ≡ withAll (authorisationField sent code) m ⌝ }
+fn with_authorisation(h: Head, sent: Message, code: [u8; 2], contents: &mut Contents) -> Head
+    ensures { λ r. ⌜ whole r (now (contents .exit)) ≡ withAll (authorisationField sent code) (whole h (now (contents .entry))) ⌝ }
 {
     if centre_types::is_approval(code) {
-        return with_trace_figures(m, 38, 3, sent);
+        return with_trace_figures(h, 38, 3, sent, contents);
     }
-    m
+    h
 }
 
-fn with_mac(m: Message) -> Message
-    ensures { λ r. ⌜ r ≡ withAll macField m ⌝ }
+fn with_mac(h: Head, contents: &mut Contents) -> Head
+    ensures { λ r. ⌜ whole r (now (contents .exit)) ≡ withAll macField (whole h (now (contents .entry))) ⌝ }
 {
     let mac = [0u8; 8];
-    compose::with_bytes(m, 64, &mac)
+    compose::with_bytes(h, 64, &mac, contents)
 }
 
 // What a card request is answered besides.
-fn with_approval_fields(m: Message, sent: Message, date: u16, code: [u8; 2]) -> Message
-    ensures { λ r. ⌜ r ≡ withAll (approvalFields sent date code) m ⌝ }
+fn with_approval_fields(
+    h: Head,
+    sent: Message,
+    date: u16,
+    code: [u8; 2],
+    contents: &mut Contents,
+) -> Head
+    ensures { λ r. ⌜ whole r (now (contents .exit)) ≡ withAll (approvalFields sent date code) (whole h (now (contents .entry))) ⌝ }
 {
-    let m4 = with_digits_sent(m, 4, 12, sent);
-    let m13 = compose::with_number(m4, 13, 4, date as u64);
-    let m37 = with_trace_figures(m13, 37, 6, sent);
-    with_mac(with_authorisation(m37, sent, code))
+    let h4 = with_digits_sent(h, 4, 12, sent, contents);
+    let h13 = compose::with_number(h4, 13, 4, date as u64, contents);
+    let h37 = with_trace_figures(h13, 37, 6, sent, contents);
+    let h38 = with_authorisation(h37, sent, code, contents);
+    with_mac(h38, contents)
 }
 
-fn with_also(m: Message, left: Left, sent: Message, date: u16, code: [u8; 2]) -> Message
-    ensures { λ r. ⌜ r ≡ withAll (alsoTo left sent date code) m ⌝ }
+fn with_also(
+    h: Head,
+    left: Left,
+    sent: Message,
+    date: u16,
+    code: [u8; 2],
+    contents: &mut Contents,
+) -> Head
+    ensures { λ r. ⌜ whole r (now (contents .exit)) ≡ withAll (alsoTo left sent date code) (whole h (now (contents .entry))) ⌝ }
 {
     match left {
-        Left::Nothing => m,
-        Left::Request => with_approval_fields(m, sent, date, code),
-        Left::Reversal => with_mac(m),
-        Left::Settlement => m,
-        Left::Upload => m,
+        Left::Nothing => h,
+        Left::Request => with_approval_fields(h, sent, date, code, contents),
+        Left::Reversal => with_mac(h, contents),
+        Left::Settlement => h,
+        Left::Upload => h,
     }
 }
 
-fn with_field48(m: Message, sent: Message, digit: u8) -> Message
-    ensures { λ r. ⌜ r ≡ withItem (digits 48 (field48With sent digit)) m ⌝ }
+fn with_field48(h: Head, sent: Message, digit: u8, contents: &mut Contents) -> Head
+    ensures { λ r. ⌜ whole r (now (contents .exit)) ≡ withItem (digits 48 (field48With sent digit)) (whole h (now (contents .entry))) ⌝ }
 {
     let ds = centre_totals::field48_with(sent, digit);
-    compose::with_digits(m, 48, &ds)
+    compose::with_digits(h, 48, &ds, contents)
 }

@@ -22,5 +22,6 @@ pub fn field48_with(sent: Message, digit: u8) -> [u8; parts::FIELD48]
 fn put_sent(sent: Message, p: Part, ds: &mut [u8])
     ensures { λ _. ⌜ now (ds .exit) ≡ withPart p (sentPart p sent) (now (ds .entry)) ⌝ }
 {
-    parts::put_part(p, digits::numeral(parts::part_of(sent, p)), ds);
+    let h = message::head_of(sent);
+    parts::put_part(p, digits::numeral(parts::part_of(h, &sent.contents, p)), ds);
 }

@@ -1,65 +1,68 @@
 // A message put together field by field.
 use field::Format;
+use message::Contents;
+use message::Head;
 use message::Located;
-use message::Message;
 ghost use mathlib.Core.Path.{_≡_};
 ghost use mathlib.Core.Bool.{cond, _&&_};
 ghost use mathlib.Core.List.{[]};
 ghost use Prim.Native.Nat.{_+_, _≤_, _<_};
 ghost use lib.Dec.{eqb};
-ghost use lib.ListN.{length, getD, set};
+ghost use lib.ListN.{length, getD, set, replicate};
 ghost use Rattle.digits.specs.Digits.{allDigits};
 ghost use Rattle.digits.specs.Numbers.{digitsOf};
 ghost use Rattle.field.specs.Table.{formats, rows};
 ghost use Rattle.field.specs.Contents.{size, fault};
-ghost use Rattle.message.specs.Message.{rooms};
+ghost use Rattle.message.specs.Message.{rooms, whole};
 ghost use Rattle.message.specs.Build.{digits, bytes, padded, messageOf};
 ghost use Rattle.compose.specs.Compose.{withItem, withBit};
-ghost use Rattle.compose.specs.Placed.{putAt, item};
+ghost use Rattle.compose.specs.Placed.{placed, putAt, item};
 
 // The bits of a byte, the top one first.
 const BITS: [u8; 8] = [128, 64, 32, 16, 8, 4, 2, 1];
 
-// A message of a type that names no field.
-pub fn typed(indicator: u16) -> Message
-    ensures { λ r. ⌜ r ≡ messageOf indicator [] ⌝ }
+// The head of a type that names no field; its contents are zeros.
+pub fn typed(indicator: u16) -> Head
+    ensures { λ r. ⌜ whole r (replicate rooms 0) ≡ messageOf indicator [] ⌝ }
 {
-    let mut m = Message::new();
-    m.indicator = indicator;
-    m
+    Head {
+        indicator: indicator,
+        bitmap: [0u8; 8],
+        counts: [0u8; field::ROWS],
+    }
 }
 
-// The message with field n holding these bytes.
-pub fn with_bytes(m: Message, n: u8, b: &[u8]) -> Message
-    ensures { λ r. ⌜ r ≡ withItem (bytes n (now (b .entry))) m ⌝ }
+// The head with field n holding these bytes.
+pub fn with_bytes(h: Head, n: u8, b: &[u8], contents: &mut Contents) -> Head
+    ensures { λ r. ⌜ whole r (now (contents .exit)) ≡ withItem (bytes n (now (b .entry))) (whole h (now (contents .entry))) ⌝ }
 {
-    with_item(m, n, b.len(), b)
+    with_item(h, n, b.len(), b, contents)
 }
 
-// The message with field n holding these digits, one a place.
-pub fn with_digits(m: Message, n: u8, ds: &[u8]) -> Message
-    ensures { λ r. ⌜ r ≡ cond (allDigits (now (ds .entry))) (withItem (digits n (now (ds .entry))) m) m ⌝ }
+// The head with field n holding these digits, one a place.
+pub fn with_digits(h: Head, n: u8, ds: &[u8], contents: &mut Contents) -> Head
+    ensures { λ r. ⌜ whole r (now (contents .exit)) ≡ cond (allDigits (now (ds .entry))) (withItem (digits n (now (ds .entry))) (whole h (now (contents .entry)))) (whole h (now (contents .entry))) ⌝ }
 {
     let count = ds.len();
     if 255 < count {
-        return m;
+        return h;
     }
     let end = count / 2 + count % 2;
     let mut packed = [0u8; 128];
     if digits::pack_into(ds, &mut packed[..end]) {
-        return with_item(m, n, count, &packed[..end]);
+        return with_item(h, n, count, &packed[..end], contents);
     }
-    m
+    h
 }
 
-// The message with field n holding the last digits of x, as many as said.
-pub fn with_number(m: Message, n: u8, count: u8, x: u64) -> Message
-    ensures { λ r. ⌜ r ≡ withItem (digits n (digitsOf count x)) m ⌝ }
+// The head with field n holding the last digits of x, as many as said.
+pub fn with_number(h: Head, n: u8, count: u8, x: u64, contents: &mut Contents) -> Head
+    ensures { λ r. ⌜ whole r (now (contents .exit)) ≡ withItem (digits n (digitsOf count x)) (whole h (now (contents .entry))) ⌝ }
 {
     let end = wide(count);
     let mut ds = [0u8; 255];
     digits::digits_into(x, &mut ds[..end]);
-    with_digits(m, n, &ds[..end])
+    with_digits(h, n, &ds[..end], contents)
 }
 
 fn wide(x: u8) -> usize
@@ -103,6 +106,15 @@ fn fill(b: &[u8], out: &mut [u8])
     }
 }
 
+// Fills so many bytes of out, from a place on, with b and then zeros.
+fn fill_part(b: &[u8], from: usize, room: usize, out: &mut [u8])
+    requires { ⌜ (from + room ≤ length (now out)) × (length (now b) ≤ room) ⌝ }
+    ensures { λ _. ⌜ now (out .exit) ≡ placed from room (now (b .entry)) (now (out .entry)) ⌝ }
+{
+    let end = from + room;
+    fill(b, &mut out[from..end]);
+}
+
 fn with_count(counts: [u8; field::ROWS], row: usize, count: u8) -> [u8; field::ROWS]
     requires { ⌜ row < rows ⌝ }
     ensures { λ r. ⌜ r ≡ set counts row count ⌝ }
@@ -120,29 +132,33 @@ fn in_form(f: Format, n: u8, b: &[u8]) -> bool
     (b.len() == field::size_of(class, n)) & (field::fault_of(class, n, b) == 0)
 }
 
-// The message with field n, which stands at a row and a place, holding count digits or bytes.
-fn put(m: Message, n: u8, row: usize, from: usize, room: usize, count: u8, b: &[u8]) -> Message
+// The head with field n, which stands at a row and a place, holding count digits or bytes.
+fn put(
+    h: Head,
+    n: u8,
+    row: usize,
+    from: usize,
+    room: usize,
+    count: u8,
+    b: &[u8],
+    contents: &mut Contents,
+) -> Head
     requires { ⌜ (0 < n) × (n ≤ 64) × (row < rows) × (from + room ≤ rooms) × (length (now b) ≤ room) ⌝ }
-    ensures { λ r. ⌜ r ≡ putAt m n row from room count (now (b .entry)) ⌝ }
+    ensures { λ r. ⌜ whole r (now (contents .exit)) ≡ putAt (whole h (now (contents .entry))) n row from room count (now (b .entry)) ⌝ }
 {
-    let bitmap = m.bitmap;
-    let counts = m.counts;
-    let mut contents = m.contents;
-    let bitmap = with_bit(bitmap, n);
-    let counts = with_count(counts, row, count);
-    let end = from + room;
-    fill(b, &mut contents[from..end]);
-    Message {
-        indicator: m.indicator,
-        bitmap: bitmap,
-        counts: counts,
-        contents: contents,
+    let bitmap = h.bitmap;
+    let counts = h.counts;
+    fill_part(b, from, room, contents);
+    Head {
+        indicator: h.indicator,
+        bitmap: with_bit(bitmap, n),
+        counts: with_count(counts, row, count),
     }
 }
 
-// The message with field n holding count digits or bytes.
-fn with_item(m: Message, n: u8, count: usize, b: &[u8]) -> Message
-    ensures { λ r. ⌜ r ≡ withItem (item n count (now (b .entry))) m ⌝ }
+// The head with field n holding count digits or bytes.
+fn with_item(h: Head, n: u8, count: usize, b: &[u8], contents: &mut Contents) -> Head
+    ensures { λ r. ⌜ whole r (now (contents .exit)) ≡ withItem (item n count (now (b .entry))) (whole h (now (contents .entry))) ⌝ }
 {
     match message::locate(n) {
         Located::Found { row, from, form } => {
@@ -151,11 +167,11 @@ fn with_item(m: Message, n: u8, count: usize, b: &[u8]) -> Message
                 if in_form(form, held, b) {
                     let class = form.class;
                     let room = field::size_of(class, form.high);
-                    return put(m, n, row, from, room, held, b);
+                    return put(h, n, row, from, room, held, b, contents);
                 }
             }
-            m
+            h
         }
-        Located::Missing => m,
+        Located::Missing => h,
     }
 }

@@ -2,6 +2,7 @@
 // number of bytes.
 use field::Class;
 use field::Format;
+use message::Contents;
 use message::Message;
 ghost use mathlib.Core.Path.{_≡_};
 ghost use mathlib.Core.List.{_++_};
@@ -60,7 +61,7 @@ fn add_named(f: Format, bitmap: [u8; 8], n: u8, bs: &[u8], at: usize, out: &mut 
 fn add_lines(
     bitmap: [u8; 8],
     counts: [u8; field::ROWS],
-    contents: [u8; message::ROOM],
+    contents: Contents,
     at: usize,
     out: &mut [u8],
 ) -> usize

@@ -8,6 +8,7 @@ use lib.ListN.{length, getD, take, drop, replicate}
 use Rattle.field.specs.Table.{formats, rows}
 use Rattle.field.specs.Contents.{size, room}
 use Rattle.field.specs.declared.Format.{Format}
+use Rattle.message.specs.declared.Head.{Head}
 use Rattle.message.specs.declared.Message.{Message}
 
 -- the bytes of the contents of all fields
@@ -20,6 +21,14 @@ largest = 505
 
 abbrev pub empty : Message
 empty = record { indicator = 0; bitmap = replicate 8 0; counts = replicate rows 0; contents = replicate rooms 0 }
+
+-- a message but for its contents
+abbrev pub headOf : Message → Head
+headOf m = record { indicator = m .indicator; bitmap = m .bitmap; counts = m .counts }
+
+-- the message of a head and its contents
+abbrev pub whole : Head → List ℕ → Message
+whole h bs = record { indicator = h .indicator; bitmap = h .bitmap; counts = h .counts; contents = bs }
 
 -- what every value of the type satisfies: its arrays have their lengths
 pub record Shaped (m : Message) : Type 0 where

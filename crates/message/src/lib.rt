@@ -4,19 +4,22 @@ ghost use mathlib.Core.Path.{_≡_};
 ghost use Prim.Native.Nat.{_<_};
 ghost use Rattle.field.specs.Table.{formats};
 ghost use Rattle.elements.specs.Elements.{elementsInForm};
-ghost use Rattle.message.specs.Message.{empty, fieldOf};
+ghost use Rattle.message.specs.Message.{empty, headOf, whole, fieldOf};
 ghost use Rattle.message.specs.Located.{located};
 ghost use Rattle.message.specs.Late.{lateFault};
 
 // The bytes of the contents of all fields.
 pub const ROOM: usize = 482;
 
+// The contents of all fields.
+pub type Contents = [u8; ROOM];
+
 // Counts and contents stand in the table's order; each field's contents stand at a place of their own, as on the wire.
 pub struct Message {
     pub indicator: u16,
     pub bitmap: [u8; 8],
     pub counts: [u8; field::ROWS],
-    pub contents: [u8; ROOM],
+    pub contents: Contents,
 }
 
 impl Message {
@@ -36,6 +39,13 @@ impl Message {
     }
 }
 
+// A message but for its contents, which are lent beside it where they are read or filled in.
+pub struct Head {
+    pub indicator: u16,
+    pub bitmap: [u8; 8],
+    pub counts: [u8; field::ROWS],
+}
+
 // The row of a field in the table, where its contents stand in a message, and its form; or that it is not listed.
 pub enum Located {
     Found {
@@ -46,24 +56,49 @@ pub enum Located {
     Missing,
 }
 
+// A message but for its contents.
+pub fn head_of(m: Message) -> Head
+    ensures { λ r. ⌜ r ≡ headOf m ⌝ }
+{
+    let bitmap = m.bitmap;
+    let counts = m.counts;
+    Head {
+        indicator: m.indicator,
+        bitmap: bitmap,
+        counts: counts,
+    }
+}
+
+// The message of a head and its contents.
+pub fn joined(h: Head, contents: Contents) -> Message
+    ensures { λ r. ⌜ r ≡ whole h contents ⌝ }
+{
+    let bitmap = h.bitmap;
+    let counts = h.counts;
+    Message {
+        indicator: h.indicator,
+        bitmap: bitmap,
+        counts: counts,
+        contents: contents,
+    }
+}
+
 // Where field n stands.
 pub fn locate(n: u8) -> Located
     ensures { λ r. ⌜ r ≡ located formats n 0 0 ⌝ }
 {
     let table = field::table();
-    let mut from = 0;
+    let places = field::places();
     let mut k = 0;
     while k < field::ROWS {
         let f = table[k];
-        let class = f.class;
         if f.number == n {
             return Located::Found {
                 row: k,
-                from: from,
+                from: offset(places[k]),
                 form: f,
             };
         }
-        from += field::size_of(class, f.high);
         k += 1;
     }
     Located::Missing
@@ -96,6 +131,12 @@ fn chip_in_form(m: Message) -> bool
         }
         Located::Missing => true,
     }
+}
+
+fn offset(x: u16) -> usize
+    ensures { λ r. ⌜ r ≡ x ⌝ }
+{
+    x as usize
 }
 
 fn wide(x: u8) -> usize

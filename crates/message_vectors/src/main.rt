@@ -1,6 +1,7 @@
 // Cases of reading and writing that document 01 does not star. What this writes is compared with the file stdout.
 use field::Class;
 use libc::STDOUT_FILENO;
+use message::Contents;
 use message::Located;
 use message::Message;
 use reading::ReadOutcome;
@@ -141,7 +142,7 @@ fn bitmap_of(n: u8) -> [u8; 8] {
     bitmap
 }
 
-fn filled(class: Class) -> [u8; message::ROOM] {
+fn filled(class: Class) -> Contents {
     match class {
         Class::Digits => [0u8; message::ROOM],
         Class::Printable => [0x20u8; message::ROOM],
@@ -207,7 +208,7 @@ fn largest_message() -> Message {
 }
 
 // These contents with an element of tag 82 and 252 bytes at the front of field 55.
-fn with_element(contents: [u8; message::ROOM]) -> [u8; message::ROOM] {
+fn with_element(contents: Contents) -> Contents {
     let mut out = contents;
     let place = message::locate(55);
     if let Located::Found {

@@ -1,4 +1,6 @@
 // The messages that leave (document 01, "Kinds" and "Calls").
+use message::Contents;
+use message::Head;
 use message::Message;
 use numbers::Batch;
 use numbers::Trace;
@@ -11,6 +13,7 @@ use state::Settings;
 use writing::Writing;
 ghost use mathlib.Core.Path.{_≡_};
 ghost use mathlib.Core.List.{[]};
+ghost use Rattle.message.specs.Message.{whole};
 ghost use Rattle.message.specs.Build.{digits, bytes, messageOf};
 ghost use Rattle.kinds.specs.Kinds.{indicatorOf};
 ghost use Rattle.writing.specs.Writing.{writeMessage};
@@ -26,23 +29,26 @@ pub struct Original {
     pub reference: [u8; 12],
 }
 
-// The message with field 60: kind, batch, management code.
-pub fn with_field60(m: Message, kind: u8, batch: Batch, code: u64) -> Message
-    ensures { λ r. ⌜ r ≡ withItem (digits 60 (field60 kind batch code)) m ⌝ }
+// The head with field 60: kind, batch, management code.
+pub fn with_field60(h: Head, kind: u8, batch: Batch, code: u64, contents: &mut Contents) -> Head
+    ensures { λ r. ⌜ whole r (now (contents .exit)) ≡ withItem (digits 60 (field60 kind batch code)) (whole h (now (contents .entry))) ⌝ }
 {
     let mut ds = [0u8; parts::FIELD60];
     parts::put_part(Part::Kind, kind as u64, &mut ds);
     parts::put_part(Part::Batch, batch.0 as u64, &mut ds);
     parts::put_part(Part::Management, code, &mut ds);
-    compose::with_digits(m, 60, &ds)
+    compose::with_digits(h, 60, &ds, contents)
 }
 
 // A card request.
 pub fn request_message(x: Settings, batch: Batch, chip: Chip, q: Request, o: Original) -> Message
     ensures { λ r. ⌜ r ≡ withAll (requestFields x batch chip q o) (messageOf (indicatorOf (q .kind)) []) ⌝ }
 {
-    let m = compose::typed(kinds::indicator_of(q.kind));
-    with_original_fields(with_card_fields(m, x, batch, chip, q), q.kind, o)
+    let mut contents = [0u8; message::ROOM];
+    let h = compose::typed(kinds::indicator_of(q.kind));
+    let card = with_card_fields(h, x, batch, chip, q, &mut contents);
+    let all = with_original_fields(card, q.kind, o, &mut contents);
+    message::joined(all, contents)
 }
 
 // A reversal.
@@ -51,8 +57,10 @@ pub fn reversal_message(x: Settings, batch: Batch, chip: Chip, v: Reversal) -> M
 {
     let reason = v.reason;
     let q = v.request;
-    let m = compose::typed(0x0400);
-    with_reason(with_card_fields(m, x, batch, chip, q), reason)
+    let mut contents = [0u8; message::ROOM];
+    let card = with_card_fields(compose::typed(0x0400), x, batch, chip, q, &mut contents);
+    let all = with_reason(card, reason, &mut contents);
+    message::joined(all, contents)
 }
 
 // Writes a message that leaves, and gives its length; 0 where it is not written.
@@ -65,8 +73,8 @@ pub fn write_outgoing(m: Message, message: &mut [u8]) -> usize
     }
 }
 
-fn with_field61(m: Message, o: Original) -> Message
-    ensures { λ r. ⌜ r ≡ withItem (digits 61 (field61 o)) m ⌝ }
+fn with_field61(h: Head, o: Original, contents: &mut Contents) -> Head
+    ensures { λ r. ⌜ whole r (now (contents .exit)) ≡ withItem (digits 61 (field61 o)) (whole h (now (contents .entry))) ⌝ }
 {
     let batch = o.batch;
     let trace = o.trace;
@@ -74,14 +82,22 @@ fn with_field61(m: Message, o: Original) -> Message
     parts::put_part(Part::OriginalBatch, batch.0 as u64, &mut ds);
     parts::put_part(Part::OriginalTrace, trace.0 as u64, &mut ds);
     parts::put_part(Part::OriginalDate, o.date as u64, &mut ds);
-    compose::with_digits(m, 61, &ds)
+    compose::with_digits(h, 61, &ds, contents)
 }
 
 // The fields of a card request, those of its chip with them.
-fn with_card_fields(m: Message, x: Settings, batch: Batch, chip: Chip, q: Request) -> Message
-    ensures { λ r. ⌜ r ≡ withAll (cardFields x batch chip q) m ⌝ }
+fn with_card_fields(
+    h: Head,
+    x: Settings,
+    batch: Batch,
+    chip: Chip,
+    q: Request,
+    contents: &mut Contents,
+) -> Head
+    ensures { λ r. ⌜ whole r (now (contents .exit)) ≡ withAll (cardFields x batch chip q) (whole h (now (contents .entry))) ⌝ }
 {
-    with_chip_fields(with_plain_fields(m, x, batch, chip, q), chip)
+    let plain = with_plain_fields(h, x, batch, chip, q, contents);
+    with_chip_fields(plain, chip, contents)
 }
 
 // Field 22.
@@ -94,19 +110,26 @@ fn entry_mode(chip: Chip) -> u64
     52
 }
 
-fn with_chip_fields(m: Message, chip: Chip) -> Message
-    ensures { λ r. ⌜ r ≡ withAll (chipFields chip) m ⌝ }
+fn with_chip_fields(h: Head, chip: Chip, contents: &mut Contents) -> Head
+    ensures { λ r. ⌜ whole r (now (contents .exit)) ≡ withAll (chipFields chip) (whole h (now (contents .entry))) ⌝ }
 {
     if chip.length == 0 {
-        return m;
+        return h;
     }
     let bytes = chip.bytes;
-    compose::with_bytes(m, 55, &bytes[..chip.length as usize])
+    compose::with_bytes(h, 55, &bytes[..chip.length as usize], contents)
 }
 
 // The fields of every card request.
-fn with_plain_fields(m: Message, x: Settings, batch: Batch, chip: Chip, q: Request) -> Message
-    ensures { λ r. ⌜ r ≡ withAll (plainFields x batch chip q) m ⌝ }
+fn with_plain_fields(
+    h: Head,
+    x: Settings,
+    batch: Batch,
+    chip: Chip,
+    q: Request,
+    contents: &mut Contents,
+) -> Head
+    ensures { λ r. ⌜ whole r (now (contents .exit)) ≡ withAll (plainFields x batch chip q) (whole h (now (contents .entry))) ⌝ }
 {
     let terminal = x.terminal;
     let merchant = x.merchant;
@@ -114,56 +137,55 @@ fn with_plain_fields(m: Message, x: Settings, batch: Batch, chip: Chip, q: Reque
     let trace = q.trace;
     let mac = [0u8; 8];
     let currency = [b'1', b'5', b'6'];
-    let m2 = compose::with_number(m, 2, card.length, card.number);
-    let m3 = compose::with_number(m2, 3, 6, kinds::processing_of(q.kind) as u64);
-    let m4 = compose::with_number(m3, 4, 12, q.amount);
-    let m11 = compose::with_number(m4, 11, 6, trace.0 as u64);
-    let m22 = compose::with_number(m11, 22, 3, entry_mode(chip));
-    let m25 = compose::with_number(m22, 25, 2, kinds::condition_of(q.kind) as u64);
-    let m41 = compose::with_bytes(m25, 41, &terminal);
-    let m42 = compose::with_bytes(m41, 42, &merchant);
-    let m49 = compose::with_bytes(m42, 49, &currency);
-    let m60 = with_field60(m49, q.kind, batch, 0);
-    compose::with_bytes(m60, 64, &mac)
+    let h2 = compose::with_number(h, 2, card.length, card.number, contents);
+    let h3 = compose::with_number(h2, 3, 6, kinds::processing_of(q.kind) as u64, contents);
+    let h4 = compose::with_number(h3, 4, 12, q.amount, contents);
+    let h11 = compose::with_number(h4, 11, 6, trace.0 as u64, contents);
+    let h22 = compose::with_number(h11, 22, 3, entry_mode(chip), contents);
+    let h25 = compose::with_number(h22, 25, 2, kinds::condition_of(q.kind) as u64, contents);
+    let h41 = compose::with_bytes(h25, 41, &terminal, contents);
+    let h42 = compose::with_bytes(h41, 42, &merchant, contents);
+    let h49 = compose::with_bytes(h42, 49, &currency, contents);
+    let h60 = with_field60(h49, q.kind, batch, 0, contents);
+    compose::with_bytes(h60, 64, &mac, contents)
 }
 
 // What a request names of an earlier one.
-fn with_original_fields(m: Message, kind: u8, o: Original) -> Message
-    ensures { λ r. ⌜ r ≡ withAll (originalFields kind o) m ⌝ }
+fn with_original_fields(h: Head, kind: u8, o: Original, contents: &mut Contents) -> Head
+    ensures { λ r. ⌜ whole r (now (contents .exit)) ≡ withAll (originalFields kind o) (whole h (now (contents .entry))) ⌝ }
 {
     let authorisation = o.authorisation;
     let reference = o.reference;
     if kinds::takes_original(kind) {
-        let m37 = compose::with_bytes(m, 37, &reference);
-        let m38 = compose::with_bytes(m37, 38, &authorisation);
-        return with_field61(m38, o);
+        let h37 = compose::with_bytes(h, 37, &reference, contents);
+        let h38 = compose::with_bytes(h37, 38, &authorisation, contents);
+        return with_field61(h38, o, contents);
     }
     if kinds::keys_reference(kind) {
-        let m37 = compose::with_bytes(m, 37, &reference);
-        return with_field61(m37, o);
+        let h37 = compose::with_bytes(h, 37, &reference, contents);
+        return with_field61(h37, o, contents);
     }
     if kinds::keys_authorisation(kind) {
-        let m38 = compose::with_bytes(m, 38, &authorisation);
-        return with_field61(m38, o);
+        let h38 = compose::with_bytes(h, 38, &authorisation, contents);
+        return with_field61(h38, o, contents);
     }
-    m
+    h
 }
 
-fn with_reason(m: Message, reason: Reason) -> Message
-    ensures { λ r. ⌜ r ≡ withItem (bytes 39 (reasonCode reason)) m ⌝ }
+fn with_reason(h: Head, reason: Reason, contents: &mut Contents) -> Head
+    ensures { λ r. ⌜ whole r (now (contents .exit)) ≡ withItem (bytes 39 (reasonCode reason)) (whole h (now (contents .entry))) ⌝ }
+{
+    let code = reason_code(reason);
+    compose::with_bytes(h, 39, &code, contents)
+}
+
+// Field 39 of a reversal.
+fn reason_code(reason: Reason) -> [u8; 2]
+    ensures { λ r. ⌜ r ≡ reasonCode reason ⌝ }
 {
     match reason {
-        Reason::Silence => {
-            let code = [b'9', b'8'];
-            compose::with_bytes(m, 39, &code)
-        }
-        Reason::BadMac => {
-            let code = [b'A', b'0'];
-            compose::with_bytes(m, 39, &code)
-        }
-        Reason::CardDeclined => {
-            let code = [b'0', b'6'];
-            compose::with_bytes(m, 39, &code)
-        }
+        Reason::Silence => [b'9', b'8'],
+        Reason::BadMac => [b'A', b'0'],
+        Reason::CardDeclined => [b'0', b'6'],
     }
 }

@@ -1,18 +1,17 @@
 // What a caller takes from a message, and the digits that it puts into one: a field's bytes, and the parts of fields 11, 48, 60 and 61.
 use digits::Number;
+use message::Contents;
+use message::Head;
 use message::Located;
-use message::Message;
 ghost use mathlib.Core.Path.{_≡_};
 ghost use mathlib.Core.Bool.{cond};
 ghost use mathlib.Core.List.{_++_};
 ghost use Prim.Native.Nat.{_-_, _≤_, _<_};
 ghost use lib.ListN.{length, take, drop};
-ghost use Rattle.digits.specs.Lists.{sameBytes};
-ghost use Rattle.digits.specs.Digits.{unpack};
-ghost use Rattle.message.specs.Message.{fieldOf, rooms};
+ghost use Rattle.message.specs.Message.{whole, fieldOf};
 ghost use Rattle.parts.specs.Layout.{placeOf, withPart};
 ghost use Rattle.parts.specs.Parts.{matches, copies, taken, withTaken, numberIn, partOf};
-ghost use Rattle.parts.specs.Bounds.{Bounded};
+ghost use Rattle.parts.specs.Bounds.{BoundedIn};
 
 // How many digits the fields made of several parts have.
 pub const FIELD48: usize = 62;
@@ -80,30 +79,32 @@ pub fn place_of(p: Part) -> Place
 }
 
 // Whether a message names field n and the field holds these bytes.
-pub fn field_matches(m: Message, n: u8, b: &[u8]) -> bool
-    ensures { λ r. ⌜ r ≡ matches m n (now (b .entry)) ⌝ }
+pub fn field_matches(h: Head, contents: &Contents, n: u8, b: &[u8]) -> bool
+    ensures { λ r. ⌜ r ≡ matches (whole h (now (contents .entry))) n (now (b .entry)) ⌝ }
 {
-    let bitmap = m.bitmap;
+    let s: &[u8] = contents;
+    let bitmap = h.bitmap;
     if field::named(&bitmap, n) {
-        let at = bounds_of(m, n);
+        let at = bounds_of(h, n);
         let from = at.from;
         let end = at.end;
-        return same_at(&m.contents, from, end, b);
+        return digits::same(&s[from..end], b);
     }
     false
 }
 
 // Copies the bytes of field n, which must fill out; else out stays.
-pub fn field_into(m: Message, n: u8, out: &mut [u8]) -> bool
-    ensures { λ r. ⌜ (r ≡ copies m n (length (now (out .entry)))) × (now (out .exit) ≡ cond (copies m n (length (now (out .entry)))) (fieldOf m n .bytes) (now (out .entry))) ⌝ }
+pub fn field_into(h: Head, contents: &Contents, n: u8, out: &mut [u8]) -> bool
+    ensures { λ r. ⌜ (r ≡ copies (whole h (now (contents .entry))) n (length (now (out .entry)))) × (now (out .exit) ≡ cond (copies (whole h (now (contents .entry))) n (length (now (out .entry)))) (fieldOf (whole h (now (contents .entry))) n .bytes) (now (out .entry))) ⌝ }
 {
-    let bitmap = m.bitmap;
+    let s: &[u8] = contents;
+    let bitmap = h.bitmap;
     if field::named(&bitmap, n) {
-        let at = bounds_of(m, n);
+        let at = bounds_of(h, n);
         let from = at.from;
         let end = at.end;
         if out.len() == end - from {
-            copy_at(&m.contents, from, end, out);
+            copy_part(s, from, end, out);
             return true;
         }
     }
@@ -111,30 +112,32 @@ pub fn field_into(m: Message, n: u8, out: &mut [u8]) -> bool
 }
 
 // Puts the bytes of field n to the front of out, where there is room for them.
-pub fn take_field(m: Message, n: u8, out: &mut [u8]) -> Taken
-    ensures { λ r. ⌜ (r ≡ taken m n (length (now (out .entry)))) × (now (out .exit) ≡ withTaken (taken m n (length (now (out .entry)))) (fieldOf m n .bytes) (now (out .entry))) ⌝ }
+pub fn take_field(h: Head, contents: &Contents, n: u8, out: &mut [u8]) -> Taken
+    ensures { λ r. ⌜ (r ≡ taken (whole h (now (contents .entry))) n (length (now (out .entry)))) × (now (out .exit) ≡ withTaken (taken (whole h (now (contents .entry))) n (length (now (out .entry)))) (fieldOf (whole h (now (contents .entry))) n .bytes) (now (out .entry))) ⌝ }
 {
-    let bitmap = m.bitmap;
+    let s: &[u8] = contents;
+    let bitmap = h.bitmap;
     if field::named(&bitmap, n) {
-        let at = bounds_of(m, n);
+        let at = bounds_of(h, n);
         let from = at.from;
         let end = at.end;
         if out.len() < end - from {
             return Taken::TooLong;
         }
-        copy_at(&m.contents, from, end, out);
+        copy_part(s, from, end, out);
         return Taken::Count(at.count);
     }
     Taken::Absent
 }
 
 // The number that count digits of field n say, from one on.
-pub fn number_in(m: Message, n: u8, from: usize, count: usize) -> Number
-    ensures { λ r. ⌜ r ≡ numberIn m n from count ⌝ }
+pub fn number_in(h: Head, contents: &Contents, n: u8, from: usize, count: usize) -> Number
+    ensures { λ r. ⌜ r ≡ numberIn (whole h (now (contents .entry))) n from count ⌝ }
 {
-    let bitmap = m.bitmap;
+    let s: &[u8] = contents;
+    let bitmap = h.bitmap;
     if field::named(&bitmap, n) {
-        let at = bounds_of(m, n);
+        let at = bounds_of(h, n);
         if at.count < from {
             return Number::Not;
         }
@@ -145,18 +148,18 @@ pub fn number_in(m: Message, n: u8, from: usize, count: usize) -> Number
         let end = at.end;
         let past = from + count;
         let mut ds = [0u8; 255];
-        unpack_at(&m.contents, start, end, &mut ds[..past]);
+        digits::unpack_into(&s[start..end], &mut ds[..past]);
         return digits::number_of(&ds[from..past]);
     }
     Number::Not
 }
 
 // The number that a part says.
-pub fn part_of(m: Message, p: Part) -> Number
-    ensures { λ r. ⌜ r ≡ partOf m p ⌝ }
+pub fn part_of(h: Head, contents: &Contents, p: Part) -> Number
+    ensures { λ r. ⌜ r ≡ partOf (whole h (now (contents .entry))) p ⌝ }
 {
     let at = place_of(p);
-    number_in(m, at.number, at.from, at.count)
+    number_in(h, contents, at.number, at.from, at.count)
 }
 
 // Puts the digits of x at the place of a part into the digits of its field; where they have no such place, they stay.
@@ -185,31 +188,12 @@ fn at(number: u8, from: usize, count: usize) -> Place
     }
 }
 
-// Whether the contents hold these bytes between two places.
-fn same_at(contents: &[u8; message::ROOM], from: usize, end: usize, b: &[u8]) -> bool
-    requires { ⌜ (from ≤ end) × (end ≤ rooms) ⌝ }
-    ensures { λ r. ⌜ r ≡ sameBytes (take (end - from) (drop from (now (contents .entry)))) (now (b .entry)) ⌝ }
+// Copies the bytes between two places of s to the front of out.
+fn copy_part(s: &[u8], from: usize, end: usize, out: &mut [u8])
+    requires { ⌜ (from ≤ end) × ((end ≤ length (now s)) × (end - from ≤ length (now out))) ⌝ }
+    ensures { λ _. ⌜ now (out .exit) ≡ take (end - from) (drop from (now (s .entry))) ++ drop (end - from) (now (out .entry)) ⌝ }
 {
-    let s: &[u8] = contents;
-    digits::same(&s[from..end], b)
-}
-
-// Copies the contents between two places to the front of out.
-fn copy_at(contents: &[u8; message::ROOM], from: usize, end: usize, out: &mut [u8])
-    requires { ⌜ (from ≤ end) × ((end ≤ rooms) × (end - from ≤ length (now out))) ⌝ }
-    ensures { λ _. ⌜ now (out .exit) ≡ take (end - from) (drop from (now (contents .entry))) ++ drop (end - from) (now (out .entry)) ⌝ }
-{
-    let s: &[u8] = contents;
     bytes::copy(&s[from..end], out);
-}
-
-// Unpacks the contents between two places into out.
-fn unpack_at(contents: &[u8; message::ROOM], from: usize, end: usize, out: &mut [u8])
-    requires { ⌜ (from ≤ end) × (end ≤ rooms) ⌝ }
-    ensures { λ _. ⌜ now (out .exit) ≡ unpack (length (now (out .entry))) (take (end - from) (drop from (now (contents .entry)))) ⌝ }
-{
-    let s: &[u8] = contents;
-    digits::unpack_into(&s[from..end], out);
 }
 
 fn wide(x: u8) -> usize
@@ -218,10 +202,10 @@ fn wide(x: u8) -> usize
     x as usize
 }
 
-fn bounds_of(m: Message, n: u8) -> Bounds
-    ensures { λ r. ⌜ Bounded m n (r .count) (r .from) (r .end) ⌝ }
+fn bounds_of(h: Head, n: u8) -> Bounds
+    ensures { λ r. ⌜ BoundedIn h n (r .count) (r .from) (r .end) ⌝ }
 {
-    let counts = m.counts;
+    let counts = h.counts;
     match message::locate(n) {
         Located::Found { row, from, form } => {
             let class = form.class;

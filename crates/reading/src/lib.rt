@@ -1,5 +1,6 @@
 // Reading a message (document 01, rules 3 to 9).
 use field::Format;
+use message::Contents;
 use message::Message;
 use span::Span;
 ghost use mathlib.Core.Path.{_≡_};
@@ -178,12 +179,7 @@ fn read_field(f: Format, s: &[u8], out: &mut [u8]) -> Span
 }
 
 // A message that was read, where no rule on it as a whole is broken; they look at field 55 alone.
-fn judged(
-    indicator: u16,
-    bitmap: [u8; 8],
-    counts: [u8; field::ROWS],
-    contents: [u8; message::ROOM],
-) -> Reading
+fn judged(indicator: u16, bitmap: [u8; 8], counts: [u8; field::ROWS], contents: Contents) -> Reading
     ensures { λ r. ⌜ r ≡ accepted (record { indicator = indicator; bitmap = bitmap; counts = counts; contents = contents }) ⌝ }
 {
     let message = Message {

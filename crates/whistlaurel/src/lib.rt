@@ -297,7 +297,8 @@ pub extern "C" fn whistlaurel_field(bytes: &[u8], n: u8, out: &mut [u8], count: 
     if let ReadOutcome::Refused(e) = outcome {
         return e;
     }
-    let taken = parts::take_field(r.message, n, out);
+    let m = r.message;
+    let taken = parts::take_field(message::head_of(m), &m.contents, n, out);
     match taken {
         Taken::Absent => ABSENT,
         Taken::TooLong => 1,

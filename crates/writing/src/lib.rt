@@ -1,5 +1,6 @@
 // Writing a message (document 01, rules 1 and 4 to 8).
 use field_writing::Placed;
+use message::Contents;
 use message::Message;
 ghost use mathlib.Core.Path.{_≡_};
 ghost use mathlib.Core.List.{_++_};
@@ -40,12 +41,7 @@ fn wide(x: u16) -> usize
 }
 
 // Writes the fields that the bitmap names at the front of out, ascending, up to the first that is refused.
-fn put_fields(
-    bm: &[u8; 8],
-    counts: [u8; field::ROWS],
-    contents: [u8; message::ROOM],
-    out: &mut [u8],
-) -> Placed
+fn put_fields(bm: &[u8; 8], counts: [u8; field::ROWS], contents: Contents, out: &mut [u8]) -> Placed
     requires { ⌜ (largest ≤ 10 + length (now out)) × ((j : ℕ) → getD (now bm) j 0 < 256) ⌝ }
     ensures { λ r. ⌜ Placing (fieldsFault formats (now (bm .entry)) counts contents) (fieldsBytes formats (now (bm .entry)) counts contents) r (now (out .exit)) ⌝ }
 {

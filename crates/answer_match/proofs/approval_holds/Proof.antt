@@ -4,8 +4,8 @@ use Rattle.answer_match.specs.Match.{approvalHolds}
 use Rattle.answer_match.proofs.approval_holds.Statement.{statement}
 use Rattle.answer_match.proofs.approval_holds.Tie as tie
 
-approves-requires : tie.Need-approves-requires
-approves-requires c κs = search needs
+is-approval-requires : tie.Need-is-approval-requires
+is-approval-requires c κs = search needs
 
 slice-aggregate-holds-number : tie.Need-slice-aggregate-holds-number
 slice-aggregate-holds-number c = search needs
@@ -22,16 +22,16 @@ named-requires-2 c κs = search needs
 returns : tie.Need-returns
 unfolding approvalHolds
 returns c =
-    let at-approves = c .before .before .before .before .before .before .before .approves in
+    let at-is-approval = c .before .before .before .before .before .before .before .is-approval in
     let at-holds-number = c .before .before .before .before .before .holds-number in
     let at-named = c .before .before .named in
-    rw (c .named2 .ensures, at-named .ensures, at-holds-number .ensures, at-approves .ensures)
+    rw (c .named2 .ensures, at-named .ensures, at-holds-number .ensures, at-is-approval .ensures)
 
 pub approval-holds-spec : {M : Type 1} → statement M
 approval-holds-spec =
     tie.close
     (tie.spec
-    approves-requires
+    is-approval-requires
     slice-aggregate-holds-number
     holds-number-requires
     named-requires

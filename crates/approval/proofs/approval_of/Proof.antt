@@ -4,6 +4,9 @@ use Rattle.approval.proofs.Approval.{approval-is}
 use Rattle.approval.proofs.approval_of.Statement.{statement}
 use Rattle.approval.proofs.approval_of.Tie as tie
 
+head-of-requires : tie.Need-head-of-requires
+head-of-requires c κs = tt
+
 slice-aggregate-field-into : tie.Need-slice-aggregate-field-into
 slice-aggregate-field-into c = search needs
 
@@ -24,15 +27,20 @@ field-into-requires-3 c κs = search needs
 
 returns : tie.Need-returns
 returns c =
-    let at-args = c .before .before .before .before .before .before .before .before .before .args in
-    let at-field-into = c .before .before .before .before .before .before .before .field-into in
-    let at-field-into2 = c .before .before .before .before .field-into2 in
-    approval-is (at-args .m) (at-field-into .ensures .1) (at-field-into2 .ensures .1) (c .before .field-into3 .ensures .1)
+    let at-args = c .before .before .before .before .before .before .before .before .before .before .before .before .before .before .before
+    .before .args in
+    let at-field-into = c .before .before .before .before .before .before .before .before .before .before .before .field-into in
+    let at-field-into2 = c .before .before .before .before .before .before .field-into2 in
+    let e = c .before .before .before .before .before .before .before .before .before .before .before .before .before .before .before
+    .head-of .ensures in
+    approval-is (at-args .t1) (rw e at (at-field-into .ensures .1)) (rw e at (at-field-into2 .ensures .1))
+    (rw e at (c .before .field-into3 .ensures .1))
 
 pub approval-of-spec : {M : Type 1} → statement M
 approval-of-spec =
     tie.close
     (tie.spec
+    head-of-requires
     slice-aggregate-field-into
     field-into-requires
     slice-aggregate-field-into-2

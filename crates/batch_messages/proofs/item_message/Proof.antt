@@ -32,7 +32,8 @@ with-number-requires-4 c κs = search needs
 
 slice-aggregate-with-bytes : tie.Need-slice-aggregate-with-bytes
 slice-aggregate-with-bytes c =
-    let g = c .before .before .before .before .before .before .before .before .before .before .before .before .before .before .good .1 .1
+    let g = c .before .before .before .before .before .before .before .before .before .before .before .before .before .before .before
+    .before .before .before .good .1 .1
     .0 .1 .1 .1 .1 .1 .1 in
     search needs
 
@@ -42,7 +43,7 @@ with-bytes-requires c κs = search needs
 slice-aggregate-with-bytes-2 : tie.Need-slice-aggregate-with-bytes-2
 slice-aggregate-with-bytes-2 c =
     let g = c .before .before .before .before .before .before .before .before .before .before .before .before .before .before .before
-    .before .good .1 .1 .0 .1 .1 .1 .1 .1 .1 in
+    .before .before .before .before .before .before .good .1 .1 .0 .1 .1 .1 .1 .1 .1 in
     search needs
 
 with-bytes-requires-2 : tie.Need-with-bytes-requires-2
@@ -51,7 +52,7 @@ with-bytes-requires-2 c κs = search needs
 slice-aggregate-with-bytes-3 : tie.Need-slice-aggregate-with-bytes-3
 slice-aggregate-with-bytes-3 c =
     let g = c .before .before .before .before .before .before .before .before .before .before .before .before .before .before .before
-    .before .before .before .good .0 in
+    .before .before .before .before .before .before .before .before .before .good .0 in
     search needs
 
 with-bytes-requires-3 : tie.Need-with-bytes-requires-3
@@ -60,7 +61,7 @@ with-bytes-requires-3 c κs = search needs
 slice-aggregate-with-bytes-4 : tie.Need-slice-aggregate-with-bytes-4
 slice-aggregate-with-bytes-4 c =
     let g = c .before .before .before .before .before .before .before .before .before .before .before .before .before .before .before
-    .before .before .before .before .before .good .0 in
+    .before .before .before .before .before .before .before .before .before .before .before .before .good .0 in
     search needs
 
 with-bytes-requires-4 : tie.Need-with-bytes-requires-4
@@ -75,28 +76,35 @@ with-bytes-requires-5 c κs = search needs
 with-field60-requires : tie.Need-with-field60-requires
 with-field60-requires c κs = search needs
 
+joined-requires : tie.Need-joined-requires
+joined-requires c κs = tt
+
 returns : tie.Need-returns
 returns c =
     let at-card-of = c .before .before .before .before .before .before .before .before .before .before .before .before .before .before
-    .before .before .before .before .card-of in
+    .before .before .before .before .before .before .before .before .before .before .before .before .before .before .before .card-of in
     let at-typed = c .before .before .before .before .before .before .before .before .before .before .before .before .before .before
-    .before .before .before .typed in
+    .before .before .before .before .before .before .before .before .before .before .before .before .before .before .typed in
     let at-with-number = c .before .before .before .before .before .before .before .before .before .before .before .before .before .before
-    .before .before .with-number in
+    .before .before .before .before .before .before .before .before .before .before .before .before .with-number in
     let at-processing-of = c .before .before .before .before .before .before .before .before .before .before .before .before .before
-    .before .before .processing-of in
+    .before .before .before .before .before .before .before .before .before .before .before .before .processing-of in
     let at-with-number2 = c .before .before .before .before .before .before .before .before .before .before .before .before .before .before
-    .with-number2 in
-    let at-with-number3 = c .before .before .before .before .before .before .before .before .before .before .before .before .before
-    .with-number3 in
-    let at-with-number4 = c .before .before .before .before .before .before .before .before .before .before .before .with-number4 in
-    let at-with-bytes = c .before .before .before .before .before .before .before .before .before .with-bytes in
-    let at-with-bytes2 = c .before .before .before .before .before .before .before .with-bytes2 in
-    let at-with-bytes3 = c .before .before .before .before .before .with-bytes3 in
-    let at-with-bytes4 = c .before .before .before .with-bytes4 in
+    .before .before .before .before .before .before .before .before .before .with-number2 in
+    let at-with-number3 = c .before .before .before .before .before .before .before .before .before .before .before .before .before .before
+    .before .before .before .before .before .before .before .with-number3 in
+    let at-with-number4 = c .before .before .before .before .before .before .before .before .before .before .before .before .before .before
+    .before .before .before .before .with-number4 in
+    let at-with-bytes = c .before .before .before .before .before .before .before .before .before .before .before .before .before .before
+    .before .with-bytes in
+    let at-with-bytes2 = c .before .before .before .before .before .before .before .before .before .before .before .before .with-bytes2 in
+    let at-with-bytes3 = c .before .before .before .before .before .before .before .before .before .with-bytes3 in
+    let at-with-bytes4 = c .before .before .before .before .before .before .with-bytes4 in
+    let at-with-bytes5 = c .before .before .before .with-bytes5 in
     rw (
-      c .with-field60 .ensures,
-      c .before .with-bytes5 .ensures,
+      c .joined .ensures,
+      c .before .with-field60 .ensures,
+      at-with-bytes5 .ensures,
       at-with-bytes4 .ensures,
       at-with-bytes3 .ensures,
       at-with-bytes2 .ensures,
@@ -134,4 +142,5 @@ item-message-spec =
     slice-aggregate-with-bytes-5
     with-bytes-requires-5
     with-field60-requires
+    joined-requires
     returns)

@@ -20,7 +20,7 @@ with-bytes-requires c κs = search needs
 
 slice-aggregate-with-bytes-2 : tie.Need-slice-aggregate-with-bytes-2
 slice-aggregate-with-bytes-2 c =
-    let g = c .before .before .before .before .before .before .before .before .good .0 in
+    let g = c .before .before .before .before .before .before .before .before .before .before .good .0 in
     search needs
 
 with-bytes-requires-2 : tie.Need-with-bytes-requires-2
@@ -38,16 +38,23 @@ with-bytes-requires-3 c κs = search needs
 with-field60-requires : tie.Need-with-field60-requires
 with-field60-requires c κs = search needs
 
+joined-requires : tie.Need-joined-requires
+joined-requires c κs = tt
+
 returns : tie.Need-returns
 returns c =
-    let at-typed = c .before .before .before .before .before .before .before .before .before .before .typed in
-    let at-with-number = c .before .before .before .before .before .before .before .before .with-number in
-    let at-with-bytes = c .before .before .before .before .before .before .with-bytes in
-    let at-with-bytes2 = c .before .before .before .before .with-bytes2 in
-    let at-with-field48 = c .before .before .before .with-field48 in
+    let at-typed = c .before .before .before .before .before .before .before .before .before .before .before .before .before .before
+    .before .before .before .typed in
+    let at-with-number = c .before .before .before .before .before .before .before .before .before .before .before .before .before .before
+    .with-number in
+    let at-with-bytes = c .before .before .before .before .before .before .before .before .before .before .before .with-bytes in
+    let at-with-bytes2 = c .before .before .before .before .before .before .before .before .with-bytes2 in
+    let at-with-field48 = c .before .before .before .before .before .before .with-field48 in
+    let at-with-bytes3 = c .before .before .before .with-bytes3 in
     rw (
-      c .with-field60 .ensures,
-      c .before .with-bytes3 .ensures,
+      c .joined .ensures,
+      c .before .with-field60 .ensures,
+      at-with-bytes3 .ensures,
       at-with-field48 .ensures,
       at-with-bytes2 .ensures,
       at-with-bytes .ensures,
@@ -70,4 +77,5 @@ settlement-message-spec =
     slice-aggregate-with-bytes-3
     with-bytes-requires-3
     with-field60-requires
+    joined-requires
     returns)

@@ -2,6 +2,8 @@
 use mathlib.Core.List.{List, [], _∷_}
 use Prim.Native.Nat.{ℕ}
 use borrow.Author.Needs.{needs}
+use denote.Ref.{now}
+use Rattle.message.specs.Message.{whole}
 use Rattle.compose.proofs.Laid.{parts-put}
 use Rattle.batch_messages.proofs.with_field48.Statement.{statement}
 use Rattle.batch_messages.proofs.with_field48.Tie as tie
@@ -45,14 +47,14 @@ with-digits-requires c κs = search needs
 returns : tie.Need-returns
 returns c =
     let at-args = c .before .before .before .before .before .before .before .before .before .before .before .before .before .before .before
-    .before .args in
+    .before .before .args in
     let at-put-part = c .before .before .before .before .before .before .before .before .before .before .before .before .before .before
-    .put-part in
-    let at-put-part2 = c .before .before .before .before .before .before .before .before .before .before .put-part2 in
-    let at-put-part3 = c .before .before .before .before .before .before .before .put-part3 in
-    let at-put-part4 = c .before .before .before .put-part4 in
+    .before .put-part in
+    let at-put-part2 = c .before .before .before .before .before .before .before .before .before .before .before .put-part2 in
+    let at-put-part3 = c .before .before .before .before .before .before .before .before .put-part3 in
+    let at-put-part4 = c .before .before .before .before .put-part4 in
     let xs : List ℕ = at-args .t .debit ∷ at-args .t .debits ∷ at-args .t .credit ∷ at-args .t .credits ∷ [] in
-    parts-put (at-args .m) 48 xs
+    parts-put (whole (at-args .h) (now (at-args .contents))) 48 xs
     (rw (at-put-part3 .ensures, at-put-part2 .ensures, at-put-part .ensures) at (at-put-part4 .ensures)) (c .with-digits .ensures)
 
 pub with-field48-spec : {M : Type 1} → statement M

@@ -17,13 +17,17 @@ with-field48-requires c κs = search needs
 with-sent-fields-requires : tie.Need-with-sent-fields-requires
 with-sent-fields-requires c κs = search needs
 
+joined-requires : tie.Need-joined-requires
+joined-requires c κs = tt
+
 returns : tie.Need-returns
 unfolding reconciliation
 returns c =
-    let at-answer-type = c .before .before .before .answer-type in
-    let at-typed = c .before .before .typed in
-    c .with-sent-fields .ensures ∙ rw (
-      c .before .with-field48 .ensures,
+    let at-answer-type = c .before .before .before .before .before .before .answer-type in
+    let at-typed = c .before .before .before .before .before .typed in
+    let at-with-field48 = c .before .before .before .with-field48 in
+    c .joined .ensures ∙ c .before .with-sent-fields .ensures ∙ rw (
+      at-with-field48 .ensures,
       at-typed .ensures,
       at-answer-type .ensures,
     )
@@ -36,4 +40,5 @@ reconciliation-spec =
     typed-requires
     with-field48-requires
     with-sent-fields-requires
+    joined-requires
     returns)

@@ -25,16 +25,21 @@ with-bytes-requires c κs = search needs
 with-also-requires : tie.Need-with-also-requires
 with-also-requires c κs = search needs
 
+joined-requires : tie.Need-joined-requires
+joined-requires c κs = tt
+
 returns : tie.Need-returns
 unfolding reply
 returns c =
-    let at-left-as = c .before .before .before .before .before .before .left-as in
-    let at-answer-type = c .before .before .before .before .before .answer-type in
-    let at-typed = c .before .before .before .before .typed in
-    let at-with-sent-fields = c .before .before .before .with-sent-fields in
+    let at-left-as = c .before .before .before .before .before .before .before .before .before .before .left-as in
+    let at-answer-type = c .before .before .before .before .before .before .before .before .before .answer-type in
+    let at-typed = c .before .before .before .before .before .before .before .before .typed in
+    let at-with-sent-fields = c .before .before .before .before .before .before .with-sent-fields in
+    let at-with-bytes = c .before .before .before .with-bytes in
     rw (
-      c .with-also .ensures,
-      c .before .with-bytes .ensures,
+      c .joined .ensures,
+      c .before .with-also .ensures,
+      at-with-bytes .ensures,
       at-with-sent-fields .ensures,
       at-typed .ensures,
       at-answer-type .ensures,
@@ -52,4 +57,5 @@ reply-spec =
     slice-aggregate-with-bytes
     with-bytes-requires
     with-also-requires
+    joined-requires
     returns)

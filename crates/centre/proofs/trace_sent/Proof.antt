@@ -3,6 +3,9 @@ use borrow.Author.Needs.{needs}
 use Rattle.centre.proofs.trace_sent.Statement.{statement}
 use Rattle.centre.proofs.trace_sent.Tie as tie
 
+head-of-requires : tie.Need-head-of-requires
+head-of-requires c κs = tt
+
 number-in-requires : tie.Need-number-in-requires
 number-in-requires c κs = search needs
 
@@ -10,7 +13,9 @@ numeral-requires : tie.Need-numeral-requires
 numeral-requires c κs = search needs
 
 returns : tie.Need-returns
-returns c = rw (c .numeral .ensures, c .before .number-in .ensures)
+returns c =
+    let at-head-of = c .before .before .before .before .head-of in
+    rw (c .numeral .ensures, c .before .number-in .ensures, at-head-of .ensures)
 
 pub trace-sent-spec : {M : Type 1} → statement M
-trace-sent-spec = tie.close (tie.spec number-in-requires numeral-requires returns)
+trace-sent-spec = tie.close (tie.spec head-of-requires number-in-requires numeral-requires returns)

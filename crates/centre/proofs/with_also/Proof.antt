@@ -25,19 +25,23 @@ enum-told-5 : tie.Need-enum-told-5
 enum-told-5 c = search needs
 
 returns : tie.Need-returns
-returns c = search needs
+returns c = rw (c .enum-told .given .1)
 
 returns-2 : tie.Need-returns-2
-returns-2 c = rw (c .before .enum-told2 .given .1) (c .with-approval-fields .ensures)
+returns-2 c =
+    let at-enum-told2 = c .before .before .enum-told2 in
+    rw (at-enum-told2 .given .1) (c .with-approval-fields .ensures)
 
 returns-3 : tie.Need-returns-3
-returns-3 c = rw (c .before .enum-told3 .given .1) (c .with-mac .ensures)
+returns-3 c =
+    let at-enum-told3 = c .before .before .enum-told3 in
+    rw (at-enum-told3 .given .1) (c .with-mac .ensures)
 
 returns-4 : tie.Need-returns-4
-returns-4 c = search needs
+returns-4 c = rw (c .enum-told4 .given .1)
 
 returns-5 : tie.Need-returns-5
-returns-5 c = search needs
+returns-5 c = rw (c .enum-told5 .given .1)
 
 pub with-also-spec : {M : Type 1} → statement M
 with-also-spec =

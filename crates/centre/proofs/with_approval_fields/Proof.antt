@@ -22,13 +22,14 @@ with-mac-requires c κs = search needs
 
 returns : tie.Need-returns
 returns c =
-    let at-args = c .before .before .before .before .before .args in
-    let at-with-digits-sent = c .before .before .before .before .with-digits-sent in
-    let at-with-number = c .before .before .before .with-number in
-    let at-with-trace-figures = c .before .before .with-trace-figures in
+    let at-args = c .before .before .before .before .before .before .before .before .before .before .args in
+    let at-with-digits-sent = c .before .before .before .before .before .before .before .before .with-digits-sent in
+    let at-with-number = c .before .before .before .before .before .before .with-number in
+    let at-with-trace-figures = c .before .before .before .before .with-trace-figures in
+    let at-with-authorisation = c .before .before .with-authorisation in
     rw (
       c .with-mac .ensures,
-      c .before .with-authorisation .ensures,
+      at-with-authorisation .ensures,
       at-with-trace-figures .ensures,
       at-with-number .ensures,
       at-with-digits-sent .ensures,

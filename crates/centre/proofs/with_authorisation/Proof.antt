@@ -11,8 +11,9 @@ with-trace-figures-requires c κs = search needs
 
 returns : tie.Need-returns
 returns c =
-    let at-is-approval = c .before .before .is-approval in
-    rw (← at-is-approval .ensures, c .before .if1 .taken, c .with-trace-figures .ensures)
+    let at-is-approval = c .before .before .before .is-approval in
+    let at-if1 = c .before .before .if1 in
+    rw (← at-is-approval .ensures, at-if1 .taken, c .with-trace-figures .ensures)
 
 returns-2 : tie.Need-returns-2
 returns-2 c = rw (← c .before .is-approval .ensures, c .if1 .left)

@@ -2,6 +2,8 @@
 use mathlib.Core.List.{List, [], _∷_}
 use Prim.Native.Nat.{ℕ}
 use borrow.Author.Needs.{needs}
+use denote.Ref.{now}
+use Rattle.message.specs.Message.{whole}
 use Rattle.parts.specs.declared.Part.the-variants.{DebitAmount, DebitCount, CreditAmount, CreditCount}
 use Rattle.compose.proofs.Laid.{laid-put}
 use Rattle.centre_totals.specs.Totals.{sentPart}
@@ -19,11 +21,11 @@ with-digits-requires c κs = search needs
 
 returns : tie.Need-returns
 returns c =
-    let at-args = c .before .before .before .args in
-    let at-field48-with = c .before .before .field48-with in
+    let at-args = c .before .before .before .before .args in
+    let at-field48-with = c .before .before .before .field48-with in
     let xs : List ℕ = sentPart DebitAmount (at-args .sent) ∷ sentPart DebitCount (at-args .sent) ∷ sentPart CreditAmount (at-args .sent) ∷
     sentPart CreditCount (at-args .sent) ∷ at-args .digit ∷ [] in
-    laid-put (at-args .m) 48 xs (at-field48-with .ensures) (c .with-digits .ensures)
+    laid-put (whole (at-args .h) (now (at-args .contents))) 48 xs (at-field48-with .ensures) (c .with-digits .ensures)
 
 pub with-field48-spec : {M : Type 1} → statement M
 with-field48-spec =

@@ -17,11 +17,12 @@ with-digits-sent-requires-2 c κs = search needs
 
 returns : tie.Need-returns
 returns c =
-    let at-with-digits-sent = c .before .before .before .with-digits-sent in
-    let at-with-bytes-sent = c .before .before .with-bytes-sent in
+    let at-with-digits-sent = c .before .before .before .before .before .before .with-digits-sent in
+    let at-with-bytes-sent = c .before .before .before .before .with-bytes-sent in
+    let at-with-bytes-sent2 = c .before .before .with-bytes-sent2 in
     rw (
       c .with-digits-sent2 .ensures,
-      c .before .with-bytes-sent2 .ensures,
+      at-with-bytes-sent2 .ensures,
       at-with-bytes-sent .ensures,
       at-with-digits-sent .ensures,
     )

@@ -3,6 +3,8 @@ use mathlib.Core.Path.{sym}
 use borrow.Author.Needs.{needs}
 use native.Mathlib.Omega.{arith}
 use lib.Seq.{length-take-le}
+use denote.Ref.{now}
+use Rattle.message.specs.Message.{whole}
 use Rattle.compose.proofs.Places.{front-there}
 use Rattle.centre.proofs.Sent.{zeros, figures-put}
 use Rattle.centre.proofs.with_trace_figures.Statement.{statement}
@@ -57,12 +59,12 @@ with-bytes-requires c κs = search needs
 
 returns : tie.Need-returns
 returns c =
-    let at-args = c .before .before .before .before .before .before .before .before .before .before .args in
-    let at-pre = c .before .before .before .before .before .before .before .before .before .before .pre in
-    let at-trace-sent = c .before .before .before .before .before .before .before .before .before .trace-sent in
-    let at-put-number = c .before .before .before .before .before .before .before .put-number in
-    let at-put-hex = c .before .before .before .put-hex in
-    figures-put (at-args .m) (at-args .n) (at-args .sent) (at-args .pairs) at-pre (at-trace-sent .ensures) (at-put-number .kept .1 .0)
+    let at-args = c .before .before .before .before .before .before .before .before .before .before .before .args in
+    let at-pre = c .before .before .before .before .before .before .before .before .before .before .before .pre in
+    let at-trace-sent = c .before .before .before .before .before .before .before .before .before .before .trace-sent in
+    let at-put-number = c .before .before .before .before .before .before .before .before .put-number in
+    let at-put-hex = c .before .before .before .before .put-hex in
+    figures-put (whole (at-args .h) (now (at-args .contents))) (at-args .n) (at-args .sent) (at-args .pairs) at-pre (at-trace-sent .ensures) (at-put-number .kept .1 .0)
     (at-put-number .ensures) (at-put-hex .kept .1 .0) (at-put-hex .ensures .0) (at-put-hex .ensures .1) (c .with-bytes .ensures)
 
 pub with-trace-figures-spec : {M : Type 1} → statement M

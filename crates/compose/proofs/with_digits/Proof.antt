@@ -6,6 +6,7 @@ use Prim.Native.Nat.{ℕ}
 use denote.Ref.{now}
 use lib.ListN.{replicate}
 use lib.Seq.{length-take-le}
+use Rattle.message.specs.Message.{whole}
 use Rattle.compose.proofs.Places.{front-there, digits-long, digits-not, digits-put}
 use Rattle.compose.proofs.with_digits.Statement.{statement}
 use Rattle.compose.proofs.with_digits.Tie as tie
@@ -44,19 +45,25 @@ with-item-requires c κs = search needs
 
 returns-2 : tie.Need-returns-2
 returns-2 c =
-    let at-args-ds = c .before .before .before .before .before .before .before .before .args .ds in
-    let at-args-m = c .before .before .before .before .before .before .before .before .args .m in
-    let at-pack-into-ensures = c .before .before .before .before .pack-into .ensures in
-    let at-if2-taken = c .before .before .if2 .taken in
-    digits-put at-args-m _ (now at-args-ds) (replicate {A = ℕ} 128 0) refl (omega arith) (at-pack-into-ensures .0) at-if2-taken
-    (at-pack-into-ensures .1) (c .with-item .ensures)
+    let at-args-contents = c .before .before .before .before .before .before .before .before .before .args .contents in
+    let at-args-h = c .before .before .before .before .before .before .before .before .before .args .h in
+    let at-args-ds = c .before .before .before .before .before .before .before .before .before .args .ds in
+    let at-pack-into-ensures = c .before .before .before .before .before .pack-into .ensures in
+    let at-if2-taken = c .before .before .before .if2 .taken in
+    digits-put (whole at-args-h
+    (now at-args-contents)) _
+    (now at-args-ds) (replicate {A = ℕ} 128 0) refl (omega arith) (at-pack-into-ensures .0)
+    at-if2-taken (at-pack-into-ensures .1) (c .with-item .ensures)
 
 returns-3 : tie.Need-returns-3
 returns-3 c =
+    let at-args-contents = c .before .before .before .before .before .before .args .contents in
+    let at-args-h = c .before .before .before .before .before .before .args .h in
     let at-args-ds = c .before .before .before .before .before .before .args .ds in
-    let at-args-m = c .before .before .before .before .before .before .args .m in
     let at-pack-into-ensures = c .before .before .pack-into .ensures in
-    digits-not at-args-m _ (now at-args-ds) (replicate {A = ℕ} 128 0) refl (omega arith) (at-pack-into-ensures .0) (c .if2 .left)
+    digits-not (whole at-args-h
+    (now at-args-contents)) _
+    (now at-args-ds) (replicate {A = ℕ} 128 0) refl (omega arith) (at-pack-into-ensures .0) (c .if2 .left)
 
 pub with-digits-spec : {M : Type 1} → statement M
 with-digits-spec =

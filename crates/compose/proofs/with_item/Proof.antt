@@ -6,6 +6,8 @@ use mathlib.Core.List.{[]}
 use lib.ListN.{length}
 use denote.Ref.{now}
 use Rattle.field.specs.Table.{rows}
+use Rattle.message.specs.Message.{empty}
+use Rattle.message.specs.Message.{whole}
 use Rattle.compose.proofs.Places.{left-out, not-allowed, count-small, not-in-form, put-fits, put-item}
 use Rattle.compose.proofs.with_item.Statement.{statement}
 use Rattle.compose.proofs.with_item.Tie as tie
@@ -21,11 +23,10 @@ is-allowed-requires c κs = search needs
 
 cast-held : tie.Need-cast-held
 cast-held c =
-    let at-args-m = c .before .before .before .before .before .before .before .args .m in
     let at-locate-ensures = c .before .before .before .before .before .locate .ensures in
     let at-row-given = c .before .before .before .row .given in
     let e = sym at-locate-ensures ∙ at-row-given .1 in
-    omega (arith, count-small at-args-m _ _ [] e (c .before .is-allowed .ensures) (c .if1 .taken))
+    omega (arith, count-small empty _ _ [] e (c .before .is-allowed .ensures) (c .if1 .taken))
 
 in-form-requires : tie.Need-in-form-requires
 in-form-requires c κs = search needs
@@ -35,31 +36,36 @@ size-of-requires c κs = search needs
 
 put-requires : tie.Need-put-requires
 put-requires c κs =
-    let at-args = c .before .before .before .before .before .before .before .before .before .before .args in
-    let at-locate = c .before .before .before .before .before .before .before .before .locate in
-    let at-row = c .before .before .before .before .before .before .row in
-    let at-is-allowed = c .before .before .before .before .is-allowed in
-    let at-if1 = c .before .before .before .if1 in
-    let at-in-form = c .before .before .in-form in
+    let at-args = c .before .before .before .before .before .before .before .before .before .before .before .args in
+    let at-locate = c .before .before .before .before .before .before .before .before .before .locate in
+    let at-row = c .before .before .before .before .before .before .before .row in
+    let at-is-allowed = c .before .before .before .before .before .is-allowed in
+    let at-if1 = c .before .before .before .before .if1 in
+    let at-in-form = c .before .before .before .in-form in
+    let at-if2 = c .before .before .if2 in
     let e = sym (at-locate .ensures) ∙ at-row .given .1 in
-    put-fits (at-args .m) _ _ (now (at-args .b)) e (at-is-allowed .ensures) (at-in-form .ensures) (at-if1 .taken) (c .before .if2 .taken)
-    (c .size-of .ensures)
+    put-fits empty _ _ (now (at-args .b)) e (at-is-allowed .ensures) (at-in-form .ensures)
+    (at-if1 .taken) (at-if2 .taken) (c .before .size-of .ensures)
 
 returns : tie.Need-returns
 returns c =
-    let at-args-b = c .before .before .before .before .before .before .before .before .before .before .before .args .b in
-    let at-args-m = c .before .before .before .before .before .before .before .before .before .before .before .args .m in
-    let at-locate-ensures = c .before .before .before .before .before .before .before .before .before .locate .ensures in
-    let at-row-given = c .before .before .before .before .before .before .before .row .given in
-    let at-is-allowed-ensures = c .before .before .before .before .before .is-allowed .ensures in
-    let at-if1-taken = c .before .before .before .before .if1 .taken in
-    let at-in-form-ensures = c .before .before .before .in-form .ensures in
-    let at-if2-taken = c .before .before .if2 .taken in
-    let g = c .before .before .before .before .before .before .before .before .before .before .before .good .0 in
-    let l : length (at-args-m .counts) ≡ rows = search needs in
+    let at-args-b = c .before .before .before .before .before .before .before .before .before .before .before .before .args .b in
+    let at-args-contents = c .before .before .before .before .before .before .before .before .before .before .before .before .args
+    .contents in
+    let at-args-h = c .before .before .before .before .before .before .before .before .before .before .before .before .args .h in
+    let at-locate-ensures = c .before .before .before .before .before .before .before .before .before .before .locate .ensures in
+    let at-row-given = c .before .before .before .before .before .before .before .before .row .given in
+    let at-is-allowed-ensures = c .before .before .before .before .before .before .is-allowed .ensures in
+    let at-if1-taken = c .before .before .before .before .before .if1 .taken in
+    let at-in-form-ensures = c .before .before .before .before .in-form .ensures in
+    let at-if2-taken = c .before .before .before .if2 .taken in
+    let at-size-of-ensures = c .before .before .size-of .ensures in
+    let g = c .before .before .before .before .before .before .before .before .before .before .before .before .good .0 in
+    let l : length (at-args-h .counts) ≡ rows = search needs in
     let e = sym at-locate-ensures ∙ at-row-given .1 in
-    put-item at-args-m _ _ (now at-args-b) e at-is-allowed-ensures at-in-form-ensures at-if1-taken at-if2-taken
-    (c .before .size-of .ensures) l (c .put .ensures)
+    put-item (whole at-args-h
+    (now at-args-contents)) _ _
+    (now at-args-b) e at-is-allowed-ensures at-in-form-ensures at-if1-taken at-if2-taken at-size-of-ensures l (c .put .ensures)
 
 enum-told : tie.Need-enum-told
 enum-told c = search needs

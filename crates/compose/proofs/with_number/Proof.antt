@@ -5,6 +5,8 @@ use native.Mathlib.Omega.{arith}
 use Prim.Native.Nat.{ℕ}
 use lib.ListN.{replicate}
 use lib.Seq.{length-take-le}
+use denote.Ref.{now}
+use Rattle.message.specs.Message.{whole}
 use Rattle.compose.proofs.Places.{front-there, number-put}
 use Rattle.compose.proofs.with_number.Statement.{statement}
 use Rattle.compose.proofs.with_number.Tie as tie
@@ -36,13 +38,15 @@ with-digits-requires c κs = search needs
 
 returns : tie.Need-returns
 returns c =
-    let at-args-count = c .before .before .before .before .before .before .args .count in
-    let at-args-m = c .before .before .before .before .before .before .args .m in
-    let at-args-x = c .before .before .before .before .before .before .args .x in
-    let at-wide-ensures = c .before .before .before .before .before .wide .ensures in
-    let at-digits-into-ensures = c .before .before .before .digits-into .ensures in
-    number-put at-args-m _ at-args-count at-args-x (replicate {A = ℕ} 255 0) at-wide-ensures (omega arith) at-digits-into-ensures
-    (c .with-digits .ensures)
+    let at-args-contents = c .before .before .before .before .before .before .before .args .contents in
+    let at-args-count = c .before .before .before .before .before .before .before .args .count in
+    let at-args-h = c .before .before .before .before .before .before .before .args .h in
+    let at-args-x = c .before .before .before .before .before .before .before .args .x in
+    let at-wide-ensures = c .before .before .before .before .before .before .wide .ensures in
+    let at-digits-into-ensures = c .before .before .before .before .digits-into .ensures in
+    number-put (whole at-args-h
+    (now at-args-contents)) _
+    at-args-count at-args-x (replicate {A = ℕ} 255 0) at-wide-ensures (omega arith) at-digits-into-ensures (c .with-digits .ensures)
 
 pub with-number-spec : {M : Type 1} → statement M
 with-number-spec =

@@ -21,17 +21,22 @@ with-card-fields-requires c κs = search needs
 with-original-fields-requires : tie.Need-with-original-fields-requires
 with-original-fields-requires c κs = search needs
 
+joined-requires : tie.Need-joined-requires
+joined-requires c κs = tt
+
 returns : tie.Need-returns
 returns c =
-    let at-args = c .before .before .before .before .args in
-    let at-indicator-of = c .before .before .before .indicator-of in
-    let at-typed = c .before .before .typed in
-    c .with-original-fields .ensures ∙ rw (
-      c .before .with-card-fields .ensures,
+    let at-args = c .before .before .before .before .before .before .before .args in
+    let at-indicator-of = c .before .before .before .before .before .before .indicator-of in
+    let at-typed = c .before .before .before .before .before .typed in
+    let at-with-card-fields = c .before .before .before .with-card-fields in
+    c .joined .ensures ∙ c .before .with-original-fields .ensures ∙ rw (
+      at-with-card-fields .ensures,
       at-typed .ensures,
       at-indicator-of .ensures,
     )
-    (sym (all-append (cardFields (at-args .x) (at-args .batch) (at-args .chip) (at-args .q)) (originalFields (at-args .q .kind) (at-args .o))
+    (sym (all-append (cardFields (at-args .x) (at-args .batch) (at-args .chip) (at-args .q))
+    (originalFields (at-args .q .kind) (at-args .o))
     (messageOf (indicatorOf (at-args .q .kind)) [])))
 
 pub request-message-spec : {M : Type 1} → statement M
@@ -42,4 +47,5 @@ request-message-spec =
     typed-requires
     with-card-fields-requires
     with-original-fields-requires
+    joined-requires
     returns)

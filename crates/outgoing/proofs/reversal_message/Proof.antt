@@ -17,15 +17,18 @@ with-card-fields-requires c κs = search needs
 with-reason-requires : tie.Need-with-reason-requires
 with-reason-requires c κs = search needs
 
+joined-requires : tie.Need-joined-requires
+joined-requires c κs = tt
+
 returns : tie.Need-returns
 returns c =
-    let at-args = c .before .before .before .before .args in
-    let at-typed = c .before .before .typed in
+    let at-args = c .before .before .before .before .before .before .before .args in
+    let at-typed = c .before .before .before .before .before .typed in
+    let at-with-card-fields = c .before .before .before .with-card-fields in
     let xs = cardFields (at-args .x) (at-args .batch) (at-args .chip) (at-args .v .request) in
-    c .with-reason .ensures
-    ∙ rw (c .before .with-card-fields .ensures, at-typed .ensures)
+    c .joined .ensures ∙ c .before .with-reason .ensures ∙ rw (at-with-card-fields .ensures, at-typed .ensures)
     (sym (all-append xs (bytes 39 (reasonCode (at-args .v .reason)) ∷ []) (messageOf 0x0400 [])))
 
 pub reversal-message-spec : {M : Type 1} → statement M
 reversal-message-spec =
-    tie.close (tie.spec typed-requires with-card-fields-requires with-reason-requires returns)
+    tie.close (tie.spec typed-requires with-card-fields-requires with-reason-requires joined-requires returns)

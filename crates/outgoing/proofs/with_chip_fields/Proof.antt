@@ -33,7 +33,7 @@ with-bytes-requires c κs = search needs
 
 returns-2 : tie.Need-returns-2
 returns-2 c =
-    let at-if1 = c .before .before .before .before .if1 in
+    let at-if1 = c .before .before .before .before .before .if1 in
     rw (ne-eqb _ 0 (at-if1 .left)) (c .with-bytes .ensures)
 
 pub with-chip-fields-spec : {M : Type 1} → statement M

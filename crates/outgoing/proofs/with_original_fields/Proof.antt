@@ -24,13 +24,14 @@ with-field61-requires c κs = search needs
 
 returns : tie.Need-returns
 returns c =
-    let at-takes-original = c .before .before .before .before .before .before .takes-original in
-    let at-if1 = c .before .before .before .before .before .if1 in
-    let at-with-bytes = c .before .before .before .with-bytes in
+    let at-takes-original = c .before .before .before .before .before .before .before .before .before .takes-original in
+    let at-if1 = c .before .before .before .before .before .before .before .before .if1 in
+    let at-with-bytes = c .before .before .before .before .before .with-bytes in
+    let at-with-bytes2 = c .before .before .with-bytes2 in
     rw (
       sym (at-takes-original .ensures) ∙ at-if1 .taken,
       c .with-field61 .ensures,
-      c .before .with-bytes2 .ensures,
+      at-with-bytes2 .ensures,
       at-with-bytes .ensures,
     )
 
@@ -48,15 +49,16 @@ with-field61-requires-2 c κs = search needs
 
 returns-2 : tie.Need-returns-2
 returns-2 c =
-    let at-takes-original = c .before .before .before .before .before .before .takes-original in
-    let at-if1 = c .before .before .before .before .before .if1 in
-    let at-keys-reference = c .before .before .before .before .keys-reference in
-    let at-if2 = c .before .before .before .if2 in
+    let at-takes-original = c .before .before .before .before .before .before .before .before .takes-original in
+    let at-if1 = c .before .before .before .before .before .before .before .if1 in
+    let at-keys-reference = c .before .before .before .before .before .before .keys-reference in
+    let at-if2 = c .before .before .before .before .before .if2 in
+    let at-with-bytes3 = c .before .before .with-bytes3 in
     rw (
       sym (at-takes-original .ensures) ∙ at-if1 .left,
       sym (at-keys-reference .ensures) ∙ at-if2 .taken,
       c .with-field612 .ensures,
-      c .before .with-bytes3 .ensures,
+      at-with-bytes3 .ensures,
     )
 
 keys-authorisation-requires : tie.Need-keys-authorisation-requires
@@ -73,18 +75,19 @@ with-field61-requires-3 c κs = search needs
 
 returns-3 : tie.Need-returns-3
 returns-3 c =
-    let at-takes-original = c .before .before .before .before .before .before .before .before .takes-original in
-    let at-if1 = c .before .before .before .before .before .before .before .if1 in
-    let at-keys-reference = c .before .before .before .before .before .before .keys-reference in
-    let at-if2 = c .before .before .before .before .before .if2 in
-    let at-keys-authorisation = c .before .before .before .before .keys-authorisation in
-    let at-if3 = c .before .before .before .if3 in
+    let at-takes-original = c .before .before .before .before .before .before .before .before .before .before .takes-original in
+    let at-if1 = c .before .before .before .before .before .before .before .before .before .if1 in
+    let at-keys-reference = c .before .before .before .before .before .before .before .before .keys-reference in
+    let at-if2 = c .before .before .before .before .before .before .before .if2 in
+    let at-keys-authorisation = c .before .before .before .before .before .before .keys-authorisation in
+    let at-if3 = c .before .before .before .before .before .if3 in
+    let at-with-bytes4 = c .before .before .with-bytes4 in
     rw (
       sym (at-takes-original .ensures) ∙ at-if1 .left,
       sym (at-keys-reference .ensures) ∙ at-if2 .left,
       sym (at-keys-authorisation .ensures) ∙ at-if3 .taken,
       c .with-field613 .ensures,
-      c .before .with-bytes4 .ensures,
+      at-with-bytes4 .ensures,
     )
 
 returns-4 : tie.Need-returns-4

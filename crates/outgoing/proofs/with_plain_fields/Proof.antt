@@ -41,8 +41,8 @@ with-number-requires-6 c κs = search needs
 
 slice-aggregate-with-bytes : tie.Need-slice-aggregate-with-bytes
 slice-aggregate-with-bytes c =
-    let g = c .before .before .before .before .before .before .before .before .before .before .before .before .before .before .before .good
-    .1 .0 in
+    let g = c .before .before .before .before .before .before .before .before .before .before .before .before .before .before .before
+    .before .before .before .before .before .before .good .1 .0 in
     search needs
 
 with-bytes-requires : tie.Need-with-bytes-requires
@@ -51,7 +51,7 @@ with-bytes-requires c κs = search needs
 slice-aggregate-with-bytes-2 : tie.Need-slice-aggregate-with-bytes-2
 slice-aggregate-with-bytes-2 c =
     let g = c .before .before .before .before .before .before .before .before .before .before .before .before .before .before .before
-    .before .before .good .1 .0 in
+    .before .before .before .before .before .before .before .before .before .good .1 .0 in
     search needs
 
 with-bytes-requires-2 : tie.Need-with-bytes-requires-2
@@ -75,22 +75,27 @@ with-bytes-requires-4 c κs = search needs
 returns : tie.Need-returns
 returns c =
     let at-with-number = c .before .before .before .before .before .before .before .before .before .before .before .before .before .before
-    .before .before .before .before .with-number in
+    .before .before .before .before .before .before .before .before .before .before .before .before .before .before .with-number in
     let at-processing-of = c .before .before .before .before .before .before .before .before .before .before .before .before .before
-    .before .before .before .before .processing-of in
+    .before .before .before .before .before .before .before .before .before .before .before .before .before .before .processing-of in
     let at-with-number2 = c .before .before .before .before .before .before .before .before .before .before .before .before .before .before
-    .before .before .with-number2 in
+    .before .before .before .before .before .before .before .before .before .before .before .with-number2 in
     let at-with-number3 = c .before .before .before .before .before .before .before .before .before .before .before .before .before .before
-    .before .with-number3 in
-    let at-with-number4 = c .before .before .before .before .before .before .before .before .before .before .before .before .before
-    .with-number4 in
-    let at-with-number5 = c .before .before .before .before .before .before .before .before .before .before .before .with-number5 in
-    let at-condition-of = c .before .before .before .before .before .before .before .before .before .before .condition-of in
-    let at-with-number6 = c .before .before .before .before .before .before .before .before .before .with-number6 in
-    let at-with-bytes = c .before .before .before .before .before .before .before .with-bytes in
-    let at-with-bytes2 = c .before .before .before .before .before .with-bytes2 in
-    let at-with-bytes3 = c .before .before .before .with-bytes3 in
-    let at-with-field60 = c .before .before .with-field60 in
+    .before .before .before .before .before .before .before .before .before .with-number3 in
+    let at-with-number4 = c .before .before .before .before .before .before .before .before .before .before .before .before .before .before
+    .before .before .before .before .before .before .with-number4 in
+    let at-entry-mode = c .before .before .before .before .before .before .before .before .before .before .before .before .before .before
+    .before .before .before .before .before .entry-mode in
+    let at-with-number5 = c .before .before .before .before .before .before .before .before .before .before .before .before .before .before
+    .before .before .before .with-number5 in
+    let at-condition-of = c .before .before .before .before .before .before .before .before .before .before .before .before .before .before
+    .before .before .condition-of in
+    let at-with-number6 = c .before .before .before .before .before .before .before .before .before .before .before .before .before .before
+    .with-number6 in
+    let at-with-bytes = c .before .before .before .before .before .before .before .before .before .before .before .with-bytes in
+    let at-with-bytes2 = c .before .before .before .before .before .before .before .before .with-bytes2 in
+    let at-with-bytes3 = c .before .before .before .before .before .with-bytes3 in
+    let at-with-field60 = c .before .before .before .with-field60 in
     rw (
       c .with-bytes4 .ensures,
       at-with-field60 .ensures,
@@ -100,7 +105,7 @@ returns c =
       at-with-number6 .ensures,
       at-condition-of .ensures,
       at-with-number5 .ensures,
-      c .before .before .before .before .before .before .before .before .before .before .before .before .entry-mode .ensures,
+      at-entry-mode .ensures,
       at-with-number4 .ensures,
       at-with-number3 .ensures,
       at-with-number2 .ensures,
