@@ -1,4 +1,4 @@
-// A message put together field by field.
+// A message put together field by field: each field is put into lent contents, and the head after that is given.
 use field::Format;
 use message::Contents;
 use message::Head;
