@@ -61,6 +61,7 @@ static uint8_t exchange(struct desk *desk, const struct call *call);
 static bool receive(struct desk *desk, uint8_t *bytes, size_t *size, int64_t deadline);
 static bool card_is_awaited(const struct desk *desk);
 static void end_by_card(struct desk *desk, enum call_name name);
+static void tell_end(struct desk *desk);
 static bool next_line(struct desk *desk, struct input *input, char **line, size_t *length);
 static int64_t next_second(int64_t now, int64_t deadline);
 static void tell_waiting(const char *whom, int64_t deadline);
@@ -96,6 +97,9 @@ void desk_begin(struct desk *desk, uint32_t batch)
         printf("none\n");
     } else {
         tell_request(&desk->terminal.last);
+    }
+    if (number(desk, WHISTLAUREL_ENTRIES) > 0) {
+        tell_totals(desk);
     }
     printf("ready, batch %06" PRIu64 "\n", number(desk, WHISTLAUREL_BATCH));
 }
@@ -226,8 +230,17 @@ static void end_by_card(struct desk *desk, enum call_name name)
         return;
     }
     send_reversals(desk);
-    tell_request(&desk->terminal.last);
+    tell_end(desk);
     trial_point("after-told");
+}
+
+/* Tells how the last request ended and, where it was approved, the totals. */
+static void tell_end(struct desk *desk)
+{
+    tell_request(&desk->terminal.last);
+    if (desk->terminal.last.ending == APPROVED) {
+        tell_totals(desk);
+    }
 }
 
 /* Waits for a line; false at the end of input. A card is silent where its time is out before. */
@@ -284,11 +297,10 @@ static void send_reversals(struct desk *desk)
 static void settle(struct desk *desk)
 {
     const struct call settle_call = {.name = SETTLE};
-    const struct terminal *terminal = &desk->terminal;
     uint64_t batch = number(desk, WHISTLAUREL_BATCH);
     uint64_t totals[4];
 
-    whistlaurel_totals(terminal->image, sizeof terminal->image, terminal->journal, sizeof terminal->journal, totals);
+    whistlaurel_totals(desk->terminal.image, sizeof desk->terminal.image, totals);
     if (number(desk, WHISTLAUREL_PHASE) != WHISTLAUREL_UPLOADING) {
         uint8_t result = exchange(desk, &settle_call);
 
@@ -384,7 +396,7 @@ static void request(struct desk *desk, const struct card_command *command, char 
         tell_card_awaited(&desk->terminal.last);
     } else {
         send_reversals(desk);
-        tell_request(&desk->terminal.last);
+        tell_end(desk);
     }
     trial_point("after-told");
 }
@@ -473,10 +485,9 @@ static void tell_counts(struct desk *desk)
 
 static void tell_totals(struct desk *desk)
 {
-    const struct terminal *terminal = &desk->terminal;
     uint64_t totals[4];
 
-    whistlaurel_totals(terminal->image, sizeof terminal->image, terminal->journal, sizeof terminal->journal, totals);
+    whistlaurel_totals(desk->terminal.image, sizeof desk->terminal.image, totals);
     printf("totals debit ");
     tell_amount(totals[0]);
     printf(" in %" PRIu64 " credit ", totals[1]);

@@ -18,7 +18,7 @@ struct desk {
 
 /*
  * Begins after a stop of any kind: power returned, signed on with the batch number (0: the terminal's own), reversal, settlement and upload
- * brought to their end, and the last request told.
+ * brought to their end, and the last request told, with the totals where the batch has an entry.
  */
 void desk_begin(struct desk *desk, uint32_t batch);
 

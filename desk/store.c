@@ -10,7 +10,7 @@
 #include "trial.h"
 #include "trouble.h"
 
-enum { FORMAT = 2 };
+enum { FORMAT = 3 };
 
 #define REQUEST_COLUMNS \
     "kind INTEGER NOT NULL, ending INTEGER NOT NULL, trace INTEGER NOT NULL, amount INTEGER NOT NULL, card TEXT NOT NULL, " \

@@ -29,7 +29,7 @@ extern "C" {
 #endif
 
 /* Bytes of an image, of a message buffer and of a journal entry. */
-#define WHISTLAUREL_IMAGE_SIZE 383
+#define WHISTLAUREL_IMAGE_SIZE 403
 #define WHISTLAUREL_MESSAGE_SIZE 505
 #define WHISTLAUREL_ENTRY_SIZE 48
 
@@ -105,6 +105,10 @@ enum whistlaurel_row {
     WHISTLAUREL_REVERSED,
     WHISTLAUREL_GIVEN_UP,
     WHISTLAUREL_UNANSWERED,
+    WHISTLAUREL_DEBIT_AMOUNT,              /* in fen, of the batch's approved sales and completions; a voided one stays */
+    WHISTLAUREL_DEBIT_COUNT,               /* how many these are */
+    WHISTLAUREL_CREDIT_AMOUNT,             /* in fen, of the batch's approved refunds and voids of sales and completions */
+    WHISTLAUREL_CREDIT_COUNT,              /* how many these are */
     WHISTLAUREL_PHASE,                     /* enum whistlaurel_phase */
     WHISTLAUREL_REQUEST_KIND,              /* of the request that is awaited or reversed */
     WHISTLAUREL_REQUEST_AMOUNT,
@@ -153,8 +157,8 @@ size_t whistlaurel_message_size(void);
 size_t whistlaurel_entry_size(void);
 
 /*
- * Makes a fresh terminal: signed off, in batch 1, resting, journal empty, counts 0, next trace 1. The settings are judged by the calls,
- * which refuse by 2. Returns 0, or 2 where image_size is not WHISTLAUREL_IMAGE_SIZE.
+ * Makes a fresh terminal: signed off, in batch 1, resting, journal empty, counts and totals 0, next trace 1. The settings are judged by
+ * the calls, which refuse by 2. Returns 0, or 2 where image_size is not WHISTLAUREL_IMAGE_SIZE.
  */
 uint8_t whistlaurel_fresh(uint8_t *image, size_t image_size, uint32_t entry_limit, uint8_t sendings, uint64_t largest_refund,
                           const uint8_t terminal[8], const uint8_t merchant[15]);
@@ -214,8 +218,11 @@ uint8_t whistlaurel_send_next_upload(uint8_t *image, size_t image_size, uint8_t 
 /* Sets *number to the number of a row (enum whistlaurel_row). Returns 0, or 2 where there is no such row or the bytes are no image. */
 uint8_t whistlaurel_number(const uint8_t *image, size_t image_size, size_t row, uint64_t *number);
 
-/* Sets totals to debit amount, debit count, credit amount and credit count of the journal's entries. Returns 0, or 2 for no image. */
-uint8_t whistlaurel_totals(const uint8_t *image, size_t image_size, const uint8_t *journal, size_t journal_size, uint64_t totals[4]);
+/*
+ * Sets totals to debit amount, debit count, credit amount and credit count of the batch, amounts in fen, as they stand in the image: a call
+ * that is not refused leaves there the sums of the journal's entries. Returns 0, or 2 for no image.
+ */
+uint8_t whistlaurel_totals(const uint8_t *image, size_t image_size, uint64_t totals[4]);
 
 /* Whether bytes are a well-formed message: 0, or the number 3 to 9 or 23 by which they are refused. */
 uint8_t whistlaurel_read(const uint8_t *bytes, size_t bytes_size);

@@ -110,6 +110,9 @@ class Comparer:
         self.asked = None               # the request whose card has the last word now
         self.card_words = 0             # card's words given in this life and not refused
         self.late_word = None           # trace of a request that ended otherwise than its card's word, given last
+        self.totals_due = None          # trace of the approved request after which the totals come next
+        self.is_starting = False        # the desk has not said yet that it is ready
+        self.totals_at_start = 0        # how often the totals were shown before that
         self.listing = None             # lines of a journal or doubtful list under way
         self.listing_left = 0
         self.figures = collections.Counter()
@@ -146,16 +149,19 @@ class Comparer:
     def _take_started(self, _event):
         self.command = None
         self.listing = None
-        self.asked = self.late_word = None
-        self.card_words = 0
+        self.asked = self.late_word = self.totals_due = None
+        self.card_words = self.totals_at_start = 0
+        self.is_starting = True
 
     def _take_killed(self, _event):
+        self.totals_due = None
         self.figures["kills"] += 1
         if self.asked:
             self.figures["kills in the wait for a card"] += 1
         self._note_loss()
 
     def _take_ended(self, event):
+        self._look_for_totals()
         if event.status != 0:
             self._differ("exit", f"the desk ended with status {event.status}: {event.words}")
 
@@ -166,6 +172,7 @@ class Comparer:
         self._differ("noise", f"the desk sent {event.words}")
 
     def _take_command(self, event):
+        self._look_for_totals()
         self.command = event.text.split()
         self.command_has_sent = False
         self.listing = [] if self.command[0] in ("journal", "doubtful") else None
@@ -177,6 +184,12 @@ class Comparer:
             self.card_words += 1
             if self.asked:
                 self.asked.card_word = self.asked.card_word or self.command[0]
+
+    def _look_for_totals(self):
+        """Something else comes where the totals are due."""
+        if self.totals_due:
+            self._differ("totals line", f"{self.totals_due} is called approved, and the totals do not follow", self.totals_due)
+        self.totals_due = None
 
     def _note_loss(self):
         self.losses += 1
@@ -374,20 +387,23 @@ class Comparer:
     def _compare_settlement(self, message):
         number, sums = iso.batch_of(message), message[48][:30]
         batch = self.batches[number]
-        told = self._sums(self._due(number))
-        if sums != told:
-            self._differ("settlement", f"settlement {message[11]} of batch {number} carries {sums}, the desk's approved requests give {told}",
-                         message[11])
+        words = f"settlement {message[11]} of batch {number} carries {sums}"
+        self._compare_sums("settlement", words, sums, number, message[11])
         if batch.sums not in (None, sums):
-            self._differ("settlement", f"settlement {message[11]} of batch {number} carries {sums}, the one before it {batch.sums}", message[11])
+            self._differ("settlement", f"{words}, the one before it {batch.sums}", message[11])
         batch.sums = sums
-        held = [request for request in self.requests.values() if request.batch == number and request.is_held and request.word not in DOUBTFUL]
-        if sums != self._sums(held):
-            self._differ("settlement and ledger", f"settlement {message[11]} of batch {number} carries {sums}, the centre's ledger without "
-                         f"doubtful requests gives {self._sums(held)}", message[11])
         for request in self.requests.values():
             if request.batch == number:
                 self._compare_holding(request)
+
+    def _compare_sums(self, name, words, sums, number, trace=None):
+        """The sums that the desk has for a batch: with its approved requests, and with the centre's ledger."""
+        told = self._sums(self._due(number))
+        if sums != told:
+            self._differ(name, f"{words}, the desk's approved requests give {told}", trace)
+        held = [request for request in self.requests.values() if request.batch == number and request.is_held and request.word not in DOUBTFUL]
+        if sums != self._sums(held):
+            self._differ(f"{name} and ledger", f"{words}, the centre's ledger without doubtful requests gives {self._sums(held)}", trace)
 
     def _compare_item(self, message):
         trace = message[11]
@@ -417,6 +433,8 @@ class Comparer:
         if self.late_word and not text.startswith("refused (14)"):
             self._differ("consent lost", f"the card agreed, and {self.late_word} ended otherwise", self.late_word)
         self.late_word = None
+        if not TOTALS.fullmatch(text):
+            self._look_for_totals()
         if text.startswith("last request: "):
             self._compare_last(text)
         if self.listing is not None:
@@ -477,6 +495,8 @@ class Comparer:
             self._differ("result line", f"kind, amount, card or chip of the line is not that of request {trace}: {line}", trace)
         self._compare_result(request, word, code, tail)
         self._compare_consent(request, word)
+        if word == "approved" and not self.is_starting:
+            self.totals_due = trace
 
     def _compare_consent(self, request, word):
         """What a chip's card has agreed to is approved, and nothing else."""
@@ -532,6 +552,9 @@ class Comparer:
         self._note_batch(match.group(1))
         for request in self._without_word():
             self._differ("untold", f"the desk is ready and has not said how request {request.trace} ended", request.trace)
+        if self.is_starting and self.totals_at_start != bool(self.entries()):
+            self._differ("totals line", f"the batch has {len(self.entries())} entries, and the start shows the totals {self.totals_at_start} times")
+        self.is_starting = False
 
     def _take_counts(self, match):
         words = collections.Counter(request.word for request in self._open_batch())
@@ -540,8 +563,14 @@ class Comparer:
             self._differ("counts", f"the desk says {match.group(0)!r}, its result lines give {told}")
 
     def _take_totals(self, match):
-        if _sums_of_words(match.groups()) != self._sums(self.entries()):
-            self._differ("totals", f"the desk says {match.group(0)!r}, its approved requests give {self._sums(self.entries())}")
+        """They come after each approval, once at a start where the batch has an entry, and at the command."""
+        self.figures["totals compared"] += 1
+        if self.is_starting:
+            self.totals_at_start += 1
+        elif not self.totals_due and self.command != ["totals"]:
+            self._differ("totals line", f"nobody asked for the totals, and the desk says {match.group(0)!r}")
+        self.totals_due = None
+        self._compare_sums("totals", f"the desk says {match.group(0)!r}", _sums_of_words(match.groups()), self.batch)
 
     def _take_state(self, match):
         number, next_trace, signed, entries, phase = match.groups()

@@ -47,14 +47,14 @@ def sound():
         ("start", Started(1, "")), ("", Line("last request: none")), ("", Line("ready, batch 000001")),
         # 1: approved.
         ("", Command(f"sale 12000 {CARD}")), ("request 1", request("22", 1, 12000)), ("held 1", Held("000001")),
-        ("answer 1", approval("22", 1, 12000)), ("line 1", result("22", 1, "approved", 12000)),
+        ("answer 1", approval("22", 1, 12000)), ("line 1", result("22", 1, "approved", 12000)), ("totals 1", totals(12000, 1, 0, 0)),
         # 2: lost on the way, reversed.
         ("", Command(f"sale 8000 {CARD}")), ("request 2", request("22", 2, 8000)), ("reversal 2", reversal("22", 2, 8000)),
         ("ended 2", reversal_answer("22", 2, 8000, "25")), ("line 2", result("22", 2, "reversed", 8000)),
         # 3: voids 1. The desk is killed before it tells, and tells after its start.
         ("", Command("sale-void 000001")), ("request 3", void(3, 1, 12000)), ("held 3", Held("000003")),
         ("answer 3", approval("23", 3, 12000)), ("", Killed("after-answer-store:9")), ("", Started(1, "")),
-        ("line 3", last(result("23", 3, "approved", 12000))), ("", Line("ready, batch 000001")),
+        ("line 3", last(result("23", 3, "approved", 12000))), ("totals 3", totals(12000, 1, 12000, 1)), ("", Line("ready, batch 000001")),
         # 4: held by the centre, its reversal given up.
         ("", Command(f"sale 5000 {CARD}")), ("request 4", request("22", 4, 5000)), ("held 4", Held("000004")),
         ("reversal 4 a", reversal("22", 4, 5000)), ("reversal 4 b", reversal("22", 4, 5000)), ("reversal 4 c", reversal("22", 4, 5000)),
@@ -79,7 +79,7 @@ def sound_chips():
         # 8: the card agrees.
         ("command 8", Command(f"sale 2500 {CARD} chip {CHIP.hex()}")), ("request 8", chip_request("22", 8, 2500)), ("held 8", Held("000008")),
         ("answer 8", approval("22", 8, 2500)), ("asked 8", asked("22", 8, 2500)), ("word 8", Command("card-agrees")),
-        ("line 8", result("22", 8, "approved", 2500, chip=True)),
+        ("line 8", result("22", 8, "approved", 2500, chip=True)), ("totals 8", totals(14500, 2, 12000, 1)),
         # 9: the card declines.
         ("", Command(f"authorise 600 {CARD} chip {CHIP.hex()}")), ("request 9", chip_request("10", 9, 600)), ("held 9", Held("000009")),
         ("answer 9", approval("10", 9, 600)), ("asked 9", asked("10", 9, 600)), ("word 9", Command("card-declines")),
@@ -90,7 +90,7 @@ def sound_chips():
         ("answer 10", approval("22", 10, 400)), ("asked 10", asked("22", 10, 400)), ("", Killed("random")), ("", Started(1, "")),
         ("reversal 10", chip_reversal("22", 10, 400)), ("released 10", Released("000010")),
         ("ended 10", reversal_answer("22", 10, 400, "00")), ("line 10", last(result("22", 10, "reversed", 400, chip=True))),
-        ("", Line("ready, batch 000001")),
+        ("totals 10", totals(14500, 2, 12000, 1)), ("", Line("ready, batch 000001")),
         # Refused: a tag twice; a card's word when none is awaited.
         ("command 23", Command(f"sale 100 {CARD} chip 82008200")), ("refused 23", Line("refused (23): the chip's data are out of form")),
         ("", Command("card-agrees")), ("refused 14", Line("refused (14): nothing is awaited, pending or to be uploaded")),
@@ -100,7 +100,7 @@ def sound_chips():
 def sound_settlement():
     return [
         ("", Command("counts")), ("counts", Line("counts sent 10 approved 3 declined 1 reversed 4 given-up 1 unanswered 1")),
-        ("", Command("totals")), ("totals", Line("totals debit 145.00 yuan in 2 credit 120.00 yuan in 1")),
+        ("", Command("totals")), ("totals", totals(14500, 2, 12000, 1)),
         ("", Command("journal")), ("entry 1", entry("22", 1, 12000, ", voided")), ("entry 3", entry("23", 3, 12000)),
         ("entry 8", entry("22", 8, 2500)), ("entries", Line("journal 3 entries")),
         ("", Command("doubtful")), ("", Line("doubtful: 2")), ("doubtful 4", result("22", 4, "given up", 5000)),
@@ -111,13 +111,14 @@ def sound_settlement():
         ("accepted 3", upload_answer("23", 3, "201")), ("", item("22", 8, 2500)), ("", upload_answer("22", 8, "201")),
         ("end", upload_end(12)), ("closing", upload_answer("00", 12, "202")),
         ("settled", Line("settled batch 000001: debit 145.00 yuan in 2, credit 120.00 yuan in 1")),
+        ("", Command("totals")), ("closed totals", totals(0, 0, 0, 0)),
         ("", Command("quit")), ("quit", Ended(0, "")),
     ]
 
 
 def planted_faults():
     """(what is wrong, name of the difference that must be found, change of the sound history)."""
-    return faults_of_requests() + faults_of_chips() + faults_of_settlement()
+    return faults_of_requests() + faults_of_chips() + faults_of_totals() + faults_of_settlement()
 
 
 def faults_of_requests():
@@ -191,6 +192,30 @@ def faults_of_chips():
     ]
 
 
+def faults_of_totals():
+    return [
+        ("totals off by one fen after a sale", "totals", replace("totals 1", totals(12001, 1, 0, 0))),
+        ("totals with one sale too many", "totals", replace("totals 8", totals(14500, 3, 12000, 1))),
+        ("totals with debit and credit exchanged", "totals", replace("totals 1", totals(0, 0, 12000, 1))),
+        ("totals with the amounts of debit and credit exchanged", "totals", replace("totals 8", totals(12000, 2, 14500, 1))),
+        ("totals without the sale before them", "totals", replace("totals 8", totals(12000, 1, 12000, 1))),
+        ("totals without a void that is told late", "totals", replace("totals 3", totals(12000, 1, 0, 0))),
+        ("a voided sale taken out of the totals", "totals", replace("totals 3", totals(0, 0, 12000, 1))),
+        ("totals lost by a start", "totals", replace("totals 10", totals(0, 0, 0, 0))),
+        ("totals with a sale that the card declined", "totals", replace("totals 10", totals(14900, 3, 12000, 1))),
+        ("totals that do not fit at the command", "totals", replace("totals", totals(14500, 2, 0, 0))),
+        ("totals that outlast their batch", "totals", replace("closed totals", totals(14500, 2, 12000, 1))),
+        ("totals without what the centre holds", "totals and ledger", without("released 7")),
+        ("no totals after a sale", "totals line", without("totals 1")),
+        ("no totals after the card's consent", "totals line", without("totals 8")),
+        ("no totals after an approval that is told late", "totals line", without("totals 3")),
+        ("no totals at a start", "totals line", without("totals 10")),
+        ("totals twice at a start", "totals line", after("totals 3", totals(12000, 1, 12000, 1))),
+        ("totals before the approval", "totals line", move("line 1", "totals 1")),
+        ("totals after a decline", "totals line", after("line 6", totals(12000, 1, 12000, 1))),
+    ]
+
+
 def faults_of_settlement():
     return [
         ("a settlement off by one fen", "settlement", replace("settlement", settlement(11, 14501, 2, 12000, 1))),
@@ -203,7 +228,6 @@ def faults_of_settlement():
         ("a card request after the settlement", "request while settling", after("settlement", request("22", 12, 100))),
         ("a doubtful list that lacks a request", "doubtful", replace("doubtful 5", result("22", 4, "given up", 5000))),
         ("counts that do not fit", "counts", replace("counts", Line("counts sent 10 approved 3 declined 1 reversed 5 given-up 0 unanswered 1"))),
-        ("totals that do not fit", "totals", replace("totals", Line("totals debit 145.00 yuan in 2 credit 0.00 yuan in 0"))),
         ("a journal without an entry", "journal", without("entry 3")),
         ("a journal whose entry is not voided", "journal", replace("entry 1", entry("22", 1, 12000))),
         ("an upload that leaves out an entry", "upload ended early", without("item 3", "accepted 3")),
@@ -327,6 +351,11 @@ def result(kind, trace, word, amount, code="", chip=False):
 
 def last(line):
     return Line("last request: " + line.text)
+
+
+def totals(debit, debit_count, credit, credit_count):
+    return Line(f"totals debit {debit // 100}.{debit % 100:02d} yuan in {debit_count} "
+                f"credit {credit // 100}.{credit % 100:02d} yuan in {credit_count}")
 
 
 def entry(kind, trace, amount, voided=""):

@@ -211,7 +211,8 @@ class Store:
                 self._command(text, None)
             if not self.comparer.is_settling:
                 break
-        self._command("doubtful", None)
+        for text in ("doubtful", "totals"):
+            self._command(text, None)
         self.desk.give("quit")
         self.desk.wait()
         if self.comparer.is_settling:
@@ -270,10 +271,12 @@ class Store:
                 given = turn.popleft()
                 self.desk.give(given)
             line = self.desk.line(kill_at)
+            is_end = line is not None and RESULT.fullmatch(line) is not None
+            if is_end and _is_approved(line):
+                line = self.desk.line(kill_at)
             if line is None:
                 self.desk.kill()
                 return False
-            is_end = RESULT.fullmatch(line) is not None
             has_ended = has_ended or is_end
             if not is_end or given and given.startswith("card-"):
                 given = None
@@ -377,9 +380,17 @@ def _lines_left(command, line, left):
         return left     # of a card's word that came too late
     if word == "journal":
         return 0 if line.startswith("journal ") or line.startswith("error") else None
-    if word == "doubtful":
-        return int(line.split()[1]) if left is None and line.startswith("doubtful: ") else (left or 1) - 1
-    return 0
+    if left:
+        return left - 1
+    if line.startswith("doubtful: "):
+        return int(line.split()[1])
+    return 1 if _is_approved(line) else 0
+
+
+def _is_approved(line):
+    """Whether a line says that a request is approved: then the totals follow."""
+    result = RESULT.fullmatch(line)
+    return result is not None and result.group(3) == "approved"
 
 
 def show_difference(store, difference):
@@ -392,7 +403,7 @@ def show_difference(store, difference):
 def show_figures(figures, differences, seconds):
     names = ("rounds", "random kills", "kills at points", "messages", "card requests", "approved", "declined", "reversed", "given up",
              "unanswered", "reversals", "settlements", "closings", "upload items", "upload ends", "refusals", "journals compared",
-             "doubtful lists compared", "chip requests", "cards asked", "cards agreed", "cards declined", "cards silent",
+             "totals compared", "doubtful lists compared", "chip requests", "cards asked", "cards agreed", "cards declined", "cards silent",
              "kills in the wait for a card")
     for name in names:
         print(f"{name}: {figures[name]}")

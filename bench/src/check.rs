@@ -134,7 +134,7 @@ fn compare_sale(sale: &Sale, chip: &[u8]) -> Result<(), String> {
     same(what, terminal.sent(), &out[..written.unwrap_or(0)])
 }
 
-/// The totals of a full journal, as the library has them and as the plain pass does.
+/// The totals of a full journal, as the image has them and as the plain pass over the entries does.
 fn compare_totals() -> Result<(), String> {
     for order in [Order::Ascending, Order::Random] {
         let terminal = terminals::resting(MOST_ENTRIES, order);

@@ -1,6 +1,6 @@
 //! The C interface, include/whistlaurel.h, as far as it is measured.
 
-pub const IMAGE_SIZE: usize = 383;
+pub const IMAGE_SIZE: usize = 403;
 pub const MESSAGE_SIZE: usize = 505;
 pub const ENTRY_SIZE: usize = 48;
 pub const MOST_ENTRIES: usize = 300;
@@ -116,11 +116,10 @@ impl Terminal {
         self.call(whistlaurel_send_next_upload)
     }
 
-    /// Debit amount, debit count, credit amount and credit count.
+    /// Debit amount, debit count, credit amount and credit count, as they stand in the image.
     pub fn totals(&self) -> [u64; 4] {
         let mut totals = [0; 4];
-        let (image, journal) = (self.image.as_ptr(), self.journal.as_ptr());
-        let given = unsafe { whistlaurel_totals(image, IMAGE_SIZE, journal, self.journal.len(), totals.as_mut_ptr()) };
+        let given = unsafe { whistlaurel_totals(self.image.as_ptr(), IMAGE_SIZE, totals.as_mut_ptr()) };
         assert_eq!(given, QUIET, "totals of a terminal");
         totals
     }
@@ -237,7 +236,7 @@ extern "C" {
         message_size: usize,
         length: *mut usize,
     ) -> u8;
-    fn whistlaurel_totals(image: *const u8, image_size: usize, journal: *const u8, journal_size: usize, totals: *mut u64) -> u8;
+    fn whistlaurel_totals(image: *const u8, image_size: usize, totals: *mut u64) -> u8;
     fn whistlaurel_read(bytes: *const u8, bytes_size: usize) -> u8;
     fn whistlaurel_field(
         bytes: *const u8,

@@ -85,6 +85,11 @@ def answer_to(asked, code="00", digit="1", good=True):
     return data + (mac_of(data) if good else bytes(8))
 
 
+def totals(debit, debits, credit=0, credits=0):
+    """The line of the totals; amounts are in fen."""
+    return "totals debit %d.%02d yuan in %d credit %d.%02d yuan in %d" % (*divmod(debit, 100), debits, *divmod(credit, 100), credits)
+
+
 def frame(message, front=ANSWER_FRONT):
     return (len(front) + len(message)).to_bytes(2, "big") + front + message
 
@@ -203,6 +208,7 @@ class DeskTest(unittest.TestCase):
         self.assertEqual(lines, [
             "last request: none", "ready, batch 000007",
             "sale 000001: approved 120.00 yuan, card %s, reference 000000000001, authorisation A00001" % MASKED,
+            "totals debit 120.00 yuan in 1 credit 0.00 yuan in 0",
             "counts sent 1 approved 1 declined 0 reversed 0 given-up 0 unanswered 0",
             "totals debit 120.00 yuan in 1 credit 0.00 yuan in 0",
             "state batch 000007 next-trace 000002 signed-on entries 1 resting",
@@ -216,12 +222,33 @@ class DeskTest(unittest.TestCase):
         lines = self.desk(self.centre(), "authorise 500 " + CARD, "complete 500 %s A00001 1116" % CARD, "complete-void 2",
                           "authorise-void 500 %s A00001 1116" % CARD, "sale 700 " + CARD, "sale-void 5",
                           "refund 300 %s 000000000005 1116" % CARD, "totals", "journal")
-        self.assertEqual([line.split(":")[0] for line in lines[2:9]],
+        self.assertEqual([line.split(":")[0] for line in lines[2:16:2]],
                          ["authorise 000001", "complete 000002", "complete-void 000003", "authorise-void 000004", "sale 000005",
                           "sale-void 000006", "refund 000007"])
-        self.assertTrue(all(": approved " in line for line in lines[2:9]))
-        self.assertEqual(lines[9], "totals debit 12.00 yuan in 2 credit 15.00 yuan in 3")
-        self.assertTrue(lines[14].startswith("sale 000005: 7.00 yuan") and lines[14].endswith(", voided"))
+        self.assertTrue(all(": approved " in line for line in lines[2:16:2]))
+        self.assertEqual(lines[3:16:2], [totals(0, 0), totals(500, 1), totals(500, 1, 500, 1), totals(500, 1, 500, 1), totals(1200, 2, 500, 1),
+                                         totals(1200, 2, 1200, 2), totals(1200, 2, 1500, 3)])
+        self.assertEqual(lines[16], lines[15])
+        self.assertTrue(lines[21].startswith("sale 000005: 7.00 yuan") and lines[21].endswith(", voided"))
+
+    def test_totals_are_shown(self):
+        """After each approval and at each start, as they stand; a decline and a reversal leave them, a settlement begins anew."""
+        self.time_out = SHORT
+        centre = self.centre("good", "good", "code 51", "silent", "good")
+        after_sale, after_void = totals(12000, 1), totals(12000, 1, 12000, 1)
+        lines = self.desk(centre, "sale 12000 " + CARD, "sale-void 1", "sale 700 " + CARD, "totals", "sale 700 " + CARD, "totals")
+        self.assertEqual([line.split(" ")[2] if line.startswith("sale") else line for line in lines[2:]],
+                         ["approved", after_sale, "approved", after_void, "declined", after_void, "reversed", after_void])
+        self.desk(centre, "sale 5 " + CARD, kill="after-answer:1", status=-signal.SIGKILL)
+        self.assertEqual([line for line in self.desk(centre) if line.startswith("totals")], [after_void])
+        self.desk(centre, "sale 5 " + CARD, kill="after-answer-store:1", status=-signal.SIGKILL)
+        lines = self.desk(centre, "totals", "settle", "totals", "authorise 100 " + CARD)
+        approved = "last request: sale 000006: approved 0.05 yuan, card %s, reference 000000000006, authorisation A00006" % MASKED
+        self.assertEqual(lines[:5], [approved, totals(12005, 2, 12000, 1), "ready, batch 000001", totals(12005, 2, 12000, 1),
+                                     "settled batch 000001: debit 120.05 yuan in 2, credit 120.00 yuan in 1"])
+        self.assertEqual([lines[5], lines[7]], [totals(0, 0)] * 2)
+        self.assertEqual(self.desk(centre, "settle")[1:3], [totals(0, 0), "ready, batch 000002"])
+        self.assertEqual(self.desk(centre)[1:], ["ready, batch 000003"])
 
     def test_declined(self):
         lines = self.desk(self.centre("code 51"), "sale 12000 " + CARD)
@@ -233,8 +260,8 @@ class DeskTest(unittest.TestCase):
             with self.subTest(word):
                 centre = self.centre(word)
                 lines = self.desk(centre, "sale 12000 " + CARD, "sale 100 " + CARD)
-                self.assertRegex(lines[2], r"^sale \d{6}: reversed 120.00 yuan, card %s$" % re.escape(MASKED))
-                self.assertIn(": approved 1.00 yuan", lines[3])
+                self.assertRegex(lines[-3], r"^sale \d{6}: reversed 120.00 yuan, card %s$" % re.escape(MASKED))
+                self.assertIn(": approved 1.00 yuan", lines[-2])
                 self.assertEqual(centre.types(), ["0200", "0400", "0200"])
                 self.assertEqual((centre.asked[1][39], centre.asked[1][11]), (b"98", centre.asked[0][11]))
                 self.assertEqual(centre.connections, 2)
@@ -254,16 +281,16 @@ class DeskTest(unittest.TestCase):
         self.assertEqual(lines[2:], [
             "refused (14): nothing is awaited, pending or to be uploaded", PROMPT,
             "state batch 000001 next-trace 000002 signed-on entries 0 card-awaited",
-            "counts sent 1 approved 0 declined 0 reversed 0 given-up 0 unanswered 0", approved,
+            "counts sent 1 approved 0 declined 0 reversed 0 given-up 0 unanswered 0", approved, totals(12000, 1),
             "refused (14): nothing is awaited, pending or to be uploaded",
             "state batch 000001 next-trace 000002 signed-on entries 1 resting",
             "counts sent 1 approved 1 declined 0 reversed 0 given-up 0 unanswered 0",
             "sale 000001: 120.00 yuan, card %s, date 1116, reference 000000000001, authorisation A00001" % MASKED, "journal 1 entries",
             "authorise 000002: the centre approves 5.00 yuan, card %s, chip; card-agrees or card-declines" % MASKED,
-            "authorise 000002: approved 5.00 yuan, card %s, chip, reference 000000000002, authorisation A00002" % MASKED])
+            "authorise 000002: approved 5.00 yuan, card %s, chip, reference 000000000002, authorisation A00002" % MASKED, totals(12000, 1)])
         self.assertEqual([(asked["type"], asked[22], asked[55]) for asked in centre.asked],
                          [("0200", "052", bytes.fromhex(CHIP)), ("0100", "052", bytes.fromhex(CHIP))])
-        self.assertEqual(self.desk(centre)[0], "last request: " + lines[-1])
+        self.assertEqual(self.desk(centre)[:2], ["last request: " + lines[-2], totals(12000, 1)])
 
     def reversed_by_the_card(self, centre, lines):
         """The request is reversed with reason 06, its fields as they were sent."""
@@ -299,7 +326,7 @@ class DeskTest(unittest.TestCase):
                           "settle")
         self.assertEqual(lines[3:7] + [lines[7][:5]], [refused] * 4 + ["error"])
         self.assertIn(": approved 120.00 yuan", lines[8])
-        self.assertEqual(lines[9], "settled batch 000001: debit 120.00 yuan in 1, credit 0.00 yuan in 0")
+        self.assertEqual(lines[9:], [totals(12000, 1), "settled batch 000001: debit 120.00 yuan in 1, credit 0.00 yuan in 0"])
         self.assertEqual(centre.types(), ["0200", "0500"])
 
     def test_silent_card(self):
@@ -335,7 +362,8 @@ class DeskTest(unittest.TestCase):
                 time.sleep(0.2)
             out, _ = desk.communicate()
         self.assertEqual([line.split(":")[0] for line in out.splitlines()[2:]],
-                         ["sale 000001", "state batch 000001 next-trace 000002 signed-on entries 0 card-awaited", "sale 000001"])
+                         ["sale 000001", "state batch 000001 next-trace 000002 signed-on entries 0 card-awaited", "sale 000001",
+                          totals(12000, 1)])
         self.assertIn(": approved 120.00 yuan", out.splitlines()[4])
 
     def test_killed_while_the_card_is_awaited(self):
@@ -358,6 +386,7 @@ class DeskTest(unittest.TestCase):
                 else:
                     self.assertEqual(centre.types(), ["0200"])
                     self.assertIn(": approved 120.00 yuan, card %s, chip, reference" % MASKED, lines[0])
+                self.assertEqual([line for line in lines if line.startswith("totals")], [] if reason else [totals(12000, 1)])
 
     def test_chip_does_not_outlast_its_request(self):
         """Field 55 stands in the store while its request is out, and in none of its files once that has ended."""
@@ -395,7 +424,7 @@ class DeskTest(unittest.TestCase):
     def test_noise_and_answers_to_something_else(self):
         centre = self.centre("noise", "foreign", "twice 00")
         lines = self.desk(centre, *["sale 100 " + CARD] * 4)
-        self.assertTrue(all(": approved 1.00 yuan" in line for line in lines[2:6]), lines)
+        self.assertTrue(all(": approved 1.00 yuan" in line for line in lines[2:10:2]), lines)
         self.assertEqual((centre.types(), centre.connections), (["0200"] * 4, 1))
 
     def test_waiting_bytes_are_dropped_before_sending(self):
@@ -420,7 +449,7 @@ class DeskTest(unittest.TestCase):
         self.time_out = SHORT
         centre = self.centre("good", "silent")
         lines = self.desk(centre, "sale 12000 " + CARD, "settle", "sale 100 " + CARD, "state", "settle", "state")
-        self.assertEqual(lines[3:], [
+        self.assertEqual(lines[4:], [
             "settlement not answered; settle again", "refused (13): the batch is settling or uploading; settle first",
             "state batch 000001 next-trace 000003 signed-on entries 1 settling",
             "settled batch 000001: debit 120.00 yuan in 1, credit 0.00 yuan in 0",
@@ -430,7 +459,7 @@ class DeskTest(unittest.TestCase):
         self.time_out = SHORT
         centre = self.centre("good", "good", "digit 2", "silent", "good", "good", *["silent"] * 5)
         lines = self.desk(centre, "sale 12000 " + CARD, "sale 100 " + CARD, "settle", "state", "settle", "state")
-        self.assertEqual(lines[4:], [
+        self.assertEqual(lines[6:], [
             "upload not answered; settle again", "state batch 000001 next-trace 000009 signed-on entries 2 uploading",
             "settled batch 000001: debit 121.00 yuan in 2, credit 0.00 yuan in 0",
             "state batch 000002 next-trace 000010 signed-on entries 0 resting"])
@@ -456,7 +485,8 @@ class DeskTest(unittest.TestCase):
                 lines = self.desk(centre, "sale 12000 " + CARD, kill=point, status=-signal.SIGKILL)
                 self.assertEqual([line for line in lines if line.startswith("sale")], ["sale 000001: " + approved] if told else [])
                 lines = self.desk(centre, "counts")
-                self.assertEqual(lines[0], "last request: " + ("sale 000001: " + ending if ending else "none"))
+                self.assertEqual(lines[:-1], ["last request: " + ("sale 000001: " + ending if ending else "none"),
+                                              *[totals(12000, 1)] * (ending == approved), "ready, batch 000001"])
                 left = ["0200"] * (ending is not None and point != "after-store:1") + ["0400"] * (ending == reversed_)
                 self.assertEqual(centre.wait_for(len(left)), left)
 
@@ -492,7 +522,7 @@ class DeskTest(unittest.TestCase):
         self.desk(centre, "sale 300 " + CARD, "sale 0 " + CARD, "sale-void 2", "sale-void 2")
         self.assertEqual(self.change("SELECT what FROM written"),
                          [("image",), ("image",), ("image",), ("image",), (2,), ("image",), ("image",), (1,), (3,)])
-        self.assertEqual(self.change("SELECT version FROM format"), [(2,)])
+        self.assertEqual(self.change("SELECT version FROM format"), [(3,)])
         self.assertEqual(os.stat(self.store).st_mode & 0o077, 0)
 
     def change(self, sql, *values):
@@ -529,7 +559,7 @@ class DeskTest(unittest.TestCase):
                 ("lost entry", lambda: self.change("DELETE FROM journal"), "have changed since they were stored"),
                 ("gap", lambda: self.change("UPDATE journal SET place = 5"), "its journal has gaps"),
                 ("no image", lambda: self.change("DELETE FROM state"), "it holds no image"),
-                ("format", lambda: self.change("UPDATE format SET version = 1"), "another format"),
+                ("format", lambda: self.change("UPDATE format SET version = 2"), "another format"),
                 ("other file", lambda: self.change("DROP TABLE format"), "no store of a desk")):
             with self.subTest(name):
                 self.store = os.path.join(self.folder, name)
@@ -551,7 +581,7 @@ class DeskTest(unittest.TestCase):
         self.assertEqual(self.error.count("\n"), 1)
         self.assertIn("cannot be read or written", self.error)
         told = [line for line in lines if ": approved" in line and line.startswith("sale")]
-        self.assertEqual(len(told), len(lines) - 2)
+        self.assertEqual(len(lines), 3 + 2 * len(told))
         lines = self.desk(centre, "journal", "counts")
         self.assertIn("reversed", lines[0])
         self.assertIn("journal %d entries" % (1 + len(told)), lines)

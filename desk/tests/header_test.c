@@ -47,6 +47,7 @@ static void refusals_of_phase(void);
 static void refusals_of_requests(void);
 static void refusals_of_chips(void);
 static void refusal_of_totals(void);
+static void refusals_of_sums(void);
 
 int main(void)
 {
@@ -64,6 +65,7 @@ int main(void)
     refusals_of_requests();
     refusals_of_chips();
     refusal_of_totals();
+    refusals_of_sums();
     printf("header_test: %s\n", failures == 0 ? "every constant holds" : "failed");
     return failures == 0 ? 0 : 1;
 }
@@ -222,6 +224,19 @@ static void counts_are(const struct terminal *t, const uint64_t counts[6])
     HOLDS(number(t, WHISTLAUREL_UNANSWERED) == counts[5]);
 }
 
+/* Compares the totals, as the rows have them and as whistlaurel_totals gives them: debit amount and count, credit amount and count. */
+static void totals_are(const struct terminal *t, const uint64_t totals[4])
+{
+    uint64_t given[4] = {UINT64_MAX, UINT64_MAX, UINT64_MAX, UINT64_MAX};
+
+    HOLDS(whistlaurel_totals(t->image, sizeof t->image, given) == WHISTLAUREL_QUIET);
+    HOLDS(memcmp(given, totals, sizeof given) == 0);
+    HOLDS(number(t, WHISTLAUREL_DEBIT_AMOUNT) == totals[0]);
+    HOLDS(number(t, WHISTLAUREL_DEBIT_COUNT) == totals[1]);
+    HOLDS(number(t, WHISTLAUREL_CREDIT_AMOUNT) == totals[2]);
+    HOLDS(number(t, WHISTLAUREL_CREDIT_COUNT) == totals[3]);
+}
+
 static uint64_t word_of(const uint8_t *bytes, size_t size)
 {
     uint64_t word = 0;
@@ -237,7 +252,7 @@ static void first_rows(void)
     struct terminal t = terminal_of(10, 2);
     uint64_t n;
 
-    HOLDS(number(&t, WHISTLAUREL_VERSION) == 2 && word_of(t.image, 2) == 2);
+    HOLDS(number(&t, WHISTLAUREL_VERSION) == 3 && word_of(t.image, 2) == 3);
     HOLDS(number(&t, WHISTLAUREL_ENTRY_LIMIT) == 10);
     HOLDS(number(&t, WHISTLAUREL_SENDINGS) == 2);
     HOLDS(number(&t, WHISTLAUREL_REFUND_LIMIT) == 100000);
@@ -248,13 +263,16 @@ static void first_rows(void)
     HOLDS(number(&t, WHISTLAUREL_BATCH) == FIRST_BATCH);
     HOLDS(number(&t, WHISTLAUREL_NEXT_TRACE) == 1);
     HOLDS(number(&t, WHISTLAUREL_ENTRIES) == 0);
+    totals_are(&t, (uint64_t[4]){0});
     phase_is(&t, WHISTLAUREL_RESTING, (uint64_t[WHISTLAUREL_ROWS]){0});
     HOLDS(whistlaurel_number(t.image, sizeof t.image, WHISTLAUREL_ROWS, &n) == WHISTLAUREL_OUT_OF_FORM);
     approve(&t, WHISTLAUREL_SALE, 12000, 0);
     HOLDS(number(&t, WHISTLAUREL_NEXT_TRACE) == 2);
     HOLDS(number(&t, WHISTLAUREL_ENTRIES) == 1);
+    totals_are(&t, (uint64_t[4]){12000, 1, 0, 0});
     HOLDS(whistlaurel_power_returned(LENT(&t)) == WHISTLAUREL_QUIET);
     HOLDS(number(&t, WHISTLAUREL_IS_SIGNED_ON) == 0);
+    totals_are(&t, (uint64_t[4]){12000, 1, 0, 0});
 }
 
 /* A request and its reversal: awaited, pending, reversal awaited; by silence and by a bad MAC. */
@@ -290,6 +308,7 @@ static void reversal_phases(void)
     HOLDS(start(&t, WHISTLAUREL_SALE, 500, 0) == WHISTLAUREL_SENDS);
     HOLDS(reply(&t, "51", 0, true) == WHISTLAUREL_QUIET);
     counts_are(&t, (uint64_t[]){5, 1, 1, 1, 1, 1});
+    totals_are(&t, (uint64_t[4]){12000, 1, 0, 0});
 }
 
 /* The message that left holds this field 55, and says in field 22 that the chip was read; with reason, for a reversal. */
@@ -323,9 +342,11 @@ static void card_phases(void)
     rows[WHISTLAUREL_CARD_AWAITED] = 1;
     phase_is(&t, WHISTLAUREL_REQUEST_AWAITED, rows);
     counts_are(&t, (uint64_t[]){1, 0, 0, 0, 0, 0});
+    totals_are(&t, (uint64_t[4]){0});
     HOLDS(whistlaurel_card_agrees(LENT(&t)) == WHISTLAUREL_QUIET);
     phase_is(&t, WHISTLAUREL_RESTING, (uint64_t[WHISTLAUREL_ROWS]){0});
     counts_are(&t, (uint64_t[]){1, 1, 0, 0, 0, 0});
+    totals_are(&t, (uint64_t[4]){100, 1, 0, 0});
     HOLDS(start_chip(&t, WHISTLAUREL_SALE, field_55, sizeof field_55) == WHISTLAUREL_SENDS);
     HOLDS(reply(&t, "00", 0, true) == WHISTLAUREL_QUIET);
     HOLDS(whistlaurel_card_declines(LENT(&t)) == WHISTLAUREL_QUIET);
@@ -342,6 +363,17 @@ static void card_phases(void)
     HOLDS(whistlaurel_no_answer(LENT(&t)) == WHISTLAUREL_QUIET);
     HOLDS(number(&t, WHISTLAUREL_PHASE) == WHISTLAUREL_PENDING && number(&t, WHISTLAUREL_REVERSAL_REASON) == 2);
     counts_are(&t, (uint64_t[]){3, 1, 0, 1, 0, 0});
+    totals_are(&t, (uint64_t[4]){100, 1, 0, 0});
+}
+
+/* The message that left holds these first 30 digits of field 48, packed. */
+static void settlement_carries(const struct terminal *t, const char sums[15])
+{
+    uint8_t field_48[31];
+    size_t count = 0;
+
+    HOLDS(whistlaurel_field(t->message, t->length, 48, field_48, sizeof field_48, &count) == 0 && count == 62);
+    HOLDS(memcmp(field_48, sums, 15) == 0);
 }
 
 /* Settlement and upload, and the marks of an entry on the way. */
@@ -355,7 +387,9 @@ static void closing_phases(void)
     approve(&t, WHISTLAUREL_SALE, 100, 0);
     approve(&t, WHISTLAUREL_SALE, 200, 0);
     approve(&t, WHISTLAUREL_REFUND, 300, 0);
+    totals_are(&t, (uint64_t[4]){300, 2, 300, 1});
     HOLDS(whistlaurel_settle(LENT(&t)) == WHISTLAUREL_SENDS);
+    settlement_carries(&t, "\x00\x00\x00\x00\x03\x00\x00\x20\x00\x00\x00\x00\x30\x00\x01");
     phase_is(&t, WHISTLAUREL_SETTLEMENT_AWAITED, rows);
     HOLDS(whistlaurel_no_answer(LENT(&t)) == WHISTLAUREL_QUIET);
     phase_is(&t, WHISTLAUREL_SETTLING, (uint64_t[WHISTLAUREL_ROWS]){0});
@@ -380,9 +414,11 @@ static void closing_phases(void)
     HOLDS(whistlaurel_send_next_upload(LENT(&t)) == WHISTLAUREL_SENDS);
     rows[WHISTLAUREL_OTHER] = 6;
     phase_is(&t, WHISTLAUREL_END_AWAITED, rows);
+    totals_are(&t, (uint64_t[4]){300, 2, 300, 1});
     HOLDS(reply(&t, "00", 0, true) == WHISTLAUREL_QUIET);
     phase_is(&t, WHISTLAUREL_RESTING, (uint64_t[WHISTLAUREL_ROWS]){0});
     HOLDS(number(&t, WHISTLAUREL_BATCH) == FIRST_BATCH + 1);
+    totals_are(&t, (uint64_t[4]){0});
 }
 
 /* ---- kinds and entries */
@@ -395,13 +431,13 @@ static void kind_leaves(struct terminal *t, enum whistlaurel_kind kind, uint32_t
     uint8_t field_60[6];
     size_t count;
 
-    HOLDS(whistlaurel_totals(t->image, sizeof t->image, t->journal, sizeof t->journal, before) == WHISTLAUREL_QUIET);
+    HOLDS(whistlaurel_totals(t->image, sizeof t->image, before) == WHISTLAUREL_QUIET);
     HOLDS(start(t, kind, 100, original) == WHISTLAUREL_SENDS);
     HOLDS(word_of(t->message, 2) == type);
     HOLDS(whistlaurel_field(t->message, t->length, 60, field_60, sizeof field_60, &count) == 0 && count == 11);
     HOLDS(field_60[0] == kind / 10 * 16 + kind % 10);
     HOLDS(reply(t, "00", 0, true) == WHISTLAUREL_QUIET);
-    HOLDS(whistlaurel_totals(t->image, sizeof t->image, t->journal, sizeof t->journal, after) == WHISTLAUREL_QUIET);
+    HOLDS(whistlaurel_totals(t->image, sizeof t->image, after) == WHISTLAUREL_QUIET);
     HOLDS(after[0] - before[0] == (side == 1 ? 100 : 0) && after[1] - before[1] == (side == 1));
     HOLDS(after[2] - before[2] == (side == 2 ? 100 : 0) && after[3] - before[3] == (side == 2));
 }
@@ -444,6 +480,7 @@ static void entries(void)
 static void refusals_of_memory(void)
 {
     struct terminal t = terminal_of(10, 3);
+    uint64_t totals[4] = {5, 5, 5, 5};
     uint8_t short_out[1];
     size_t count;
 
@@ -452,6 +489,7 @@ static void refusals_of_memory(void)
     HOLDS(whistlaurel_settle(t.image, sizeof t.image, t.journal, 10 * WHISTLAUREL_ENTRY_SIZE - 1, t.message, sizeof t.message, &t.length) ==
           WHISTLAUREL_BUFFER_TOO_SHORT);
     HOLDS(whistlaurel_fresh(t.image, WHISTLAUREL_IMAGE_SIZE - 1, 10, 3, 1, field_41, field_42) == WHISTLAUREL_OUT_OF_FORM);
+    HOLDS(whistlaurel_totals(t.image, WHISTLAUREL_IMAGE_SIZE - 1, totals) == WHISTLAUREL_OUT_OF_FORM && totals[3] == 5);
     HOLDS(whistlaurel_settle(LENT(&t)) == WHISTLAUREL_SENDS);
     HOLDS(whistlaurel_field(t.message, t.length, 42, short_out, sizeof short_out, &count) == WHISTLAUREL_BUFFER_TOO_SHORT);
     HOLDS(whistlaurel_field(t.message, t.length, 64, short_out, sizeof short_out, &count) == WHISTLAUREL_ABSENT);
@@ -562,4 +600,27 @@ static void refusal_of_totals(void)
     }
     HOLDS(start(&t, WHISTLAUREL_SALE, 100, 0) == WHISTLAUREL_TOTAL_TOO_LARGE);
     HOLDS(start(&t, WHISTLAUREL_SALE, 99, 0) == WHISTLAUREL_SENDS);
+}
+
+/* Of terminals with one entry each, which differ in its amount or side, no image fits another's journal. */
+static void refusals_of_sums(void)
+{
+    static const struct {
+        enum whistlaurel_kind kind;
+        uint64_t amount;
+    } requests[4] = {{WHISTLAUREL_SALE, 100}, {WHISTLAUREL_SALE, 101}, {WHISTLAUREL_REFUND, 100}, {WHISTLAUREL_REFUND, 101}};
+    struct terminal ts[4];
+
+    for (size_t i = 0; i < 4; i++) {
+        ts[i] = terminal_of(1, 3);
+        approve(&ts[i], requests[i].kind, requests[i].amount, 0);
+    }
+    for (size_t image = 0; image < 4; image++) {
+        for (size_t journal = 0; journal < 4; journal++) {
+            struct terminal t = ts[image];
+
+            memcpy(t.journal, ts[journal].journal, sizeof t.journal);
+            HOLDS(whistlaurel_settle(LENT(&t)) == (image == journal ? WHISTLAUREL_SENDS : WHISTLAUREL_OUT_OF_FORM));
+        }
+    }
 }

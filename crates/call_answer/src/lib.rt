@@ -11,7 +11,7 @@ use state::State;
 ghost use mathlib.Core.Path.{_≡_};
 ghost use Rattle.journal.specs.Journal.{entriesOf};
 ghost use Rattle.state.specs.Calls.{lend, resultOf};
-ghost use Rattle.state.specs.State.{CountsBounded};
+ghost use Rattle.state.specs.State.{amountIn, Bookable};
 ghost use Rattle.call_definitions.specs.Answer.{noAnswer, powerReturned, traceSent, answerIn, answer};
 ghost use Rattle.call_answer.specs.Bounds.{Gives, readingNumber};
 
@@ -86,7 +86,7 @@ fn batch_sent(s: State) -> Batch
 
 // A message that was read.
 fn answer_in(s: State, m: Message, good: bool, journal: &mut [u8]) -> Called
-    requires { ⌜ CountsBounded s ⌝ }
+    requires { ⌜ Bookable (amountIn (s .phase)) s ⌝ }
     ensures { λ r. ⌜ Gives r (now (journal .entry)) (now (journal .exit)) (answerIn good m s) ⌝ }
 {
     let phase = s.phase;

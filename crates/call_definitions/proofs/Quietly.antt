@@ -7,11 +7,10 @@ use Rattle.checks.proofs.Choices.{first-none}
 use Rattle.state.specs.declared.Called.{Called}
 use Rattle.state.specs.declared.Outcome.the-variants.{Quiet}
 use Rattle.state.specs.declared.State.{State}
-use Rattle.state.specs.State.{CountsBounded}
+use Rattle.state.specs.State.{amountIn, Bookable}
 use Rattle.state.specs.Calls.{Lent, withJournal, resultOf}
-use Rattle.state_rules.proofs.Holds.{room-for-one}
 use Rattle.rules.specs.Rules.{rules12}
-use Rattle.rules.proofs.InOrder.{fit}
+use Rattle.rules.proofs.InOrder.{fit, bookable}
 use Rattle.effect_definitions.specs.JournalEffects.{Changed, changed}
 use Rattle.call_definitions.specs.Answer.{quietly}
 
@@ -20,5 +19,5 @@ pub changes : (d : Changed) (r : Called) (t : State) (k : List ℕ) (lent : Lent
 changes d r t k lent e h = rw (e, ← h)
 
 -- where none of a call's rules is broken, there is room for one more
-pub bounded : (s : State) (lent : Lent) (qs : List Rule) (n : ℕ) → n ≡ firstBroken (rules12 s lent ++ qs) → n ≡ 0 → CountsBounded s
-bounded s lent qs n e z = room-for-one s (fit s lent (first-none (rules12 s lent) qs refl (sym e ∙ z)) .order .state)
+pub roomy : (s : State) (lent : Lent) (qs : List Rule) (n : ℕ) → n ≡ firstBroken (rules12 s lent ++ qs) → n ≡ 0 → Bookable (amountIn (s .phase)) s
+roomy s lent qs n e z = bookable s lent (fit s lent (first-none (rules12 s lent) qs refl (sym e ∙ z)))

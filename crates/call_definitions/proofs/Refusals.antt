@@ -5,6 +5,7 @@ use mathlib.Core.Bool.{Bool, true, false, not, _&&_, true≢false}
 use Prim.Native.Nat.{ℕ}
 use Rattle.elements.specs.Elements.{chipInForm}
 use Rattle.kinds.specs.Kinds.{takesOriginal}
+use Rattle.kinds.specs.declared.Totals.{Totals}
 use Rattle.entry.specs.declared.Entry.{Entry}
 use Rattle.journal.specs.Journal.{entriesOf, nowhere, totalsOf}
 use Rattle.journal.specs.declared.Found.{Found}
@@ -51,16 +52,16 @@ module _ (d : Desk) (b : List ℕ) (s : State) (es : List Entry) (place : Found)
       (later (restRules s) afterRest r k refl g y
       (first-stops (deskRules d (s .settings .refund)) (journalRules d s (totalsOf es) (originalOf d es) e) k h n)))
 
-  pub asks-journal : (u v r t k : ℕ) → place ≡ originalOf d es → u ≡ firstBroken (rules12 s lent) → u ≡ 0 → v ≡ firstBroken (chipRules d b) → v ≡ 0
+  pub asks-journal : (u v r w k : ℕ) (t : Totals) → t ≡ totalsOf es → place ≡ originalOf d es → u ≡ firstBroken (rules12 s lent) → u ≡ 0 → v ≡ firstBroken (chipRules d b) → v ≡ 0
       → r ≡ firstBroken (restRules s) → r ≡ 0
-      → t ≡ firstBroken (deskRules d (s .settings .refund)) → t ≡ 0 → k ≡ firstBroken (journalRules d s (totalsOf es) place e)
+      → w ≡ firstBroken (deskRules d (s .settings .refund)) → w ≡ 0 → k ≡ firstBroken (journalRules d s t place e)
       → k ≡ firstBroken (startRules d b s es e lent)
-  asks-journal u v r t k p f z j w g y i x h =
+  asks-journal u v r w k t q p f z j m g y i x h =
       later (rules12 s lent) afterFirst u k refl f z
-      (later (chipRules d b) (restRules s ++ afterRest) v k refl j w
+      (later (chipRules d b) (restRules s ++ afterRest) v k refl j m
       (later (restRules s) afterRest r k refl g y
-      (later (deskRules d (s .settings .refund)) (journalRules d s (totalsOf es) (originalOf d es) e) t k refl i x
-      (rw p at h))))
+      (later (deskRules d (s .settings .refund)) (journalRules d s (totalsOf es) (originalOf d es) e) w k refl i x
+      (rw (q, p) at h))))
 
 and-not : (a b : Bool) → a ≡ true → (a && b) ≡ false → b ≡ false
 and-not true b e h = h

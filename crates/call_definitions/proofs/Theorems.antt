@@ -1,20 +1,24 @@
 -- The statements of specs/Theorems.antt.
 use mathlib.Core.Path.{_≡_, refl, ap, sym}
+use mathlib.Core.List.{List}
 use mathlib.Core.Bool.{true, false, not, or-true}
 use Prim.Native.Nat.{ℕ}
 use native.Mathlib.Omega.{arith}
 use Rattle.checks.specs.Checks.{firstBroken}
 use Rattle.checks.proofs.Choices.{last-broken, last-kept}
 use Rattle.rules.specs.Rules.{rules12}
-use Rattle.effect_definitions.specs.JournalEffects.{silent, approved, agreed}
+use Rattle.effect_definitions.specs.JournalEffects.{silent, silentIn, approved, agreed}
+use Rattle.effect_definitions.proofs.Theorems.{silence-keeps-sums}
 use Rattle.effect_definitions.specs.StateEffects.{pendingOrUnanswered}
 use Rattle.state.specs.Calls.{Lent, Result, judged}
 use Rattle.state.specs.State.{isWaiting}
+use Rattle.state.specs.declared.Phase.{Phase}
+use Rattle.state.specs.declared.Phase.the-variants.{Resting, Waiting, Pending, Settling, Uploading}
 use Rattle.state.specs.declared.State.{State}
 use Rattle.call_definitions.specs.Answer.{answer, powerReturned, awaitsCard, cardRules, cardAgrees, cardDeclines}
 use Rattle.call_definitions.specs.SendReversal.{sendReversal}
 use Rattle.call_definitions.specs.Start.{start}
-use Rattle.call_definitions.specs.Theorems.{LateAnswerRefused, AnswerToCardRefused, LateCardRefused, ConsentAddsEntry, PowerMakesReversal, PowerSignsOff, StartTakesTrace, ReversalOfRequest}
+use Rattle.call_definitions.specs.Theorems.{LateAnswerRefused, AnswerToCardRefused, LateCardRefused, ConsentAddsEntry, PowerMakesReversal, PowerSignsOff, PowerKeepsSums, StartTakesTrace, ReversalOfRequest}
 
 pub late-answer-refused : LateAnswerRefused
 unfolding answer judged firstBroken
@@ -47,6 +51,18 @@ power-makes-reversal q s lent h p w n = rw (h, p, w, n)
 pub power-signs-off : PowerSignsOff
 unfolding powerReturned judged
 power-signs-off d b s lent h = rw h
+
+-- silence leaves the sums in every phase
+silence-keeps : (p : Phase) (s : State) (j : List ℕ) → silentIn p s j .state .totals ≡ s .totals
+silence-keeps Resting s j = refl
+silence-keeps (Waiting a) s j = silence-keeps-sums a s j
+silence-keeps (Pending v) s j = refl
+silence-keeps Settling s j = refl
+silence-keeps Uploading s j = refl
+
+pub power-keeps-sums : PowerKeepsSums
+unfolding powerReturned judged
+power-keeps-sums d b s lent h = rw h (silence-keeps (s .phase) s (lent .journal))
 
 -- a call that breaks no rule does what is said
 done : (n : ℕ) (s : State) (lent : Lent) (r : Result) → n ≡ 0 → judged n s lent r ≡ r

@@ -65,6 +65,11 @@ abbrev pub PowerSignsOff : Type 0
 PowerSignsOff = (d : Desk) (b : List ℕ) (s : State) (lent : Lent) → firstBroken (rules12 s lent) ≡ 0
     → call (eventOf PowerReturned d b) s lent .state .«signed_on» ≡ false
 
+-- and leaves the sums (document 02, request 2)
+abbrev pub PowerKeepsSums : Type 0
+PowerKeepsSums = (d : Desk) (b : List ℕ) (s : State) (lent : Lent) → firstBroken (rules12 s lent) ≡ 0
+    → call (eventOf PowerReturned d b) s lent .state .totals ≡ s .totals
+
 -- a request that leaves uses up the trace that is taken
 abbrev pub StartTakesTrace : Type 0
 StartTakesTrace = (d : Desk) (b : List ℕ) (s : State) (lent : Lent)

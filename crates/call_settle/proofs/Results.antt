@@ -7,8 +7,7 @@ use Rattle.message.specs.Build.{messageOf}
 use Rattle.message.specs.declared.Message.{Message}
 use Rattle.writing.specs.Writing.{writeMessage}
 use Rattle.numbers.specs.declared.Trace.{Trace}
-use Rattle.journal.specs.Journal.{entriesOf, totalsOf, taken}
-use Rattle.kinds.specs.declared.Totals.{Totals}
+use Rattle.journal.specs.Journal.{entriesOf, taken}
 use Rattle.state.specs.declared.Outcome.the-variants.{Send}
 use Rattle.state.specs.declared.State.{State}
 use Rattle.checks.specs.Checks.{firstBroken}
@@ -42,27 +41,25 @@ module _ (s : State) (lent : Lent) (n : ℕ) (e : n ≡ firstBroken (settleRules
         }
 
     -- the message, its length and the bytes in the buffer are those of the settlement
-    leaves : (trace : Trace) (t : Totals) (b : Message) (k : ℕ) (o : List ℕ) (after : State)
-        → b ≡ withAll (settlementFields (s .settings) (s .batch) trace t) (messageOf 0x0500 [])
+    leaves : (trace : Trace) (b : Message) (k : ℕ) (o : List ℕ) (after : State)
+        → b ≡ withAll (settlementFields (s .settings) (s .batch) trace (s .totals)) (messageOf 0x0500 [])
         → k ≡ lengthOf (writeMessage b (lent .message) .outcome) → o ≡ writeMessage b (lent .message) .buffer → after ≡ settles s trace
-        → resultOf (record { outcome = Send k; state = after }) (withMessage o lent) ≡ settleNow s trace t lent
+        → resultOf (record { outcome = Send k; state = after }) (withMessage o lent) ≡ settleNow s trace lent
     unfolding settlementMessage
-    leaves trace t b k o after p q w u =
-        let fs = settlementFields (s .settings) (s .batch) trace t in
-        let h = settlement-held (s .settings) (s .batch) settings-held trace t in
+    leaves trace b k o after p q w u =
+        let fs = settlementFields (s .settings) (s .batch) trace (s .totals) in
+        let h = settlement-held (s .settings) (s .batch) settings-held trace (s .totals) in
         let is = p ∙ all-composed 0x0500 fs h in
         let room = fits s lent (sym e ∙ z) .message-room in
         let wr = ap (λ (x : Message). writeMessage x (lent .message)) is ∙ written-is 0x0500 fs (lent .message) settlement-listed h room in
         rw (q, w, u, wr)
 
-    pub is-sent : (trace : Trace) (t : Totals) (b : Message) (k : ℕ) (o : List ℕ) (after : State)
-        → trace ≡ record { 0 = taken (entriesOf (s .entries) (lent .journal)) (s .next .0) } → t ≡ totalsOf (entriesOf (s .entries) (lent .journal))
-        → b ≡ withAll (settlementFields (s .settings) (s .batch) trace t) (messageOf 0x0500 [])
+    pub is-sent : (trace : Trace) (b : Message) (k : ℕ) (o : List ℕ) (after : State)
+        → trace ≡ record { 0 = taken (entriesOf (s .entries) (lent .journal)) (s .next .0) }
+        → b ≡ withAll (settlementFields (s .settings) (s .batch) trace (s .totals)) (messageOf 0x0500 [])
         → k ≡ lengthOf (writeMessage b (lent .message) .outcome) → o ≡ writeMessage b (lent .message) .buffer → after ≡ settles s trace
         → resultOf (record { outcome = Send k; state = after }) (withMessage o lent) ≡ settle s lent
     unfolding settle
-    is-sent trace t b k o after x y p q w u =
+    is-sent trace b k o after x p q w u =
         goes n (firstBroken (settleRules s lent)) s lent _ _ e z
-        (leaves trace t b k o after p q w u
-        ∙ ap (λ (c : Trace). settleNow s c t lent) x
-        ∙ ap (λ (c : Totals). settleNow s (record { 0 = taken (entriesOf (s .entries) (lent .journal)) (s .next .0) }) c lent) y)
+        (leaves trace b k o after p q w u ∙ ap (λ (c : Trace). settleNow s c lent) x)

@@ -18,7 +18,7 @@ pub fn settle(s: State, journal: &mut [u8], message: &mut [u8]) -> Called
     let batch = s.batch;
     let next = s.next;
     let trace = traces::take(journal, s.entries, next);
-    let totals = journal::totals_of(journal, s.entries);
+    let totals = s.totals;
     let m = batch_messages::settlement_message(settings, batch, trace, totals);
     let n = outgoing::write_outgoing(m, message);
     Called::sends(state_effects::settles(s, trace), n)

@@ -120,8 +120,7 @@ fn refusal(
     if desk != 0 {
         return desk;
     }
-    let totals = journal::totals_of(journal, s.entries);
-    desk::journal_refusal(s, d, totals, place, e)
+    desk::journal_refusal(s, d, s.totals, place, e)
 }
 
 // The request leaves and is awaited.

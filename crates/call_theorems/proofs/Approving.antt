@@ -13,7 +13,9 @@ use Rattle.entry.specs.Entry.{entrySize}
 use Rattle.entry.specs.Theorems.{Shaped}
 use Rattle.entry.specs.declared.Entry.{Entry}
 use Rattle.entry.proofs.Theorems.{length-encode}
+use Rattle.kinds.specs.Totals.{booked}
 use Rattle.journal.specs.Journal.{entriesOf, totalsOf, absent, putEntry}
+use Rattle.journal.proofs.Sums.{totals-last}
 use Rattle.journal.proofs.Entries.{put-appends, length-put}
 use Rattle.state.specs.declared.Approval.{Approval}
 use Rattle.state.specs.declared.Request.{Request}
@@ -67,8 +69,9 @@ plain q s es h =
 -- one entry more, in order
 more-order : (q : Request) (s : State) (es fs : List Entry) → InOrder (inPhase (Waiting (awaited.Request q)) s) es
     → s .entries < s .settings .limit → Plain (s .settings .sendings) fs
-    → totalsOf fs .debit ≤ largestTotal → totalsOf fs .credit ≤ largestTotal → InOrder (oneMore s) fs
-more-order q s es fs h l p d c =
+    → totalsOf fs .debit ≤ largestTotal → totalsOf fs .credit ≤ largestTotal
+    → (kind amount : ℕ) → booked kind amount (s .totals) ≡ totalsOf fs → InOrder (oneMore kind amount s) fs
+more-order q s es fs h l p d c kind amount t =
     record {
       state =
           record {
@@ -83,6 +86,7 @@ more-order q s es fs h l p d c =
             few = omega arith;
             balance = omega (arith, h .state .balance);
             approvals = omega (arith, h .state .approvals);
+            totals = t;
           };
       journal =
           record {
@@ -127,7 +131,7 @@ entry-of q a f h =
     }
 
 written-fit : (q : Request) (e : Entry) (s : State) (lent : Lent) (k : List ℕ) → Fit (inPhase (Waiting (awaited.Request q)) s) lent → IsOf q e
-    → KeepsPlain (s .entries) (s .settings .sendings) (lent .journal) k → Fit (oneMore s) (withJournal (putEntry (s .entries) e k) lent)
+    → KeepsPlain (s .entries) (s .settings .sendings) (lent .journal) k → Fit (oneMore (e .kind) (e .amount) s) (withJournal (putEntry (s .entries) e k) lent)
 written-fit q e s lent k h o v =
     let n = s .entries in
     let w = left (s .settings .limit) n (entriesOf n (lent .journal)) q (h .order .phase-kept) in
@@ -144,7 +148,8 @@ written-fit q e s lent k h o v =
       order =
           rw y
           (more-order q s (entriesOf n (lent .journal)) (es ++ (e ∷ [])) (h .order) (w .place)
-          (plain-last (s .settings .sendings) es e (v .plain) (o .new) f) (t .0) (t .1));
+          (plain-last (s .settings .sendings) es e (v .plain) (o .new) f) (t .0) (t .1) (e .kind) (e .amount)
+          (rw (h .order .state .totals, totals-last es e, v .totals)));
     }
 
 -- the approval that the card's word is awaited for is in form

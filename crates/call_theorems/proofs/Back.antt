@@ -7,7 +7,7 @@ use lib.ListN.{length}
 use borrow.Author.Tests.{le-leb, le-ltb}
 use Rattle.entry.specs.Entry.{entrySize}
 use Rattle.entry.specs.declared.Entry.{Entry}
-use Rattle.journal.specs.Journal.{entriesOf}
+use Rattle.journal.specs.Journal.{entriesOf, totalsOf}
 use Rattle.message.specs.Message.{largest}
 use Rattle.journal.specs.declared.Found.{Found}
 use Rattle.state.specs.declared.State.{State}
@@ -36,7 +36,7 @@ journal-back l due uploading item es h =
 
 pub order-back : (s : State) (es : List Entry) → InOrder s es → keepsRule2 s es ≡ true
 unfolding keepsRule2
-order-back s es h = rw (state-back s (h .state), journal-back _ _ _ _ es (h .journal), h .phase-kept)
+order-back s es h = rw (state-back s (totalsOf es) (h .state), journal-back _ _ _ _ es (h .journal), h .phase-kept)
 
 pub ready-fits : (s : State) (lent : Lent) → Ready s lent → Fit s lent
 unfolding firstBroken

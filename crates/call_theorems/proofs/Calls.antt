@@ -11,7 +11,7 @@ use Rattle.reading.specs.declared.ReadOutcome.the-variants.{Read, Refused as Un
 use Rattle.writing.specs.Writing.{messageBytes}
 use Rattle.numbers.specs.declared.Trace.{Trace}
 use Rattle.numbers.specs.declared.Batch.{Batch}
-use Rattle.journal.specs.Journal.{entriesOf, entryAt, totalsOf, nextDue, taken}
+use Rattle.journal.specs.Journal.{entriesOf, entryAt, nextDue, taken}
 use Rattle.journal.specs.declared.Found.{Found}
 use Rattle.journal.specs.declared.Found.the-variants.{At, Nowhere}
 use Rattle.state.specs.declared.Phase.{Phase}
@@ -120,8 +120,8 @@ settle-told s lent =
     let rs = settleRules s lent in
     let trace : Trace = record { 0 = taken es (s .next .0) } in
     told-judged (firstBroken rs) _
-    (λ z. told-sent (messageBytes (settlementMessage (s .settings) (s .batch) trace (totalsOf es)))
-    (λ x. settlement-reads s lent (fits s lent (passed 1 rs refl z) (passed 2 rs refl z)) (x .0) trace (totalsOf es)))
+    (λ z. told-sent (messageBytes (settlementMessage (s .settings) (s .batch) trace (s .totals)))
+    (λ x. settlement-reads s lent (fits s lent (passed 1 rs refl z) (passed 2 rs refl z)) (x .0) trace (s .totals)))
 
 -- an item, or the end where none is left
 next-told : (s : State) (lent : Lent) → Fit s lent → (f : Found) → nextDue (due Uploading) (entriesOf (s .entries) (lent .journal)) ≡ f

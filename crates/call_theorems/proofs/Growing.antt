@@ -21,7 +21,8 @@ use Rattle.journal.specs.Sums.{withEntry}
 use Rattle.journal.proofs.Entries.{set-voided, length-set-byte}
 use Rattle.journal.proofs.Marks.{voided-form}
 use Rattle.journal.proofs.Searches.{first-at, every-at, every-after, every-changed, every-last}
-use Rattle.journal.proofs.Sums.{voided-totals, totals-changed, totals-last, with-debit, with-credit, with-neither}
+use Rattle.journal.proofs.Sums.{voided-totals, totals-changed, totals-last}
+use Rattle.kinds.proofs.Booked.{booked-debit, booked-credit, booked-neither}
 use Rattle.journal.proofs.Traces.{voided-trace, absent-changed, distinct-changed, distinct-last}
 use Rattle.state.specs.declared.Request.{Request}
 use Rattle.state_rules.specs.StateRules.{past, pastOn}
@@ -169,6 +170,6 @@ sums-last es e d c p = rw (totals-last es e) (go (totalsOf es) (sideOf (e .kind)
   where
     go : (t : Totals) (k : Side) → sideOf (e .kind) ≡ k → t .debit ≤ largestTotal → t .credit ≤ largestTotal
         → pastOn k (e .amount) t ≡ false → (withEntry t e .debit ≤ largestTotal) × (withEntry t e .credit ≤ largestTotal)
-    go t Debit s d c p = rw (with-debit t e s) (ltb-false _ _ p, c)
-    go t Credit s d c p = rw (with-credit t e s) (d, ltb-false _ _ p)
-    go t Neither s d c p = rw (with-neither t e s) (d, c)
+    go t Debit s d c p = rw (booked-debit (e .kind) (e .amount) t s) (ltb-false _ _ p, c)
+    go t Credit s d c p = rw (booked-credit (e .kind) (e .amount) t s) (d, ltb-false _ _ p)
+    go t Neither s d c p = rw (booked-neither (e .kind) (e .amount) t s) (d, c)

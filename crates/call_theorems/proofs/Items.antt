@@ -84,6 +84,7 @@ marked-order s es i x h a b c =
             few = h .state .few;
             balance = h .state .balance;
             approvals = h .state .approvals;
+            totals = rw t (h .state .totals);
           };
       journal =
           record {

@@ -24,3 +24,4 @@ pub mod Rest
 pub mod Unwritten
 pub mod Unread
 pub mod Unchanged
+pub mod Sums

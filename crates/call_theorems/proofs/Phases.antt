@@ -67,6 +67,7 @@ moved p k c s lent f w =
                   few = h .few;
                   balance = w .balance;
                   approvals = w .approved-same ∙ h .approvals;
+                  totals = h .totals;
                 };
             journal = w .journal;
             phase-kept = w .phase-kept;
@@ -281,6 +282,7 @@ module _ (s : State) (lent : Lent) where
                     few = omega arith;
                     balance = refl;
                     approvals = refl;
+                    totals = refl;
                   };
               journal =
                   record {
@@ -319,6 +321,7 @@ module _ (s : State) (lent : Lent) where
                     few = h .few;
                     balance = h .balance;
                     approvals = h .approvals;
+                    totals = h .totals;
                   };
               journal = f .order .journal;
               phase-kept = f .order .phase-kept;
@@ -348,6 +351,7 @@ module _ (s : State) (lent : Lent) where
                     few = h .few;
                     balance = h .balance;
                     approvals = h .approvals;
+                    totals = h .totals;
                   };
               journal = f .order .journal;
               phase-kept = f .order .phase-kept;

@@ -6,7 +6,7 @@ use Rattle.numbers.specs.Limits.{lastNumber}
 use Rattle.numbers.specs.Numbers.{following}
 use Rattle.writing.specs.Writing.{messageBytes}
 use Rattle.numbers.specs.declared.Trace.{Trace}
-use Rattle.journal.specs.Journal.{entriesOf, totalsOf, taken}
+use Rattle.journal.specs.Journal.{entriesOf, taken}
 use Rattle.traces.proofs.Free.{taken-range, following-range}
 use Rattle.state.specs.declared.Awaited.the-variants as awaited
 use Rattle.state.specs.declared.Phase.{Phase}
@@ -70,5 +70,5 @@ settle-fits s lent h =
     let x : Trace = record { 0 = taken es (s .next .0) } in
     let t = taken-range es (s .next .0) (h .order .state .next-least) (h .order .state .next-most) in
     judged-fits (firstBroken (settleRules s lent)) s lent _ h
-    (λ z. sent-fits (messageBytes (settlementMessage (s .settings) (s .batch) x (totalsOf es))) (settles s x) lent
+    (λ z. sent-fits (messageBytes (settlementMessage (s .settings) (s .batch) x (s .totals))) (settles s x) lent
     (settled-fits s lent x (t .0) (t .1) h z))

@@ -71,6 +71,7 @@ requested-fit c q s lent f r y k l =
                   few = h .few;
                   balance = omega (arith, h .balance);
                   approvals = h .approvals;
+                  totals = h .totals;
                 };
             journal = f .order .journal;
             phase-kept = k;

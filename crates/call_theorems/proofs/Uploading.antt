@@ -146,6 +146,7 @@ module _ (s : State) (lent : Lent) (i : ℕ) (h : Fit (inPhase Uploading s) lent
               few = o .state .few;
               balance = o .state .balance;
               approvals = o .state .approvals;
+              totals = rw t (o .state .totals);
             };
         journal =
             record {

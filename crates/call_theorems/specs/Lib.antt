@@ -3,3 +3,4 @@ pub mod Facts
 pub mod Order
 pub mod UnusedFields
 pub mod JournalRest
+pub mod Sums

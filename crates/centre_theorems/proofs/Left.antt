@@ -21,7 +21,7 @@ use Rattle.numbers.specs.declared.Batch.{Batch}
 use Rattle.kinds.specs.Kinds.{indicatorOf}
 use Rattle.kinds.proofs.Types.{each-type}
 use Rattle.entry.specs.declared.Entry.{Entry}
-use Rattle.journal.specs.Journal.{entriesOf, entryAt, totalsOf, nextDue, taken}
+use Rattle.journal.specs.Journal.{entriesOf, entryAt, nextDue, taken}
 use Rattle.journal.specs.declared.Found.{Found}
 use Rattle.journal.specs.declared.Found.the-variants.{At, Nowhere}
 use Rattle.kinds.specs.declared.Totals.{Totals}
@@ -191,5 +191,5 @@ call-sends send-reversal s lent = judges s lent (firstBroken (sendReversalRules 
 call-sends settles s lent =
     let es = entriesOf (s .entries) (lent .journal) in
     judges s lent (firstBroken (settleRules s lent)) _
-    (sends-bytes _ lent (settlement-sound (s .settings) (s .batch) (record { 0 = taken es (s .next .0) }) (totalsOf es)))
+    (sends-bytes _ lent (settlement-sound (s .settings) (s .batch) (record { 0 = taken es (s .next .0) }) (s .totals)))
 call-sends send-next-upload s lent = judges s lent (firstBroken (sendNextUploadRules s lent)) _ (upload-from s lent (s .phase))

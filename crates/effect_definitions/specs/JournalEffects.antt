@@ -65,7 +65,7 @@ originalVoided q es j =
     cond (takesOriginal (q .kind)) (voidedAt (originalFor (q .kind) (q .original .0) es) j) j
 
 unfoldable pub approved : Request → Entry → State → List ℕ → Changed
-approved q e s j = changed (oneMore s) (putEntry (s .entries) e (originalVoided q (entriesOf (s .entries) j) j))
+approved q e s j = changed (oneMore (e .kind) (e .amount) s) (putEntry (s .entries) e (originalVoided q (entriesOf (s .entries) j) j))
 
 -- a good 00: without a chip it approves; with one the card has the last word
 unfoldable pub granted : Message → Request → State → List ℕ → Changed

@@ -1,13 +1,14 @@
 -- Document 01, "Calls": how a call changes the state.
 use mathlib.Core.Bool.{Bool, cond, _&&_, true}
-use Prim.Native.Nat.{_+_}
+use Prim.Native.Nat.{ℕ, _+_}
 use lib.Dec.{eqb, leb}
 use Rattle.answer_match.specs.Match.{approves, endsReversal, closesBatch}
 use Rattle.kinds.specs.Kinds.{isNeverReversed}
+use Rattle.kinds.specs.Totals.{booked}
 use Rattle.message.specs.declared.Message.{Message}
 use Rattle.numbers.specs.declared.Batch.{Batch}
 use Rattle.numbers.specs.declared.Trace.{Trace}
-use Rattle.state.specs.State.{noChip, asSent, inPhase, counted, withChip, withEntries, signed, closed, took, isResting, inBatch}
+use Rattle.state.specs.State.{noChip, asSent, inPhase, counted, withChip, withTotals, withEntries, signed, closed, took, isResting, inBatch}
 use Rattle.state.specs.declared.Chip.{Chip}
 use Rattle.state.specs.declared.Count.{Count}
 use Rattle.state.specs.declared.Count.the-variants.{Approved, Reversed, GivenUp, Unanswered, Sent}
@@ -53,9 +54,9 @@ failed v s =
       (ended GivenUp s)
       (inPhase (Pending v) s)
 
--- an approval: the entry is written, and the request counted
-abbrev pub oneMore : State → State
-oneMore s = ended Approved (withEntries (s .entries + 1) s)
+-- an approval: the entry is written, its amount booked on its kind's side, and the request counted
+abbrev pub oneMore : ℕ → ℕ → State → State
+oneMore kind amount s = ended Approved (withTotals (booked kind amount (s .totals)) (withEntries (s .entries + 1) s))
 
 -- to a reversal: ended as reversed, or a failed sending
 unfoldable pub onReversal : Bool → Message → Reversal → State → State

@@ -1,14 +1,16 @@
 -- What is proved of the changes, by what they leave: the sentences of document 01, "Calls", on counts, reversals and silence.
 use mathlib.Core.Path.{_≡_}
 use mathlib.Core.Bool.{Bool, true, false}
-use mathlib.Core.List.{List}
+use mathlib.Core.List.{List, [], _∷_}
 use Prim.Native.Nat.{ℕ, _+_, _*_, _≤_, _<_}
 use lib.ListN.{length, getD}
 use Rattle.numbers.specs.Numbers.{following}
 use Rattle.numbers.specs.declared.Trace.{Trace}
 use Rattle.message.specs.declared.Message.{Message}
+use Rattle.field.specs.Table.{among}
 use Rattle.kinds.specs.Kinds.{isNeverReversed}
-use Rattle.answer_match.specs.Match.{approves, goodMac}
+use Rattle.kinds.specs.declared.Totals.{Totals}
+use Rattle.answer_match.specs.Match.{approves, goodMac, closesBatch}
 use Rattle.entry.specs.Entry.{entrySize}
 use Rattle.entry.specs.declared.Entry.{Entry}
 use Rattle.state.specs.State.{chipBytes, hasChip, isWaiting}
@@ -20,7 +22,7 @@ use Rattle.state.specs.declared.Reason.the-variants.{CardDeclined}
 use Rattle.state.specs.declared.Request.{Request}
 use Rattle.state.specs.declared.Reversal.{Reversal}
 use Rattle.state.specs.declared.State.{State}
-use Rattle.effect_definitions.specs.StateEffects.{adopts, requested, failed, again, settles}
+use Rattle.effect_definitions.specs.StateEffects.{adopts, requested, failed, again, settles, oneMore, onSettlement, onEnd}
 use Rattle.effect_definitions.specs.JournalEffects.{Changed, silent, silentIn, onRequest, resent}
 
 -- a batch number is not adopted once a card request has left in the batch
@@ -73,6 +75,34 @@ abbrev pub SilentCardDeclines : Type 0
 SilentCardDeclines = (q : Request) (s : State) (j : List ℕ) → isNeverReversed (q .kind) ≡ false → s .chip .approved ≡ true
     → (silent (awaited.Request q) s j .state .phase ≡ Pending (record { request = q; reason = CardDeclined; sendings = 0 }))
     × (chipBytes (silent (awaited.Request q) s j .state .chip) ≡ chipBytes (s .chip))
+
+-- document 02, request 2: an approved sale or completion moves the debit sum and its count, an approved void or refund the credit sum
+-- and its count, and each leaves the other side; a pre-authorisation and its void move nothing
+abbrev pub DebitMoves : Type 0
+DebitMoves = (kind amount : ℕ) (s : State) → among kind (20 ∷ 22 ∷ []) ≡ true
+    → oneMore kind amount s .totals
+    ≡ record { debit = s .totals .debit + amount; debits = s .totals .debits + 1; credit = s .totals .credit; credits = s .totals .credits }
+
+abbrev pub CreditMoves : Type 0
+CreditMoves = (kind amount : ℕ) (s : State) → among kind (21 ∷ 23 ∷ 25 ∷ []) ≡ true
+    → oneMore kind amount s .totals
+    ≡ record { debit = s .totals .debit; debits = s .totals .debits; credit = s .totals .credit + amount; credits = s .totals .credits + 1 }
+
+abbrev pub NeitherMoves : Type 0
+NeitherMoves = (kind amount : ℕ) (s : State) → among kind (10 ∷ 11 ∷ []) ≡ true → oneMore kind amount s .totals ≡ s .totals
+
+-- a batch that closes leaves no sum, whichever answer closes it; one that does not leaves both sums
+pub record SumsAfter (closes : Bool) (t u : Totals) : Type 0 where
+  pub zero : closes ≡ true → u ≡ record { debit = 0; debits = 0; credit = 0; credits = 0 }
+  pub kept : closes ≡ false → u ≡ t
+
+abbrev pub ClosingClearsSums : Type 0
+ClosingClearsSums = (a : Message) (s : State)
+    → SumsAfter (closesBatch a) (s .totals) (onSettlement a s .totals) × SumsAfter (approves a) (s .totals) (onEnd a s .totals)
+
+-- silence, a bad MAC and a card that declines leave the sums
+abbrev pub SilenceKeepsSums : Type 0
+SilenceKeepsSums = (a : Awaited) (s : State) (j : List ℕ) → silent a s j .state .totals ≡ s .totals
 
 -- byte 3 of an entry that was sent before grows by 1 as it leaves again
 abbrev pub ResendsCounted : Type 0

@@ -41,13 +41,13 @@ Lawful (history.refused n) a = Unit {0}
 
 -- after a call
 pub record After (l : ℕ) (e : Event) (a : Account) (r : Result) : Type 0 where
-  pub tied : Tied l (r .state) (r .lent .journal) (whenGiven l (givenBy (r .outcome) (r .lent .message)) e a)
+  pub tied : Tied l (r .state) (whenGiven l (givenBy (r .outcome) (r .lent .message)) e a)
   pub lawful : Lawful (givenBy (r .outcome) (r .lent .message)) a
 
-pub refused-after : (l : ℕ) (e : Event) (a : Account) (n : ℕ) (s : State) (lent : Lent) → Tied l s (lent .journal) a → After l e a (refused n s lent)
+pub refused-after : (l : ℕ) (e : Event) (a : Account) (n : ℕ) (s : State) (lent : Lent) → Tied l s a → After l e a (refused n s lent)
 refused-after l e a n s lent h = record { tied = h; lawful = tt }
 
-pub judged-after : (l : ℕ) (e : Event) (a : Account) (n : ℕ) (s : State) (lent : Lent) (done : Result) → Tied l s (lent .journal) a
+pub judged-after : (l : ℕ) (e : Event) (a : Account) (n : ℕ) (s : State) (lent : Lent) (done : Result) → Tied l s a
     → (n ≡ 0 → After l e a done) → After l e a (judged n s lent done)
 unfolding judged
 judged-after l e a n s lent done h d = go (eqb n 0) refl

@@ -1,13 +1,12 @@
 -- An answer that is accepted keeps the invariant.
 use mathlib.Core.Path.{_≡_, refl, sym, _∙_}
 use mathlib.Core.List.{List, [], _∷_}
-use mathlib.Core.Bool.{Bool, true, false, cond, and-eq-true-iff, and-false}
+use mathlib.Core.Bool.{Bool, true, false, cond, and-false}
 use Prim.Native.Nat.{ℕ}
-use Rattle.field.specs.Bitmap.{names}
 use Rattle.reading.specs.Reading.{readMessage}
 use Rattle.reading.specs.declared.ReadOutcome.the-variants.{Read}
 use Rattle.numbers.specs.declared.Trace.{Trace}
-use Rattle.journal.specs.Journal.{entriesOf, totalsOf}
+use Rattle.journal.specs.Journal.{entriesOf}
 use Rattle.state.specs.declared.Approval.{Approval}
 use Rattle.state.specs.declared.Request.{Request as Asked}
 use Rattle.state.specs.declared.Reason.the-variants.{BadMac}
@@ -18,11 +17,8 @@ use Rattle.state.specs.declared.Phase.the-variants.{Waiting, Uploading}
 use Rattle.state.specs.declared.State.{State}
 use Rattle.state.specs.declared.Count.the-variants.{Declined, Reversed}
 use Rattle.state.specs.State.{hasChip, approvedBy, inPhase, withChip, closed}
-use Rattle.state.specs.Calls.{Lent}
-use Rattle.rules.proofs.InOrder.{Fit}
-use Rattle.state_rules.proofs.Holds.{ApprovalHolds}
 use Rattle.answer_match.specs.Match as terminal
-use Rattle.answer_match.specs.Match.{isAnswer, matchesSent, holdsNamed, indicatorSent, approves, approvalHolds, goodMac, endsReversal}
+use Rattle.answer_match.specs.Match.{isAnswer, approves, goodMac, endsReversal}
 use Rattle.approval.specs.Approval.{approvalOf, approvedEntry}
 use Rattle.effect_definitions.specs.JournalEffects as effects
 use Rattle.call_definitions.specs.Answer.{traceSent}
@@ -37,8 +33,8 @@ use Rattle.history.proofs.Matching.{request-accepted, reversal-accepted
 use Rattle.history.proofs.Requests.{AllDone, heard-ended, heard-same}
 use Rattle.history.proofs.Books.{no-books, one-waits, one-approved}
 use Rattle.history.proofs.Tied.{accountOf, NeverCloses, Latest, latest-changed, Deciding, fate-of, Kept, Tied}
-use Rattle.history.proofs.Silence.{TiedAfter, head-waits, head-few, open-books, ended-tied, pending-or-unanswered-tied, failed-tied, marked-totals}
-use Rattle.history.proofs.Approved.{approval-read, approved-totals, approved-kind, approved-amount}
+use Rattle.history.proofs.Silence.{TiedAfter, head-waits, head-few, open-books, ended-tied, pending-or-unanswered-tied, failed-tied}
+use Rattle.history.proofs.Approved.{approved-kind, approved-amount}
 
 -- the account after an answer that was accepted
 abbrev pub afterHeard : ℕ → Bool → List ℕ → Account → Account
@@ -55,15 +51,14 @@ unfolding afterAnswer
 maybe-closed l good b a n d = rw (n, heard-same l good b l (a .requests) d)
 
 -- a request that waits is approved, by the answer or by the card after it
-module _ (l : ℕ) (s : State) (lent : Lent) (a : Account) (q : Asked) (fits : Fit (inPhase (Waiting (awaited.Request q)) s) lent)
-    (kept : Kept l (s .settings) (s .counts) (totalsOf (entriesOf (s .entries) (lent .journal))) (a .requests))
+module _ (l : ℕ) (s : State) (j : List ℕ) (a : Account) (q : Asked)
+    (kept : Kept l (s .settings) (s .counts) (s .totals) (a .requests))
     (f : Fate) (waits : isWaiting f ≡ true) (d : Deciding l (s .settings) (s .batch) (s .chip) f q a) where
-  pub approved-tied : (v : Approval) → ApprovalHolds v
-      → TiedAfter l (effects.approved q (approvedEntry q v) s (lent .journal)) (accountOf (approvedAsAsked (d .latest .head) ∷ d .latest .rest) (a .last))
+  pub approved-tied : (v : Approval)
+      → TiedAfter l (effects.approved q (approvedEntry q v) s j) (accountOf (approvedAsAsked (d .latest .head) ∷ d .latest .rest) (a .last))
   unfolding effects.approved
-  approved-tied v g =
+  approved-tied v =
       let latest = d .latest in
-      let t = approved-totals q v s lent fits g in
       let k = approved-kind q v ∙ sym (d .asks .kind-is) in
       let w = approved-amount q v ∙ sym (d .asks .amount-is) in
       record {
@@ -72,17 +67,15 @@ module _ (l : ℕ) (s : State) (lent : Lent) (a : Account) (q : Asked) (fits : F
               sendings-set = kept .sendings-set;
               shaped = kept .shaped;
               books =
-                  rw t
-                  (one-approved (s .counts) _ (latest .rest) (latest .head) (head-waits l s (lent .journal) a f 0 waits kept latest)
-                  (open-books l s (lent .journal) a f 0 waits kept latest) (approvedEntry q v) (amountIn (latest .head .message)) k w);
+                  one-approved (s .counts) (s .totals) (latest .rest) (latest .head) (head-waits l s a f 0 waits kept latest)
+                  (open-books l s a f 0 waits kept latest) (approvedEntry q v .kind) (approvedEntry q v .amount) (amountIn (latest .head .message)) k w;
             };
-        shape = (record { has-ended = refl; few = head-few l s (lent .journal) a f 0 waits kept latest }, latest .done);
+        shape = (record { has-ended = refl; few = head-few l s a f 0 waits kept latest }, latest .done);
       }
 
 -- an answer to a card request
-module _ (l : ℕ) (good : Bool) (b : List ℕ) (read : readMessage b .outcome ≡ Read) (s : State) (lent : Lent) (a : Account) (q : Asked)
-    (fits : Fit (inPhase (Waiting (awaited.Request q)) s) lent)
-    (kept : Kept l (s .settings) (s .counts) (totalsOf (entriesOf (s .entries) (lent .journal))) (a .requests))
+module _ (l : ℕ) (good : Bool) (b : List ℕ) (read : readMessage b .outcome ≡ Read) (s : State) (j : List ℕ) (a : Account) (q : Asked)
+    (kept : Kept l (s .settings) (s .counts) (s .totals) (a .requests))
     (d : Deciding l (s .settings) (s .batch) (s .chip) deciding q a) (phase : s .phase ≡ Waiting (awaited.Request q)) where
   abbrev latest : Latest l deciding 0 a
   latest = d .latest
@@ -92,7 +85,7 @@ module _ (l : ℕ) (good : Bool) (b : List ℕ) (read : readMessage b .outcome �
 
   -- with a chip the card has the last word
   consenting-tied : (v : Approval)
-      → Tied l (withChip (approvedBy v (s .chip)) s) (lent .journal) (accountOf (becomes consenting head ∷ latest .rest) (a .last))
+      → Tied l (withChip (approvedBy v (s .chip)) s) (accountOf (becomes consenting head ∷ latest .rest) (a .last))
   consenting-tied v =
       record {
         kept =
@@ -100,8 +93,8 @@ module _ (l : ℕ) (good : Bool) (b : List ℕ) (read : readMessage b .outcome �
               sendings-set = kept .sendings-set;
               shaped = kept .shaped;
               books =
-                  one-waits (s .counts) _ (latest .rest) head (head-waits l s (lent .journal) a deciding 0 refl kept latest)
-                  (open-books l s (lent .journal) a deciding 0 refl kept latest) (becomes consenting head) refl;
+                  one-waits (s .counts) _ (latest .rest) head (head-waits l s a deciding 0 refl kept latest)
+                  (open-books l s a deciding 0 refl kept latest) (becomes consenting head) refl;
             };
         shape =
             rw phase
@@ -122,51 +115,45 @@ module _ (l : ℕ) (good : Bool) (b : List ℕ) (read : readMessage b .outcome �
             });
       }
 
-  request-decided : approvalHolds (q .amount) (messageIn b) ≡ true
-      → TiedAfter l (onRequest good (messageIn b) q s (lent .journal)) (accountOf (decided good (messageIn b) head ∷ latest .rest) (a .last))
+  request-decided : TiedAfter l (onRequest good (messageIn b) q s j) (accountOf (decided good (messageIn b) head ∷ latest .rest) (a .last))
   unfolding onRequest granted decided
-  request-decided n =
+  request-decided =
       rw (approves-alike (messageIn b), mac-alike good (messageIn b), d .chip-is)
-      (go (approves (messageIn b)) (goodMac good (messageIn b)) (hasChip (s .chip)) refl)
+      (go (approves (messageIn b)) (goodMac good (messageIn b)) (hasChip (s .chip)))
     where
       v : Approval
       v = approvalOf (messageIn b)
 
-      go : (x y z : Bool) → approves (messageIn b) ≡ x
-          → TiedAfter l
+      go : (x y z : Bool) → TiedAfter l
           (cond x
           (cond y
-          (cond z (changed (withChip (approvedBy v (s .chip)) s) (lent .journal)) (effects.approved q (approvedEntry q v) s (lent .journal)))
-          (changed (pendingOrUnanswered BadMac q s) (lent .journal)))
-          (changed (state-effects.ended Declined s) (lent .journal)))
+          (cond z (changed (withChip (approvedBy v (s .chip)) s) j) (effects.approved q (approvedEntry q v) s j))
+          (changed (pendingOrUnanswered BadMac q s) j))
+          (changed (state-effects.ended Declined s) j))
           (accountOf
           (cond x (cond y (cond z (becomes consenting head) (approvedAsAsked head)) (history.pendingOrUnanswered head)) (becomes (ended declined) head)
           ∷ latest .rest)
           (a .last))
-      go true true true e = consenting-tied v
-      go true true false e = approved-tied l s lent a q fits kept deciding refl d v (approval-read b (q .amount) read n e)
-      go true false z e = pending-or-unanswered-tied l s (lent .journal) a deciding 0 refl kept latest BadMac q refl (d .asks .kind-is)
-      go false y z e = ended-tied l s (lent .journal) a deciding 0 refl kept latest declined refl
+      go true true true = consenting-tied v
+      go true true false = approved-tied l s j a q kept deciding refl d v
+      go true false z = pending-or-unanswered-tied l s a deciding 0 refl kept latest BadMac q refl (d .asks .kind-is)
+      go false y z = ended-tied l s a deciding 0 refl kept latest declined refl
 
   request-answered : isAnswer (s .settings) (s .batch) (q .trace) (awaited.Request q) (messageIn b) ≡ true
-      → TiedAfter l (onRequest good (messageIn b) q s (lent .journal)) (afterHeard l good b a)
-  unfolding whenHeard isAnswer
+      → TiedAfter l (onRequest good (messageIn b) q s j) (afterHeard l good b a)
+  unfolding whenHeard
   request-answered e =
-      let r = messageIn b in
-      let w = awaited.Request q in
-      let t = and-eq-true-iff (matchesSent (s .settings) (s .batch) (indicatorSent w) (q .trace) r) (holdsNamed w r) .0 e in
-      let n = and-eq-true-iff (names (r .bitmap) 39) (approvalHolds (q .amount) r) .0 (t .1) in
       rw (
         not-closed l good b a (d .never-closes),
         latest-changed latest (whenHeard l good b) (heard-ended l good b),
         request-accepted b (d .asks) read e,
       )
-      (request-decided (n .1))
+      request-decided
 
 -- an answer to a reversal
-module _ (l : ℕ) (good : Bool) (b : List ℕ) (read : readMessage b .outcome ≡ Read) (s : State) (j : List ℕ) (a : Account) (v : Reversal)
-    (h : Tied l (inPhase (Waiting (awaited.Reversal v)) s) j a) where
-  reversal-decided : (let d = h .shape .latest in Tied l (onReversal good (messageIn b) v s) j
+module _ (l : ℕ) (good : Bool) (b : List ℕ) (read : readMessage b .outcome ≡ Read) (s : State) (a : Account) (v : Reversal)
+    (h : Tied l (inPhase (Waiting (awaited.Reversal v)) s) a) where
+  reversal-decided : (let d = h .shape .latest in Tied l (onReversal good (messageIn b) v s)
       (accountOf (cond (endsReversal good (messageIn b)) (becomes (ended reversed) (d .head)) (history.failed l (d .head)) ∷ d .rest) (a .last)))
   unfolding onReversal
   reversal-decided = go (endsReversal good (messageIn b))
@@ -174,13 +161,13 @@ module _ (l : ℕ) (good : Bool) (b : List ℕ) (read : readMessage b .outcome �
       d : Latest l (out (h .shape .reversal)) (v .sendings) a
       d = h .shape .latest
 
-      go : (x : Bool) → Tied l (cond x (state-effects.ended Reversed s) (failed v s)) j
+      go : (x : Bool) → Tied l (cond x (state-effects.ended Reversed s) (failed v s))
           (accountOf (cond x (becomes (ended reversed) (d .head)) (history.failed l (d .head)) ∷ d .rest) (a .last))
-      go true = ended-tied l s j a (out (h .shape .reversal)) (v .sendings) refl (h .kept) d reversed refl
-      go false = failed-tied l s j a (out (h .shape .reversal)) (v .sendings) refl (h .kept) d v refl
+      go true = ended-tied l s a (out (h .shape .reversal)) (v .sendings) refl (h .kept) d reversed refl
+      go false = failed-tied l s a (out (h .shape .reversal)) (v .sendings) refl (h .kept) d v refl
 
   reversal-answered : isAnswer (s .settings) (s .batch) (v .request .trace) (awaited.Reversal v) (messageIn b) ≡ true
-      → Tied l (onReversal good (messageIn b) v s) j (afterHeard l good b a)
+      → Tied l (onReversal good (messageIn b) v s) (afterHeard l good b a)
   unfolding whenHeard
   reversal-answered e =
       let d = h .shape in
@@ -193,18 +180,18 @@ module _ (l : ℕ) (good : Bool) (b : List ℕ) (read : readMessage b .outcome �
       reversal-decided
 
 -- a closing: nothing remains of the batch
-closed-tied : (l : ℕ) (s : State) (j : List ℕ) (a : Account) (x : Bool)
-    → Kept l (s .settings) (s .counts) (totalsOf (entriesOf (s .entries) j)) (a .requests) → AllDone l (a .requests)
-    → Tied l (cond x (closed s) (inPhase Uploading s)) j (accountOf (cond x [] (a .requests)) (a .last))
-closed-tied l s j a true k d =
+closed-tied : (l : ℕ) (s : State) (a : Account) (x : Bool)
+    → Kept l (s .settings) (s .counts) (s .totals) (a .requests) → AllDone l (a .requests)
+    → Tied l (cond x (closed s) (inPhase Uploading s)) (accountOf (cond x [] (a .requests)) (a .last))
+closed-tied l s a true k d =
     record { kept = record { sendings-set = k .sendings-set; shaped = k .shaped; books = no-books }; shape = tt }
-closed-tied l s j a false k d = record { kept = k; shape = d }
+closed-tied l s a false k d = record { kept = k; shape = d }
 
-module _ (l : ℕ) (good : Bool) (b : List ℕ) (read : readMessage b .outcome ≡ Read) (s : State) (j : List ℕ) (a : Account)
+module _ (l : ℕ) (good : Bool) (b : List ℕ) (read : readMessage b .outcome ≡ Read) (s : State) (a : Account)
     (trace : Trace) where
-  settlement-answered : Tied l (inPhase (Waiting (awaited.Settlement trace)) s) j a
+  settlement-answered : Tied l (inPhase (Waiting (awaited.Settlement trace)) s) a
       → isAnswer (s .settings) (s .batch) trace (awaited.Settlement trace) (messageIn b) ≡ true
-      → Tied l (onSettlement (messageIn b) s) j (afterHeard l good b a)
+      → Tied l (onSettlement (messageIn b) s) (afterHeard l good b a)
   unfolding onSettlement
   settlement-answered h e =
       let d = h .shape in
@@ -213,11 +200,11 @@ module _ (l : ℕ) (good : Bool) (b : List ℕ) (read : readMessage b .outcome �
         maybe-closed l good b a (settlement-accepted trace b (d .said) t read e) (d .done),
         settlement-closes t (messageIn b),
       )
-      (closed-tied l s j a (terminal.closesBatch (messageIn b)) (h .kept) (d .done))
+      (closed-tied l s a (terminal.closesBatch (messageIn b)) (h .kept) (d .done))
 
-  end-answered : Tied l (inPhase (Waiting (awaited.End trace)) s) j a
+  end-answered : Tied l (inPhase (Waiting (awaited.End trace)) s) a
       → isAnswer (s .settings) (s .batch) trace (awaited.End trace) (messageIn b) ≡ true
-      → Tied l (onEnd (messageIn b) s) j (afterHeard l good b a)
+      → Tied l (onEnd (messageIn b) s) (afterHeard l good b a)
   unfolding onEnd
   end-answered h e =
       let d = h .shape in
@@ -226,25 +213,25 @@ module _ (l : ℕ) (good : Bool) (b : List ℕ) (read : readMessage b .outcome �
         maybe-closed l good b a (end-accepted trace b (d .said) t read e) (d .done),
         end-closes t (messageIn b),
       )
-      (closed-tied l s j a (approves (messageIn b)) (h .kept) (d .done))
+      (closed-tied l s a (approves (messageIn b)) (h .kept) (d .done))
 
-item-answered : (l : ℕ) (good : Bool) (b : List ℕ) (s : State) (j : List ℕ) (a : Account) (i : ℕ)
-    → Tied l (inPhase (Waiting (awaited.Item i)) s) j a → Tied l (inPhase Uploading s) (onItem (messageIn b) i j) (afterHeard l good b a)
+item-answered : (l : ℕ) (good : Bool) (b : List ℕ) (s : State) (a : Account) (i : ℕ)
+    → Tied l (inPhase (Waiting (awaited.Item i)) s) a → Tied l (inPhase Uploading s) (afterHeard l good b a)
 unfolding onItem
-item-answered l good b s j a i h =
+item-answered l good b s a i h =
     let d = h .shape in
     rw (not-closed l good b a (d .never-closes), heard-same l good b l (a .requests) (d .done))
-    (record { kept = rw (marked-totals (s .entries) i (cond (approves (messageIn b)) 2 3) j) (h .kept); shape = d .done })
+    (record { kept = h .kept; shape = d .done })
 
 pub answered-tied : (w : Awaited) (l : ℕ) (good : Bool) (b : List ℕ) → readMessage b .outcome ≡ Read
-    → (s : State) (lent : Lent) (a : Account) → Fit (inPhase (Waiting w) s) lent → Tied l (inPhase (Waiting w) s) (lent .journal) a
+    → (s : State) (j : List ℕ) (a : Account) → Tied l (inPhase (Waiting w) s) a
     → s .phase ≡ Waiting w → s .chip .approved ≡ false
-    → isAnswer (s .settings) (s .batch) (traceSent (entriesOf (s .entries) (lent .journal)) w) w (messageIn b) ≡ true
-    → TiedAfter l (answered good (messageIn b) w s (lent .journal)) (afterHeard l good b a)
+    → isAnswer (s .settings) (s .batch) (traceSent (entriesOf (s .entries) j) w) w (messageIn b) ≡ true
+    → TiedAfter l (answered good (messageIn b) w s j) (afterHeard l good b a)
 unfolding answered
-answered-tied (awaited.Request q) l good b r s lent a f h p c e =
-    request-answered l good b r s lent a q f (h .kept) (fate-of l (s .settings) (s .batch) (s .chip) q a false c (h .shape)) p e
-answered-tied (awaited.Reversal v) l good b r s lent a f h p c e = reversal-answered l good b r s (lent .journal) a v h e
-answered-tied (awaited.Settlement trace) l good b r s lent a f h p c e = settlement-answered l good b r s (lent .journal) a trace h e
-answered-tied (awaited.Item i) l good b r s lent a f h p c e = item-answered l good b s (lent .journal) a i h
-answered-tied (awaited.End trace) l good b r s lent a f h p c e = end-answered l good b r s (lent .journal) a trace h e
+answered-tied (awaited.Request q) l good b r s j a h p c e =
+    request-answered l good b r s j a q (h .kept) (fate-of l (s .settings) (s .batch) (s .chip) q a false c (h .shape)) p e
+answered-tied (awaited.Reversal v) l good b r s j a h p c e = reversal-answered l good b r s a v h e
+answered-tied (awaited.Settlement trace) l good b r s j a h p c e = settlement-answered l good b r s a trace h e
+answered-tied (awaited.Item i) l good b r s j a h p c e = item-answered l good b s a i h
+answered-tied (awaited.End trace) l good b r s j a h p c e = end-answered l good b r s a trace h e

@@ -1,4 +1,4 @@
--- A good approval: its entry, and the journal's totals with it.
+-- A good approval, and the entries with its own.
 use mathlib.Core.Path.{_≡_, refl}
 use mathlib.Core.List.{List, [], _∷_, _++_}
 use mathlib.Core.Bool.{Bool, true, false, cond, _&&_, and-eq-true-iff}
@@ -19,12 +19,10 @@ use Rattle.kinds.specs.Kinds.{takesOriginal, originalKind}
 use Rattle.entry.specs.Entry.{entrySize}
 use Rattle.entry.specs.Form.{inForm}
 use Rattle.entry.specs.declared.Entry.{Entry}
-use Rattle.journal.specs.Journal.{entriesOf, firstOf, isOriginal, totalsOf, withVoided}
-use Rattle.journal.specs.Sums.{withEntry}
+use Rattle.journal.specs.Journal.{entriesOf, firstOf, isOriginal}
 use Rattle.journal.specs.declared.Found.{Found}
 use Rattle.journal.specs.declared.Found.the-variants.{At, Nowhere}
-use Rattle.journal.proofs.Entries.{put-appends, set-voided, length-set-byte}
-use Rattle.journal.proofs.Sums.{voided-totals, totals-changed, totals-last}
+use Rattle.journal.proofs.Entries.{put-appends, length-set-byte}
 use Rattle.state.specs.declared.Approval.{Approval}
 use Rattle.state.specs.declared.Request.{Request}
 use Rattle.state.specs.declared.Awaited.the-variants as awaited
@@ -42,23 +40,15 @@ use Rattle.approval.proofs.Approval.{answer-holds, shaped, in-form}
 use Rattle.effect_definitions.specs.JournalEffects.{voidedAt, originalVoided, approved}
 use Rattle.history.specs.Words.{messageIn}
 
--- the journal in which an original is voided: as long, and of the same totals
-record Voided (n : ℕ) (j k : List ℕ) : Type 0 where
-  room : length k ≡ length j
-  totals : totalsOf (entriesOf n k) ≡ totalsOf (entriesOf n j)
-
-original-voided : (n : ℕ) (q : Request) (es : List Entry) (j : List ℕ) → Voided n j (originalVoided q es j)
+-- the journal in which an original is voided is as long
+length-voided : (q : Request) (es : List Entry) (j : List ℕ) → length (originalVoided q es j) ≡ length j
 unfolding originalVoided
-original-voided n q es j = go (takesOriginal (q .kind)) (firstOf (isOriginal (originalKind (q .kind)) (q .original .0)) 0 es)
+length-voided q es j = go (takesOriginal (q .kind)) (firstOf (isOriginal (originalKind (q .kind)) (q .original .0)) 0 es)
   where
-    go : (b : Bool) (f : Found) → Voided n j (cond b (voidedAt f j) j)
-    go true (At i) =
-        record {
-          room = length-set-byte i 1 1 j;
-          totals = rw (set-voided n i 1 j) (totals-changed (withVoided 1) (voided-totals 1) i (entriesOf n j));
-        }
-    go true Nowhere = record { room = refl; totals = refl }
-    go false f = record { room = refl; totals = refl }
+    go : (b : Bool) (f : Found) → length (cond b (voidedAt f j) j) ≡ length j
+    go true (At i) = length-set-byte i 1 1 j
+    go true Nowhere = refl
+    go false f = refl
 
 -- an awaited request has a place
 place-left : (limit n : ℕ) (es : List Entry) (q : Request) → requestKept limit n es q ≡ true → n < limit
@@ -96,21 +86,9 @@ module _ (q : Request) (v : Approval) (s : State) (lent : Lent) (h : Fit (inPhas
       let c = s .entries in
       let j = lent .journal in
       let k = originalVoided q (entriesOf c j) j in
-      let w = original-voided c q (entriesOf c j) j in
       let p = place-left (s .settings .limit) c (entriesOf c j) q (h .order .phase-kept) in
-      let room : entrySize * c + entrySize ≤ length k = rw (w .room) (omega (arith, h .journal-room, p)) in
+      let room : entrySize * c + entrySize ≤ length k = rw (length-voided q (entriesOf c j) j) (omega (arith, h .journal-room, p)) in
       rw (add-one c) (put-appends c (approvedEntry q v) k (shaped q v g) (entry-in-form q v (h .order .state .phase-form) g) room)
-
-  pub approved-totals : totalsOf (entriesOf (s .entries + 1) (approved q (approvedEntry q v) s (lent .journal) .journal))
-      ≡ withEntry (totalsOf (entriesOf (s .entries) (lent .journal))) (approvedEntry q v)
-  approved-totals =
-      let c = s .entries in
-      let j = lent .journal in
-      rw (
-        approved-entries,
-        totals-last (entriesOf c (originalVoided q (entriesOf c j) j)) (approvedEntry q v),
-        original-voided c q (entriesOf c j) j .totals,
-      )
 
 -- it has the request's kind and amount
 pub approved-kind : (q : Request) (v : Approval) → approvedEntry q v .kind ≡ q .kind

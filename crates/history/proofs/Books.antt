@@ -1,4 +1,4 @@
--- The terminal's counts and the journal's totals against those of the requests, as one request is sent, waits on or ends.
+-- The terminal's counts and totals against those of the requests, as one request is sent, waits on or ends.
 use mathlib.Core.Path.{_≡_, refl, sym, ap, _∙_}
 use mathlib.Core.List.{List, [], _∷_}
 use mathlib.Core.Bool.{true, false, cond}
@@ -8,9 +8,7 @@ use native.Mathlib.Numerals.{add-one, one-add}
 use native.Mathlib.Omega.{arith}
 use Rattle.message.specs.declared.Message.{Message}
 use Rattle.kinds.specs.Kinds as kinds
-use Rattle.entry.specs.declared.Entry.{Entry}
-use Rattle.journal.specs.Journal.{debitEntry, creditEntry, totalsOf, sumsOf}
-use Rattle.journal.specs.Sums.{withEntry}
+use Rattle.kinds.specs.Totals.{noTotals, booked}
 use Rattle.kinds.specs.declared.Totals.{Totals}
 use Rattle.state.specs.declared.Counts.{Counts}
 use Rattle.state.specs.declared.Count.{Count}
@@ -36,8 +34,7 @@ pub record Books (c : Counts) (t : Totals) (rs : List Request) : Type 0 where
   pub summed : t ≡ requestSums rs
 
 -- a batch in which nothing was sent
-pub no-books : Books noCounts (totalsOf []) []
-unfolding sumsOf
+pub no-books : Books noCounts noTotals []
 no-books = record { counted = refl; summed = refl }
 
 -- what the terminal counts an ending as
@@ -106,10 +103,10 @@ module _ (c : Counts) (t : Totals) (rs : List Request) where
     one-ended e u =
         record { counted = counted-ended e; summed = summed-before ∙ sym (unsummed (becomes (ended e) r) rs u) }
 
-    -- it is approved, and its entry enters the totals
-    summed-more : (n : Entry) → n .kind ≡ kindIn (r .message) → withEntry t n ≡ requestSums (approvedFor (n .amount) r ∷ rs)
-    unfolding withEntry debitEntry creditEntry isDebit isCredit kinds.isDebit kinds.isCredit
-    summed-more n k =
+    -- it is approved, and its amount is booked
+    summed-more : (kind x : ℕ) → kind ≡ kindIn (r .message) → booked kind x t ≡ requestSums (approvedFor x r ∷ rs)
+    unfolding booked isDebit isCredit kinds.isDebit kinds.isCredit
+    summed-more kind x k =
         rw (
           summed-before,
           k,
@@ -119,9 +116,9 @@ module _ (c : Counts) (t : Totals) (rs : List Request) where
           add-comm (count approvedCredit rs),
         )
 
-    pub one-approved : (n : Entry) (x : ℕ) → n .kind ≡ kindIn (r .message) → n .amount ≡ x
-        → Books (plus Approved c) (withEntry t n) (approvedFor x r ∷ rs)
-    one-approved n x k e = rw (sym e) (record { counted = counted-ended approved; summed = summed-more n k })
+    pub one-approved : (kind amount x : ℕ) → kind ≡ kindIn (r .message) → amount ≡ x
+        → Books (plus Approved c) (booked kind amount t) (approvedFor x r ∷ rs)
+    one-approved kind amount x k e = rw e (record { counted = counted-ended approved; summed = summed-more kind x k })
 
 -- each request has one fate
 one-fate : (f : Fate)

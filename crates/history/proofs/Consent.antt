@@ -1,6 +1,5 @@
 -- No entry without the card's consent where field 55 left.
 use mathlib.Core.Path.{_≡_, refl, sym, _∙_}
-use mathlib.Core.List.{List}
 use mathlib.Core.Bool.{Bool, true, false, cond, not, true≢false, and-eq-true-iff}
 use Prim.Native.Nat.{ℕ, _+_, _≤_, _<_}
 use native.Mathlib.Omega.{arith}
@@ -42,22 +41,22 @@ approves-request Settling l x batch c a good m e h = absurd (true≢false (sym e
 approves-request Uploading l x batch c a good m e h = absurd (true≢false (sym e))
 
 -- what adds an entry after a request with a chip is the card's consent
-adds-entry : (e : Event) (l : ℕ) (s : State) (j : List ℕ) (a : Account) → Tied l s j a → lastCarriesChip (a .requests) ≡ true
+adds-entry : (e : Event) (l : ℕ) (s : State) (a : Account) → Tied l s a → lastCarriesChip (a .requests) ≡ true
     → isApproval e s ≡ true → e ≡ card-agrees
-adds-entry (signed-on batch) l s j a h c y = absurd (true≢false (sym y))
-adds-entry (starts d b) l s j a h c y = absurd (true≢false (sym y))
-adds-entry (answers b good) l s j a h c y =
+adds-entry (signed-on batch) l s a h c y = absurd (true≢false (sym y))
+adds-entry (starts d b) l s a h c y = absurd (true≢false (sym y))
+adds-entry (answers b good) l s a h c y =
     let t = and-eq-true-iff (approvesIn (s .phase) good (readMessage b .message)) (not (hasChip (s .chip))) .0 y in
     let k = approves-request (s .phase) l (s .settings) (s .batch) (s .chip) a good (readMessage b .message) (t .0) (h .shape) in
     let n : not true ≡ true = rw (sym k ∙ c) at (t .1) in
     absurd (true≢false (sym n))
-adds-entry no-answer l s j a h c y = absurd (true≢false (sym y))
-adds-entry power-returned l s j a h c y = absurd (true≢false (sym y))
-adds-entry card-agrees l s j a h c y = refl
-adds-entry card-declines l s j a h c y = absurd (true≢false (sym y))
-adds-entry send-reversal l s j a h c y = absurd (true≢false (sym y))
-adds-entry settles l s j a h c y = absurd (true≢false (sym y))
-adds-entry send-next-upload l s j a h c y = absurd (true≢false (sym y))
+adds-entry no-answer l s a h c y = absurd (true≢false (sym y))
+adds-entry power-returned l s a h c y = absurd (true≢false (sym y))
+adds-entry card-agrees l s a h c y = refl
+adds-entry card-declines l s a h c y = absurd (true≢false (sym y))
+adds-entry send-reversal l s a h c y = absurd (true≢false (sym y))
+adds-entry settles l s a h c y = absurd (true≢false (sym y))
+adds-entry send-next-upload l s a h c y = absurd (true≢false (sym y))
 
 one-more : (b : Bool) (n m : ℕ) → m ≤ n + cond b 1 0 → n < m → b ≡ true
 one-more true n m h l = refl
@@ -68,5 +67,5 @@ no-entry-without-consent x j ts t w v g c =
     let r = runs ts (begun x j) in
     let h = every-holds x j ts w v in
     let k = entries-by-approval (t .event) (r .state) (lend (r .journal) (t .message)) in
-    adds-entry (t .event) (x .sendings) (r .state) (r .journal) (account (x .sendings) (r .history)) (h .tied) c
+    adds-entry (t .event) (x .sendings) (r .state) (account (x .sendings) (r .history)) (h .tied) c
     (one-more (isApproval (t .event) (r .state)) _ _ k g)

@@ -1,6 +1,6 @@
 -- A card that declines, or is silent, where its word is awaited: its request is between the cause of its reversal and its end.
 use mathlib.Core.Path.{_≡_, refl, sym, _∙_}
-use mathlib.Core.List.{List, _∷_}
+use mathlib.Core.List.{_∷_}
 use mathlib.Core.Bool.{Bool, true, false, true≢false}
 use Prim.Native.Nat.{ℕ}
 use native.Mathlib.Omega.{arith}
@@ -69,5 +69,5 @@ module _ (l : ℕ) (a : Account) where
     phase-call Settling d = none (none-consenting l (a .requests) d) e g
     phase-call Uploading d = none (none-consenting l (a .requests) d) e g
 
-pub declined-call : (e : Event) (g : Given) (l : ℕ) (s : State) (j : List ℕ) (a : Account) → Tied l s j a → Declined e g l a
-declined-call e g l s j a h = phase-call l a (s .settings) (s .batch) (s .chip) e g (s .phase) (h .shape)
+pub declined-call : (e : Event) (g : Given) (l : ℕ) (s : State) (a : Account) → Tied l s a → Declined e g l a
+declined-call e g l s a h = phase-call l a (s .settings) (s .batch) (s .chip) e g (s .phase) (h .shape)

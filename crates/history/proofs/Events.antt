@@ -19,7 +19,6 @@ use borrow.Author.Tests.{not-false}
 use Rattle.state.specs.State.{hasChip, approvalIn, inPhase, signed, waits}
 use Rattle.state_rules.specs.StateRules.{awaitsRequest, requestAwaited, approvalInForm}
 use Rattle.state_rules.proofs.Holds.{ChipHolds}
-use Rattle.call_theorems.proofs.Approving.{consent-holds}
 use Rattle.checks.specs.Checks.{firstBroken}
 use Rattle.state.specs.Calls.{Lent}
 use Rattle.checks.proofs.Choices.{passed}
@@ -49,7 +48,7 @@ other-batch (Pending v) l x b c k a w h = h
 other-batch Settling l x b c k a w h = h
 other-batch Uploading l x b c k a w h = h
 
-signed-after : (l : ℕ) (batch : Batch) (s : State) (lent : Lent) (a : Account) → Tied l s (lent .journal) a
+signed-after : (l : ℕ) (batch : Batch) (s : State) (lent : Lent) (a : Account) → Tied l s a
     → After l (signed-on batch) a (signedOn batch s lent)
 unfolding signedOn
 signed-after l batch s lent a h =
@@ -67,7 +66,7 @@ signed-after l batch s lent a h =
     })
 
 -- silence: where nothing is awaited, no request changes
-silent-in : (p : Phase) (l : ℕ) (s : State) (j : List ℕ) (a : Account) → ChipHolds p (s .chip) → Tied l (inPhase p s) j a
+silent-in : (p : Phase) (l : ℕ) (s : State) (j : List ℕ) (a : Account) → ChipHolds p (s .chip) → Tied l (inPhase p s) a
     → TiedAfter l (silentIn p (inPhase p s) j) (afterSilence l a)
 unfolding whenSilent
 silent-in Resting l s j a k h = rw (silent-same l l (a .requests) (h .shape)) h
@@ -84,24 +83,24 @@ chip-fits : (s : State) (lent : Lent) → Fit s lent → ChipHolds (s .phase) (s
 chip-fits s lent f = f .order .state .chip
 
 -- no answer
-silence-after : (l : ℕ) (s : State) (lent : Lent) (a : Account) → Tied l s (lent .journal) a → After l no-answer a (noAnswer s lent)
+silence-after : (l : ℕ) (s : State) (lent : Lent) (a : Account) → Tied l s a → After l no-answer a (noAnswer s lent)
 unfolding noAnswer
 silence-after l s lent a h =
     judged-after l no-answer a (firstBroken (noAnswerRules s lent)) s lent (quietly (silentIn (s .phase) s (lent .journal)) lent) h
     (λ z. record { tied = silent-in (s .phase) l s (lent .journal) a (chip-fits s lent (fit-first s lent _ refl z)) h; lawful = tt })
 
 -- power returned
-off-tied : (l : ℕ) (s : State) (j : List ℕ) (a : Account) → Tied l s j a → Tied l (signed false s) j a
-off-tied l s j a h = record { kept = h .kept; shape = h .shape }
+off-tied : (l : ℕ) (s : State) (a : Account) → Tied l s a → Tied l (signed false s) a
+off-tied l s a h = record { kept = h .kept; shape = h .shape }
 
-power-after : (l : ℕ) (s : State) (lent : Lent) (a : Account) → Tied l s (lent .journal) a → After l power-returned a (powerReturned s lent)
+power-after : (l : ℕ) (s : State) (lent : Lent) (a : Account) → Tied l s a → After l power-returned a (powerReturned s lent)
 unfolding powerReturned
 power-after l s lent a h =
     let c = silentIn (s .phase) s (lent .journal) in
     judged-after l power-returned a (firstBroken (rules12 s lent)) s lent (withoutPower c lent) h
     (λ z.
     record {
-      tied = off-tied l (c .state) (c .journal) (afterSilence l a) (silent-in (s .phase) l s (lent .journal) a (chip-fits s lent (fit s lent z)) h);
+      tied = off-tied l (c .state) (afterSilence l a) (silent-in (s .phase) l s (lent .journal) a (chip-fits s lent (fit s lent z)) h);
       lawful = tt;
     })
 
@@ -115,28 +114,28 @@ consent-awaited p c k e =
 abbrev afterConsent : Account → Account
 afterConsent a = accountOf (byFate whenAgreed (a .requests)) (a .last)
 
-agreed-awaited : (w : Awaited) (l : ℕ) (s : State) (lent : Lent) (a : Account) → Fit (inPhase (Waiting w) s) lent
-    → Tied l (inPhase (Waiting w) s) (lent .journal) a → s .chip .approved ≡ true → awaitsRequest w ≡ true
-    → TiedAfter l (agreed w s (lent .journal)) (afterConsent a)
+agreed-awaited : (w : Awaited) (l : ℕ) (s : State) (j : List ℕ) (a : Account)
+    → Tied l (inPhase (Waiting w) s) a → s .chip .approved ≡ true → awaitsRequest w ≡ true
+    → TiedAfter l (agreed w s j) (afterConsent a)
 unfolding agreed whenAgreed
-agreed-awaited (awaited.Request q) l s lent a f h e r =
+agreed-awaited (awaited.Request q) l s j a h e r =
     let d = fate-of l (s .settings) (s .batch) (s .chip) q a true e (h .shape) in
     rw (latest-changed (d .latest) whenAgreed agreed-ended)
-    (approved-tied l s lent a q f (h .kept) consenting refl d (approvalIn (s .chip)) (consent-holds (Waiting (awaited.Request q)) (s .chip) (f .order .state .chip) e))
-agreed-awaited (awaited.Reversal v) l s lent a f h e r = absurd (true≢false (sym r))
-agreed-awaited (awaited.Settlement x) l s lent a f h e r = absurd (true≢false (sym r))
-agreed-awaited (awaited.Item i) l s lent a f h e r = absurd (true≢false (sym r))
-agreed-awaited (awaited.End x) l s lent a f h e r = absurd (true≢false (sym r))
+    (approved-tied l s j a q (h .kept) consenting refl d (approvalIn (s .chip)))
+agreed-awaited (awaited.Reversal v) l s j a h e r = absurd (true≢false (sym r))
+agreed-awaited (awaited.Settlement x) l s j a h e r = absurd (true≢false (sym r))
+agreed-awaited (awaited.Item i) l s j a h e r = absurd (true≢false (sym r))
+agreed-awaited (awaited.End x) l s j a h e r = absurd (true≢false (sym r))
 
-agreed-in : (p : Phase) (l : ℕ) (s : State) (lent : Lent) (a : Account) → Fit (inPhase p s) lent → Tied l (inPhase p s) (lent .journal) a
-    → s .chip .approved ≡ true → requestAwaited p ≡ true → TiedAfter l (agreedIn p (inPhase p s) (lent .journal)) (afterConsent a)
-agreed-in Resting l s lent a f h e r = absurd (true≢false (sym r))
-agreed-in (Waiting w) l s lent a f h e r = agreed-awaited w l (inPhase (Waiting w) s) lent a f h e r
-agreed-in (Pending v) l s lent a f h e r = absurd (true≢false (sym r))
-agreed-in Settling l s lent a f h e r = absurd (true≢false (sym r))
-agreed-in Uploading l s lent a f h e r = absurd (true≢false (sym r))
+agreed-in : (p : Phase) (l : ℕ) (s : State) (j : List ℕ) (a : Account) → Tied l (inPhase p s) a
+    → s .chip .approved ≡ true → requestAwaited p ≡ true → TiedAfter l (agreedIn p (inPhase p s) j) (afterConsent a)
+agreed-in Resting l s j a h e r = absurd (true≢false (sym r))
+agreed-in (Waiting w) l s j a h e r = agreed-awaited w l (inPhase (Waiting w) s) j a h e r
+agreed-in (Pending v) l s j a h e r = absurd (true≢false (sym r))
+agreed-in Settling l s j a h e r = absurd (true≢false (sym r))
+agreed-in Uploading l s j a h e r = absurd (true≢false (sym r))
 
-agrees-after : (l : ℕ) (s : State) (lent : Lent) (a : Account) → Tied l s (lent .journal) a → After l card-agrees a (cardAgrees s lent)
+agrees-after : (l : ℕ) (s : State) (lent : Lent) (a : Account) → Tied l s a → After l card-agrees a (cardAgrees s lent)
 unfolding cardAgrees
 agrees-after l s lent a h =
     let rs = cardRules s lent in
@@ -145,7 +144,7 @@ agrees-after l s lent a h =
     let f = fit-first s lent _ refl z in
     let e : s .chip .approved ≡ true = not-false _ (passed 14 rs refl z) in
     record {
-      tied = agreed-in (s .phase) l s lent a f h e (consent-awaited (s .phase) (s .chip) (chip-fits s lent f) e);
+      tied = agreed-in (s .phase) l s (lent .journal) a h e (consent-awaited (s .phase) (s .chip) (chip-fits s lent f) e);
       lawful = tt;
     })
 
@@ -169,7 +168,7 @@ declined-in (Pending v) l x batch c a h e r = absurd (true≢false (sym r))
 declined-in Settling l x batch c a h e r = absurd (true≢false (sym r))
 declined-in Uploading l x batch c a h e r = absurd (true≢false (sym r))
 
-declines-after : (l : ℕ) (s : State) (lent : Lent) (a : Account) → Tied l s (lent .journal) a → After l card-declines a (cardDeclines s lent)
+declines-after : (l : ℕ) (s : State) (lent : Lent) (a : Account) → Tied l s a → After l card-declines a (cardDeclines s lent)
 unfolding cardDeclines
 declines-after l s lent a h =
     let rs = cardRules s lent in
@@ -187,29 +186,29 @@ declines-after l s lent a h =
 
 -- an answer to what is awaited; rule 14 lets no other phase pass, nor the wait for the card
 answered-in : (p : Phase) (l : ℕ) (b : List ℕ) (good : Bool) (s : State) (lent : Lent) (a : Account) → readMessage b .outcome ≡ Read
-    → Fit (inPhase p s) lent → Tied l (inPhase p s) (lent .journal) a → (not (waits p) || s .chip .approved) ≡ false
+    → Fit (inPhase p s) lent → Tied l (inPhase p s) a → (not (waits p) || s .chip .approved) ≡ false
     → answersIn p (entriesOf (s .entries) (lent .journal)) (inPhase p s) (messageIn b) ≡ true
     → After l (answers b good) a (quietly (answeredIn p good (messageIn b) (inPhase p s) (lent .journal)) lent)
 answered-in Resting l b good s lent a r f h w e = absurd (true≢false w)
 answered-in (Waiting x) l b good s lent a r f h w e =
-    record { tied = answered-tied x l good b r (inPhase (Waiting x) s) lent a f h refl w e; lawful = tt }
+    record { tied = answered-tied x l good b r (inPhase (Waiting x) s) (lent .journal) a h refl w e; lawful = tt }
 answered-in (Pending v) l b good s lent a r f h w e = absurd (true≢false w)
 answered-in Settling l b good s lent a r f h w e = absurd (true≢false w)
 answered-in Uploading l b good s lent a r f h w e = absurd (true≢false w)
 
 answer-in : (l : ℕ) (b : List ℕ) (good : Bool) (s : State) (lent : Lent) (a : Account) → readMessage b .outcome ≡ Read
-    → Fit s lent → Tied l s (lent .journal) a → After l (answers b good) a (answerIn good (messageIn b) s lent)
+    → Fit s lent → Tied l s a → After l (answers b good) a (answerIn good (messageIn b) s lent)
 answer-in l b good s lent a r f h =
     let rs = answerRules (messageIn b) s (lent .journal) in
     judged-after l (answers b good) a (firstBroken rs) s lent (quietly (answeredIn (s .phase) good (messageIn b) s (lent .journal)) lent) h
     (λ z. answered-in (s .phase) l b good s lent a r f h (passed 14 rs refl z) (not-false _ (passed 22 rs refl z)))
 
 read-in : (o : Judgement) (l : ℕ) (b : List ℕ) (good : Bool) (s : State) (lent : Lent) (a : Account) → readMessage b .outcome ≡ o
-    → Fit s lent → Tied l s (lent .journal) a → After l (answers b good) a (readIn o good (messageIn b) s lent)
+    → Fit s lent → Tied l s a → After l (answers b good) a (readIn o good (messageIn b) s lent)
 read-in Read l b good s lent a r f h = answer-in l b good s lent a r f h
 read-in (Unread n) l b good s lent a r f h = refused-after l (answers b good) a n s lent h
 
-answer-after : (l : ℕ) (b : List ℕ) (good : Bool) (s : State) (lent : Lent) (a : Account) → Tied l s (lent .journal) a
+answer-after : (l : ℕ) (b : List ℕ) (good : Bool) (s : State) (lent : Lent) (a : Account) → Tied l s a
     → After l (answers b good) a (answer b good s lent)
 unfolding answer
 answer-after l b good s lent a h =
@@ -218,7 +217,7 @@ answer-after l b good s lent a h =
     (λ z. read-in (readMessage b .outcome) l b good s lent a refl (fit s lent z) h)
 
 -- any call
-pub call-after : (e : Event) (l : ℕ) (s : State) (lent : Lent) (a : Account) → EventShaped e → Tied l s (lent .journal) a → After l e a (call e s lent)
+pub call-after : (e : Event) (l : ℕ) (s : State) (lent : Lent) (a : Account) → EventShaped e → Tied l s a → After l e a (call e s lent)
 call-after (signed-on batch) l s lent a w h = signed-after l batch s lent a h
 call-after (starts d b) l s lent a w h = start-after l d b s lent a h (w .0) (w .1)
 call-after (answers b good) l s lent a w h = answer-after l b good s lent a h

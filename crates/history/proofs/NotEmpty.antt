@@ -285,6 +285,7 @@ fresh-fits x lent f r l =
                   few = omega arith;
                   balance = refl;
                   approvals = refl;
+                  totals = refl;
                 };
             journal =
                 record {

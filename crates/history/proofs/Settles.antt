@@ -1,25 +1,23 @@
 -- Settle and send next upload keep the invariant, and what leaves is lawful.
 use mathlib.Core.Path.{_≡_, refl, ap, _∙_}
 use mathlib.Core.List.{List}
-use mathlib.Core.Bool.{Bool, true, false, cond}
-use Prim.Native.Nat.{ℕ, _+_}
+use mathlib.Core.Bool.{Bool, true, false}
+use Prim.Native.Nat.{ℕ}
 use native.Mathlib.Omega.{arith}
-use lib.Dec.{eqb}
 use Rattle.digits.specs.declared.Number.the-variants.{Is}
 use Rattle.message.specs.declared.Message.{Message}
 use Rattle.writing.specs.Writing.{messageBytes}
 use Rattle.numbers.specs.declared.Trace.{Trace}
 use Rattle.numbers.specs.declared.Batch.{Batch}
 use Rattle.entry.specs.Form.{inForm}
-use Rattle.entry.specs.declared.Entry.{Entry}
 use Rattle.entry.proofs.Form.{InForm, in-form}
-use Rattle.journal.specs.Journal.{entriesOf, entryAt, debitEntry, creditEntry, totalsOf, sumsOf, nextDue, setByte, taken, withResends}
+use Rattle.journal.specs.Journal.{entriesOf, entryAt, debitEntry, creditEntry, sumsOf, nextDue, taken}
 use Rattle.journal.specs.declared.Found.{Found}
 use Rattle.journal.specs.declared.Found.the-variants.{At, Nowhere}
 use Rattle.kinds.specs.declared.Totals.{Totals}
-use Rattle.journal.proofs.Entries.{length-entries-le, entry-shaped, set-resends}
+use Rattle.journal.proofs.Entries.{length-entries-le, entry-shaped}
 use Rattle.journal.proofs.Searches.{every-at, next-at}
-use Rattle.journal.proofs.Sums.{count-bounded, resends-totals, totals-changed}
+use Rattle.journal.proofs.Sums.{count-bounded}
 use Rattle.state.specs.declared.Phase.{Phase}
 use Rattle.state.specs.declared.Phase.the-variants.{Resting, Waiting, Pending, Settling, Uploading}
 use Rattle.state.specs.declared.Settings.{Settings}
@@ -34,7 +32,6 @@ use Rattle.call_definitions.specs.Settle.{settleRules, settle}
 use Rattle.batch_messages.specs.BatchMessages.{settlementMessage, itemMessage, endMessage}
 use Rattle.effect_definitions.specs.StateEffects as effects
 use Rattle.call_definitions.specs.SendNextUpload.{sendsNext, uploadFrom, sendNextUploadRules, sendNextUpload}
-use Rattle.effect_definitions.specs.JournalEffects.{resent}
 use Rattle.call_definitions.specs.Events.{settles, send-next-upload}
 use Rattle.history.specs.Words.{messageIn}
 use Rattle.history.specs.History.{sent, Request, Account, whenGiven}
@@ -50,7 +47,7 @@ use Rattle.history.proofs.Tied.{Tied}
 use Rattle.history.proofs.After.{LawfulMessage, After, judged-after, no, sent-other, idle}
 use Rattle.history.proofs.Starts.{fit-first}
 
-pub settings-held : (l : ℕ) (s : State) (lent : Lent) (a : Account) → Tied l s (lent .journal) a → Fit s lent → SettingsHeld (s .settings)
+pub settings-held : (l : ℕ) (s : State) (lent : Lent) (a : Account) → Tied l s a → Fit s lent → SettingsHeld (s .settings)
 settings-held l s lent a h f =
     record {
       terminal-length = h .kept .shaped .terminal-length;
@@ -59,22 +56,23 @@ settings-held l s lent a h f =
       merchant-printable = f .order .state .settings .merchant-printable;
     }
 
--- field 48 has room for the totals of a journal in order
-pub sayable : (s : State) (lent : Lent) → Fit s lent → Sayable (totalsOf (entriesOf (s .entries) (lent .journal)))
+-- field 48 has room for the totals of a terminal in order
+pub sayable : (s : State) (lent : Lent) → Fit s lent → Sayable (s .totals)
 unfolding sumsOf
 sayable s lent f =
     let es = entriesOf (s .entries) (lent .journal) in
     let n = length-entries-le (s .entries) (lent .journal) in
     let k = f .order .state .few in
     let x = f .order .state .settings .limit-most in
-    record {
+    rw (f .order .state .totals)
+    (record {
       debit-most = f .order .journal .debit-most;
       credit-most = f .order .journal .credit-most;
       debits-most = omega (arith, count-bounded debitEntry es);
       credits-most = omega (arith, count-bounded creditEntry es);
-    }
+    })
 
--- the totals of the journal are those of the batch's approved requests
+-- the totals are those of the batch's approved requests
 carries : {x : Settings} {batch : Batch} {trace : Trace} {t : Totals} {m : Message} {rs : List Request} → Settles x batch trace t m
     → t ≡ requestSums rs → Carries m rs
 carries w h =
@@ -85,10 +83,10 @@ carries w h =
       credit-count = w .credit-count ∙ ap (λ (t : Totals). Is (t .credits)) h;
     }
 
-module _ (l : ℕ) (s : State) (j : List ℕ) (a : Account) (h : Tied l s j a) (done : AllDone l (a .requests)) (b : List ℕ) where
+module _ (l : ℕ) (s : State) (a : Account) (h : Tied l s a) (done : AllDone l (a .requests)) (b : List ℕ) where
   -- a settlement leaves
   settlement-tied : (trace : Trace) → Says (s .settings) (s .batch) trace 0x0500 0 201 (messageIn b)
-      → Tied l (effects.settles s trace) j (whenGiven l (sent b) settles a)
+      → Tied l (effects.settles s trace) (whenGiven l (sent b) settles a)
   settlement-tied trace said =
       rw (sent-other settles (messageIn b) (a .requests) true false (settlement-typed (messageIn b) (said .indicator)))
       (record { kept = h .kept; shape = record { done = done; said = said } })
@@ -116,11 +114,11 @@ module _ (l : ℕ) (s : State) (j : List ℕ) (a : Account) (h : Tied l s j a) (
         no-consent-settling = no (t .is-settlement);
       }
 
-pub settle-after : (l : ℕ) (s : State) (lent : Lent) (a : Account) → Tied l s (lent .journal) a → After l settles a (settle s lent)
+pub settle-after : (l : ℕ) (s : State) (lent : Lent) (a : Account) → Tied l s a → After l settles a (settle s lent)
 unfolding settle
 settle-after l s lent a h =
     let es = entriesOf (s .entries) (lent .journal) in
-    let t = totalsOf es in
+    let t = s .totals in
     let rs = settleRules s lent in
     let trace : Trace = record { 0 = taken es (s .next .0) } in
     judged-after l settles a (firstBroken rs) s lent _ h
@@ -131,22 +129,11 @@ settle-after l s lent a h =
     let done = idle l (s .settings) (s .batch) (s .chip) a (s .phase) (passed 11 rs refl z) (passed 12 rs refl z) (h .shape) in
     let b = handedOut (messageBytes (settlementMessage (s .settings) (s .batch) trace t)) (lent .message) in
     record {
-      tied = settlement-tied l s (lent .journal) a h done b trace (w .said);
+      tied = settlement-tied l s a h done b trace (w .said);
       lawful =
-          settlement-lawful l s (lent .journal) a h done b (settlement-typed (messageIn b) (w .said .indicator))
+          settlement-lawful l s a h done b (settlement-typed (messageIn b) (w .said .indicator))
           (carries w (h .kept .books .summed));
     })
-
--- a resend changes no total
-resent-totals : (n i : ℕ) (e : Entry) (j : List ℕ) → totalsOf (entriesOf n (resent i e j)) ≡ totalsOf (entriesOf n j)
-unfolding resent
-resent-totals n i e j = go (eqb (e .mark) 0)
-  where
-    go : (b : Bool) → totalsOf (entriesOf n (cond b j (setByte i 3 (e .resends + 1) j))) ≡ totalsOf (entriesOf n j)
-    go true = refl
-    go false =
-        rw (set-resends n i (e .resends + 1) j)
-        (totals-changed (withResends (e .resends + 1)) (resends-totals (e .resends + 1)) i (entriesOf n j))
 
 -- an entry of a journal in order may leave
 pub entry-held : (n i : ℕ) (j : List ℕ) → InForm (entryAt (entriesOf n j) i) → EntryHeld (entryAt (entriesOf n j) i)
@@ -161,7 +148,7 @@ entry-held n i j f =
       authorisation-printable = f .authorisation-printable;
     }
 
-module _ (l : ℕ) (s : State) (lent : Lent) (a : Account) (h : Tied l (inPhase Uploading s) (lent .journal) a) (f : Fit (inPhase Uploading s) lent) where
+module _ (l : ℕ) (s : State) (lent : Lent) (a : Account) (h : Tied l (inPhase Uploading s) a) (f : Fit (inPhase Uploading s) lent) where
   held : SettingsHeld (s .settings)
   held = settings-held l (inPhase Uploading s) lent a h f
 
@@ -179,10 +166,10 @@ module _ (l : ℕ) (s : State) (lent : Lent) (a : Account) (h : Tied l (inPhase 
         tied =
             rw (sent-other send-next-upload (messageIn b) (a .requests) false false t)
             (record {
-              kept = rw (resent-totals (s .entries) i x (lent .journal)) (h .kept);
+              kept = h .kept;
               shape = record { done = h .shape; never-closes = other-closes t };
             });
-        lawful = upload-lawful l (inPhase Uploading s) (lent .journal) a h (h .shape) b false t;
+        lawful = upload-lawful l (inPhase Uploading s) a h (h .shape) b false t;
       }
 
   end-after : After l send-next-upload a (sendsNext Nowhere (inPhase Uploading s) lent)
@@ -198,14 +185,14 @@ module _ (l : ℕ) (s : State) (lent : Lent) (a : Account) (h : Tied l (inPhase 
               kept = h .kept;
               shape = record { done = h .shape; said = said };
             });
-        lawful = upload-lawful l (inPhase Uploading s) (lent .journal) a h (h .shape) b true t;
+        lawful = upload-lawful l (inPhase Uploading s) a h (h .shape) b true t;
       }
 
   next-after : (n : Found) → nextDue (due Uploading) (entriesOf (s .entries) (lent .journal)) ≡ n → After l send-next-upload a (sendsNext n (inPhase Uploading s) lent)
   next-after (At i) e = item-after i e
   next-after Nowhere e = end-after
 
-upload-from : (p : Phase) (l : ℕ) (s : State) (lent : Lent) (a : Account) → Tied l (inPhase p s) (lent .journal) a → Fit (inPhase p s) lent
+upload-from : (p : Phase) (l : ℕ) (s : State) (lent : Lent) (a : Account) → Tied l (inPhase p s) a → Fit (inPhase p s) lent
     → After l send-next-upload a (uploadFrom p (inPhase p s) lent)
 upload-from Resting l s lent a h f = record { tied = h; lawful = tt }
 upload-from (Waiting w) l s lent a h f = record { tied = h; lawful = tt }
@@ -213,7 +200,7 @@ upload-from (Pending v) l s lent a h f = record { tied = h; lawful = tt }
 upload-from Settling l s lent a h f = record { tied = h; lawful = tt }
 upload-from Uploading l s lent a h f = next-after l s lent a h f (nextDue (due Uploading) (entriesOf (s .entries) (lent .journal))) refl
 
-pub upload-after : (l : ℕ) (s : State) (lent : Lent) (a : Account) → Tied l s (lent .journal) a → After l send-next-upload a (sendNextUpload s lent)
+pub upload-after : (l : ℕ) (s : State) (lent : Lent) (a : Account) → Tied l s a → After l send-next-upload a (sendNextUpload s lent)
 unfolding sendNextUpload
 upload-after l s lent a h =
     judged-after l send-next-upload a (firstBroken (sendNextUploadRules s lent)) s lent (uploadFrom (s .phase) s lent) h

@@ -8,9 +8,6 @@ use lib.Dec.{leb, eqb}
 use borrow.Author.Tests.{eqb-true}
 use Rattle.elements.specs.Elements.{chipInForm}
 use Rattle.kinds.specs.Kinds.{isNeverReversed, sendsChip}
-use Rattle.journal.specs.Journal.{entriesOf, entryAt, totalsOf, withMark}
-use Rattle.journal.proofs.Entries.{set-mark}
-use Rattle.journal.proofs.Sums.{mark-totals, totals-changed}
 use Rattle.state.specs.declared.Chip.{Chip}
 use Rattle.state.specs.declared.Request.{Request as Asked}
 use Rattle.state.specs.declared.Reason.{Reason}
@@ -24,7 +21,7 @@ use Rattle.state.specs.declared.Count.the-variants.{GivenUp, Unanswered}
 use Rattle.state.specs.State.{chipBytes, hasChip, asSent, approvalIn, inPhase, withChip}
 use Rattle.state_rules.specs.StateRules.{approvalInForm}
 use Rattle.state_rules.proofs.Holds.{ChipHolds}
-use Rattle.effect_definitions.specs.JournalEffects.{Changed, marked, silentMark, silent}
+use Rattle.effect_definitions.specs.JournalEffects.{Changed, silent}
 use Rattle.effect_definitions.specs.StateEffects as effects
 use Rattle.effect_definitions.specs.StateEffects.{pendingOrUnanswered, failed}
 use Rattle.history.specs.Words.{kindIn}
@@ -35,11 +32,11 @@ use Rattle.history.proofs.Books.{Books, countOf, one-waits, one-ended}
 use Rattle.history.proofs.Tied.{accountOf, Latest, latest-changed, awaitedFate, Deciding, Kept, Tied}
 
 abbrev pub TiedAfter : ℕ → Changed → Account → Type 0
-TiedAfter l c a = Tied l (c .state) (c .journal) a
+TiedAfter l c a = Tied l (c .state) a
 
 -- the latest request waits
-module _ (l : ℕ) (s : State) (j : List ℕ) (a : Account) (f : Fate) (n : ℕ) (waits : isWaiting f ≡ true)
-    (kept : Kept l (s .settings) (s .counts) (totalsOf (entriesOf (s .entries) j)) (a .requests)) (latest : Latest l f n a) where
+module _ (l : ℕ) (s : State) (a : Account) (f : Fate) (n : ℕ) (waits : isWaiting f ≡ true)
+    (kept : Kept l (s .settings) (s .counts) (s .totals) (a .requests)) (latest : Latest l f n a) where
   abbrev head : Request
   head = latest .head
 
@@ -52,12 +49,12 @@ module _ (l : ℕ) (s : State) (j : List ℕ) (a : Account) (f : Fate) (n : ℕ)
   pub head-few : head .sendings ≤ l
   head-few = let e = latest .few in let k = latest .sendings-are in omega arith
 
-  pub open-books : Books (s .counts) (totalsOf (entriesOf (s .entries) j)) (head ∷ rest)
+  pub open-books : Books (s .counts) (s .totals) (head ∷ rest)
   open-books = rw (latest .requests-are) at (kept .books)
 
   -- it ends, and is not approved
   pub ended-tied : (e : Ending) → endedAs approved (ended e) ≡ false
-      → Tied l (effects.ended (countOf e) s) j (accountOf (becomes (ended e) head ∷ rest) (a .last))
+      → Tied l (effects.ended (countOf e) s) (accountOf (becomes (ended e) head ∷ rest) (a .last))
   ended-tied e u =
       record {
         kept =
@@ -71,7 +68,7 @@ module _ (l : ℕ) (s : State) (j : List ℕ) (a : Account) (f : Fate) (n : ℕ)
 
   -- its reversal is pending
   pub pending-tied : (v : Reversal) (c : Chip) → v .sendings ≡ n
-      → Tied l (inPhase (Pending v) (withChip c s)) j (accountOf (becomes pending head ∷ rest) (a .last))
+      → Tied l (inPhase (Pending v) (withChip c s)) (accountOf (becomes pending head ∷ rest) (a .last))
   pending-tied v c e =
       record {
         kept =
@@ -93,40 +90,36 @@ module _ (l : ℕ) (s : State) (j : List ℕ) (a : Account) (f : Fate) (n : ℕ)
       }
 
   pub pending-or-unanswered-tied : (r : Reason) (q : Asked) → n ≡ 0 → kindIn (head .message) ≡ q .kind
-      → Tied l (pendingOrUnanswered r q s) j (accountOf (history.pendingOrUnanswered head ∷ rest) (a .last))
+      → Tied l (pendingOrUnanswered r q s) (accountOf (history.pendingOrUnanswered head ∷ rest) (a .last))
   unfolding pendingOrUnanswered history.pendingOrUnanswered
   pending-or-unanswered-tied r q z k = rw k (go (eqb (q .kind) 25))
     where
       go : (b : Bool) → Tied l
           (cond b (effects.ended Unanswered s)
-          (inPhase (Pending (record { request = q; reason = r; sendings = 0 })) (withChip (asSent (s .chip)) s))) j
+          (inPhase (Pending (record { request = q; reason = r; sendings = 0 })) (withChip (asSent (s .chip)) s)))
           (accountOf (becomes (cond b (ended unanswered) pending) head ∷ rest) (a .last))
       go true = ended-tied unanswered refl
       go false = pending-tied (record { request = q; reason = r; sendings = 0 }) (asSent (s .chip)) (sym z)
 
   -- a kind that is reversed
   pub reversed-tied : (r : Reason) (q : Asked) → n ≡ 0 → isNeverReversed (q .kind) ≡ false
-      → Tied l (pendingOrUnanswered r q s) j (accountOf (becomes pending head ∷ rest) (a .last))
+      → Tied l (pendingOrUnanswered r q s) (accountOf (becomes pending head ∷ rest) (a .last))
   unfolding pendingOrUnanswered
   reversed-tied r q z k = rw k (pending-tied (record { request = q; reason = r; sendings = 0 }) (asSent (s .chip)) (sym z))
 
   pub failed-tied : (v : Reversal) → v .sendings ≡ n
-      → Tied l (failed v s) j (accountOf (history.failed l head ∷ rest) (a .last))
+      → Tied l (failed v s) (accountOf (history.failed l head ∷ rest) (a .last))
   unfolding failed history.failed
   failed-tied v z =
       let e : leb l (head .sendings) ≡ leb (s .settings .sendings) (v .sendings) = rw (kept .sendings-set, latest .sendings-are, z) in
-      subst (λ (b : Bool). Tied l (failed v s) j (accountOf (becomes (cond b (ended given-up) pending) head ∷ rest) (a .last))) (sym e)
+      subst (λ (b : Bool). Tied l (failed v s) (accountOf (becomes (cond b (ended given-up) pending) head ∷ rest) (a .last))) (sym e)
       (go (leb (s .settings .sendings) (v .sendings)))
     where
       go : (b : Bool) → Tied l
-          (cond b (effects.ended GivenUp s) (inPhase (Pending v) s)) j
+          (cond b (effects.ended GivenUp s) (inPhase (Pending v) s))
           (accountOf (becomes (cond b (ended given-up) pending) head ∷ rest) (a .last))
       go true = ended-tied given-up refl
       go false = pending-tied v (s .chip) z
-
--- a mark changes no total
-pub marked-totals : (n i x : ℕ) (j : List ℕ) → totalsOf (entriesOf n (marked i x j)) ≡ totalsOf (entriesOf n j)
-marked-totals n i x j = rw (set-mark n i x j) (totals-changed (withMark x) (mark-totals x) i (entriesOf n j))
 
 -- the account after silence
 abbrev pub afterSilence : ℕ → Account → Account
@@ -148,33 +141,30 @@ consent-reversed q c k e =
     chip-reversed (q .kind) (s .0)
 
 -- silence of the line, or of the card
-module _ (l : ℕ) (s : State) (j : List ℕ) (a : Account) (q : Asked) (kept : Kept l (s .settings) (s .counts) (totalsOf (entriesOf (s .entries) j)) (a .requests))
+module _ (l : ℕ) (s : State) (a : Account) (q : Asked) (kept : Kept l (s .settings) (s .counts) (s .totals) (a .requests))
     (k : ChipHolds (Waiting (awaited.Request q)) (s .chip)) where
   pub silent-request : (b : Bool) → s .chip .approved ≡ b → Deciding l (s .settings) (s .batch) (s .chip) (awaitedFate b) q a
-      → Tied l (pendingOrUnanswered (cond b CardDeclined Silence) q s) j (afterSilence l a)
+      → Tied l (pendingOrUnanswered (cond b CardDeclined Silence) q s) (afterSilence l a)
   unfolding whenSilent
   silent-request false e d =
       rw (latest-changed (d .latest) (whenSilent l) (silent-ended l))
-      (pending-or-unanswered-tied l s j a deciding 0 refl kept (d .latest) Silence q refl (d .asks .kind-is))
+      (pending-or-unanswered-tied l s a deciding 0 refl kept (d .latest) Silence q refl (d .asks .kind-is))
   silent-request true e d =
       rw (latest-changed (d .latest) (whenSilent l) (silent-ended l))
-      (reversed-tied l s j a consenting 0 refl kept (d .latest) CardDeclined q refl (consent-reversed q (s .chip) k e))
+      (reversed-tied l s a consenting 0 refl kept (d .latest) CardDeclined q refl (consent-reversed q (s .chip) k e))
 
 pub silent-tied : (w : Awaited) (l : ℕ) (s : State) (j : List ℕ) (a : Account) → ChipHolds (Waiting w) (s .chip)
-    → Tied l (inPhase (Waiting w) s) j a → TiedAfter l (silent w s j) (afterSilence l a)
+    → Tied l (inPhase (Waiting w) s) a → TiedAfter l (silent w s j) (afterSilence l a)
 unfolding silent whenSilent
-silent-tied (awaited.Request q) l s j a k h = silent-request l s j a q (h .kept) k (s .chip .approved) refl (h .shape)
+silent-tied (awaited.Request q) l s j a k h = silent-request l s a q (h .kept) k (s .chip .approved) refl (h .shape)
 silent-tied (awaited.Reversal v) l s j a k h =
     let d = h .shape .latest in
     rw (latest-changed d (whenSilent l) (silent-ended l))
-    (failed-tied l s j a (out (h .shape .reversal)) (v .sendings) refl (h .kept) d v refl)
+    (failed-tied l s a (out (h .shape .reversal)) (v .sendings) refl (h .kept) d v refl)
 silent-tied (awaited.Settlement trace) l s j a k h =
     rw (silent-same l l (a .requests) (h .shape .done)) (record { kept = h .kept; shape = h .shape .done })
 silent-tied (awaited.Item i) l s j a k h =
     rw (silent-same l l (a .requests) (h .shape .done))
-    (record {
-      kept = rw (marked-totals (s .entries) i (silentMark (s .settings .sendings) (entryAt (entriesOf (s .entries) j) i)) j) (h .kept);
-      shape = h .shape .done;
-    })
+    (record { kept = h .kept; shape = h .shape .done })
 silent-tied (awaited.End trace) l s j a k h =
     rw (silent-same l l (a .requests) (h .shape .done)) (record { kept = h .kept; shape = h .shape .done })

@@ -56,10 +56,10 @@ fit-first s lent rs n z =
     fit s lent (rw (a, b))
 
 -- a request leaves a terminal at which none waits
-module _ (l : ℕ) (e : Event) (s : State) (j : List ℕ) (a : Account) (c : Chip) (q : Asked) (b : List ℕ) (h : Tied l s j a)
+module _ (l : ℕ) (e : Event) (s : State) (a : Account) (c : Chip) (q : Asked) (b : List ℕ) (h : Tied l s a)
     (done : AllDone l (a .requests)) (asks : Asks (s .settings) (s .batch) q (messageIn b)) (fresh : c .approved ≡ false)
     (chip-is : carriesChip (messageIn b) ≡ hasChip c) where
-  request-tied : Tied l (requested s c q) j (whenGiven l (sent b) e a)
+  request-tied : Tied l (requested s c q) (whenGiven l (sent b) e a)
   request-tied =
       rw (sent-request e (messageIn b) (a .requests) (asks .typed))
       (record {
@@ -108,7 +108,7 @@ sent-unapproved d b = go (sendsField55 d)
     go true = refl
     go false = refl
 
-module _ (l : ℕ) (d : Desk) (chip : List ℕ) (s : State) (lent : Lent) (a : Account) (h : Tied l s (lent .journal) a)
+module _ (l : ℕ) (d : Desk) (chip : List ℕ) (s : State) (lent : Lent) (a : Account) (h : Tied l s a)
     (authorisation : length (d .authorisation) ≡ 6) (reference : length (d .reference) ≡ 12) where
   pub request-form : (let es = entriesOf (s .entries) (lent .journal) in let e = entryOf (originalOf d es) es in
       firstBroken (startRules d chip s es e lent) ≡ 0 → Fit s lent → requestInForm (requestOf d e (taken es (s .next .0))) ≡ true)
@@ -136,12 +136,12 @@ module _ (l : ℕ) (d : Desk) (chip : List ℕ) (s : State) (lent : Lent) (a : A
       let done = idle l (s .settings) (s .batch) (s .chip) a (s .phase) (passed 11 rs refl z) (passed 12 rs refl z) (h .shape) in
       let b = handedOut (messageBytes (requestMessage (s .settings) (s .batch) c q o)) (lent .message) in
       record {
-        tied = request-tied l (starts d chip) s (lent .journal) a c q b h done asks (sent-unapproved d chip) carries;
-        lawful = request-lawful l (starts d chip) s (lent .journal) a c q b h done asks (sent-unapproved d chip) carries;
+        tied = request-tied l (starts d chip) s a c q b h done asks (sent-unapproved d chip) carries;
+        lawful = request-lawful l (starts d chip) s a c q b h done asks (sent-unapproved d chip) carries;
       })
 
 -- a pending reversal leaves
-module _ (l : ℕ) (s : State) (lent : Lent) (a : Account) (v : Reversal) (h : Tied l (inPhase (Pending v) s) (lent .journal) a)
+module _ (l : ℕ) (s : State) (lent : Lent) (a : Account) (v : Reversal) (h : Tied l (inPhase (Pending v) s) a)
     (f : Fit (inPhase (Pending v) s) lent) where
   pub card-held : CardHeld (s .settings) (s .chip) (v .request)
   card-held =
@@ -161,7 +161,7 @@ module _ (l : ℕ) (s : State) (lent : Lent) (a : Account) (v : Reversal) (h : T
   few-more = let k = ltb-true (v .sendings) (s .settings .sendings) (f .order .phase-kept) in let t = h .kept .sendings-set in omega arith
 
   reversal-tied : (b : List ℕ) → Says (s .settings) (s .batch) (v .request .trace) 0x0400 (v .request .kind) 0 (messageIn b)
-      → Tied l (inPhase (Waiting (awaited.Reversal (again v))) s) (lent .journal) (whenGiven l (sent b) send-reversal a)
+      → Tied l (inPhase (Waiting (awaited.Reversal (again v))) s) (whenGiven l (sent b) send-reversal a)
   reversal-tied b said =
       let d = h .shape in
       let t = reversal-typed (messageIn b) (said .indicator) in
@@ -210,7 +210,7 @@ module _ (l : ℕ) (s : State) (lent : Lent) (a : Account) (v : Reversal) (h : T
       let b = handedOut (messageBytes (reversalMessage (s .settings) (s .batch) (s .chip) (again v))) (lent .message) in
       record { tied = reversal-tied b said; lawful = reversal-lawful b (reversal-typed (messageIn b) (said .indicator)) }
 
-send-from : (p : Phase) (l : ℕ) (s : State) (lent : Lent) (a : Account) → Tied l (inPhase p s) (lent .journal) a → Fit (inPhase p s) lent
+send-from : (p : Phase) (l : ℕ) (s : State) (lent : Lent) (a : Account) → Tied l (inPhase p s) a → Fit (inPhase p s) lent
     → After l send-reversal a (sendFrom p (inPhase p s) lent)
 send-from Resting l s lent a h f = record { tied = h; lawful = tt }
 send-from (Waiting w) l s lent a h f = record { tied = h; lawful = tt }
@@ -218,7 +218,7 @@ send-from (Pending v) l s lent a h f = reversal-after l s lent a v h f
 send-from Settling l s lent a h f = record { tied = h; lawful = tt }
 send-from Uploading l s lent a h f = record { tied = h; lawful = tt }
 
-pub reverse-after : (l : ℕ) (s : State) (lent : Lent) (a : Account) → Tied l s (lent .journal) a → After l send-reversal a (sendReversal s lent)
+pub reverse-after : (l : ℕ) (s : State) (lent : Lent) (a : Account) → Tied l s a → After l send-reversal a (sendReversal s lent)
 unfolding sendReversal
 reverse-after l s lent a h =
     let rs = sendReversalRules s lent in

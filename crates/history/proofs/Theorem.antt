@@ -1,10 +1,11 @@
--- Demand 3, and that the card has the last word, for every settings value, every journal and message buffer lent, and every list of the ten
+-- Demand 3, the stored sums, and that the card has the last word, for every settings value, every journal and message buffer lent, and every list of the ten
 -- calls.
-use mathlib.Core.Path.{_≡_, refl, subst}
+use mathlib.Core.Path.{_≡_, refl, ap, subst}
 use mathlib.Core.List.{List, [], _∷_}
 use mathlib.Core.Bool.{Bool, true}
 use Prim.Native.Nat.{ℕ, _≤_}
 use Rattle.message.specs.declared.Message.{Message}
+use Rattle.kinds.specs.declared.Totals.{Totals}
 use Rattle.state.specs.declared.Settings.{Settings}
 use Rattle.state.specs.Calls.{lend}
 use Rattle.call_definitions.specs.Events.{call}
@@ -13,7 +14,8 @@ use Rattle.history.specs.Words.{messageIn, isRequest, isReversal, isSett
 use Rattle.history.specs.History.{Given, quiet, History, Request, Account, account, batchOf}
 use Rattle.history.specs.Demand.{Invocation, Run, recorded, runs, begun, InvocationsShaped, Each, EachSent, EachRequest, inReversals, Carries, Demand3For, Demand3}
 use Rattle.history.specs.Consent.{consents, isDecline, DeclineIsReversed}
-use Rattle.history.proofs.Books.{balanced, no-books}
+use Rattle.history.specs.Totals.{SumsOf, StoredSums}
+use Rattle.history.proofs.Books.{requestSums, balanced, no-books}
 use Rattle.history.proofs.Tied.{Tied, bounded}
 use Rattle.history.proofs.After.{LawfulMessage, Lawful}
 use Rattle.history.proofs.Events.{call-after}
@@ -21,7 +23,7 @@ use Rattle.history.proofs.Declined.{Declined, declined-call}
 
 -- what holds after each call
 pub record Holds (l : ℕ) (r : Run) : Type 0 where
-  pub tied : Tied l (r .state) (r .journal) (account l (r .history))
+  pub tied : Tied l (r .state) (account l (r .history))
   pub lawful : Each (λ c h. Lawful (c .given) (account l h)) (r .history)
   pub limited : Each (λ c h. EachRequest (λ q. q .sendings ≤ l) (batchOf l (c ∷ h))) (r .history)
   pub declined : Each (λ c h. Declined (c .event) (c .given) l (account l h)) (r .history)
@@ -38,7 +40,7 @@ one-holds l t r w h =
       tied = k .tied;
       lawful = (k .lawful, h .lawful);
       limited = (bounded (k .tied) .few, h .limited);
-      declined = (declined-call (t .event) _ l (r .state) (r .journal) (account l (r .history)) (h .tied), h .declined);
+      declined = (declined-call (t .event) _ l (r .state) (account l (r .history)) (h .tied), h .declined);
     }
 
 all-hold : (ts : List Invocation) (l : ℕ) (r : Run) → InvocationsShaped ts → Holds l r → Holds l (runs ts r)
@@ -72,6 +74,19 @@ every-holds x j ts w v = all-hold ts (x .sendings) (begun x j) v (begun-holds x 
 
 pub demand3 : Demand3
 demand3 x j ts w v = stands (x .sendings) (runs ts (begun x j)) (every-holds x j ts w v)
+
+-- sums that are those of the requests
+sums-of : {rs : List Request} {t : Totals} → t ≡ requestSums rs → SumsOf rs t
+sums-of e =
+    record {
+      debit-amount = ap (λ (t : Totals). t .debit) e;
+      debit-count = ap (λ (t : Totals). t .debits) e;
+      credit-amount = ap (λ (t : Totals). t .credit) e;
+      credit-count = ap (λ (t : Totals). t .credits) e;
+    }
+
+pub stored-sums : StoredSums
+stored-sums x j ts w v = sums-of (every-holds x j ts w v .tied .kept .books .summed)
 
 declines : (l : ℕ) (h : History) → Each (λ c h. Declined (c .event) (c .given) l (account l h)) h
     → Each (λ c h. consents (batchOf l h) ≡ 1 → isDecline (c .event) ≡ true → c .given ≡ quiet → inReversals (batchOf l (c ∷ h)) ≡ 1) h

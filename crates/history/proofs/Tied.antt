@@ -7,7 +7,6 @@ use native.Mathlib.Omega.{arith}
 use Rattle.message.specs.declared.Message.{Message}
 use Rattle.numbers.specs.declared.Trace.{Trace}
 use Rattle.numbers.specs.declared.Batch.{Batch}
-use Rattle.journal.specs.Journal.{entriesOf, totalsOf}
 use Rattle.kinds.specs.declared.Totals.{Totals}
 use Rattle.state.specs.State.{hasChip}
 use Rattle.state.specs.declared.Chip.{Chip}
@@ -112,8 +111,8 @@ pub record Kept (l : ℕ) (x : Settings) (c : Counts) (t : Totals) (rs : List Re
   pub shaped : SettingsShaped x
   pub books : Books c t rs
 
-pub record Tied (l : ℕ) (s : State) (j : List ℕ) (a : Account) : Type 0 where
-  pub kept : Kept l (s .settings) (s .counts) (totalsOf (entriesOf (s .entries) j)) (a .requests)
+pub record Tied (l : ℕ) (s : State) (a : Account) : Type 0 where
+  pub kept : Kept l (s .settings) (s .counts) (s .totals) (a .requests)
   pub shape : Shape l (s .settings) (s .batch) (s .chip) (s .phase) a
 
 pub fate-waits : (b : Bool) → isWaiting (awaitedFate b) ≡ true
@@ -158,5 +157,5 @@ module _ (l : ℕ) (a : Account) where
     shape-bounded Settling d = bounded-done d
     shape-bounded Uploading d = bounded-done d
 
-pub bounded : {l : ℕ} {s : State} {j : List ℕ} {a : Account} → Tied l s j a → Bounded l (a .requests)
-bounded {l} {s} {j} {a} h = shape-bounded l a (s .settings) (s .batch) (s .chip) (s .phase) (h .shape)
+pub bounded : {l : ℕ} {s : State} {a : Account} → Tied l s a → Bounded l (a .requests)
+bounded {l} {s} {a} h = shape-bounded l a (s .settings) (s .batch) (s .chip) (s .phase) (h .shape)

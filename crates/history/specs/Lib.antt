@@ -1,5 +1,6 @@
 pub mod Words
 pub mod History
 pub mod Demand
+pub mod Totals
 pub mod Consent
 pub mod NotEmpty

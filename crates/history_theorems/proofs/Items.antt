@@ -182,7 +182,7 @@ module _ (l : ℕ) (y : Standing) (xs : List Approval) (u : Upload) where
   send-uploaded Uploading s lent h = quiet-uploaded send-reversal (quiet s lent) refl h
 
   -- the next item, or the end
-  module _ (t : State) (lent : Lent) (a : Account) (tied : Tied l (inPhase Uploading t) (lent .journal) a) (d : Stands (inPhase Uploading t) (lent .journal) y)
+  module _ (t : State) (lent : Lent) (a : Account) (tied : Tied l (inPhase Uploading t) a) (d : Stands (inPhase Uploading t) (lent .journal) y)
       (booked : Booked t (lent .journal) xs) (exact : EachExact xs) (h : Uploads (inPhase Uploading t) (lent .journal) u)
       (f : Fit (inPhase Uploading t) lent) where
     abbrev es : List Entry
@@ -244,7 +244,7 @@ module _ (l : ℕ) (y : Standing) (xs : List Approval) (u : Upload) where
     next-uploaded (Found-at i) e = item-uploaded i e
     next-uploaded Nowhere e = end-uploaded e
 
-upload-from : (p : Phase) (l : ℕ) (t : State) (lent : Lent) (a : Account) (y : Standing) (xs : List Approval) (u : Upload) → Tied l (inPhase p t) (lent .journal) a
+upload-from : (p : Phase) (l : ℕ) (t : State) (lent : Lent) (a : Account) (y : Standing) (xs : List Approval) (u : Upload) → Tied l (inPhase p t) a
     → Stands (inPhase p t) (lent .journal) y → Booked t (lent .journal) xs → EachExact xs → Uploads (inPhase p t) (lent .journal) u → Fit (inPhase p t) lent
     → Uploaded l send-next-upload y xs u (uploadFrom p (inPhase p t) lent)
 upload-from Resting l t lent a y xs u tied d b k h f = quiet-uploaded l y xs u send-next-upload (quiet (inPhase Resting t) lent) refl h
@@ -278,7 +278,7 @@ read-uploaded Read l b good r s lent y xs u f d h =
 read-uploaded (Refused n) l b good r s lent y xs u f d h = refused-uploaded l y xs u (answers b good) n s lent h
 
 -- any call
-module _ (l : ℕ) (s : State) (lent : Lent) (a : Account) (y : Standing) (xs : List Approval) (u : Upload) (tied : Tied l s (lent .journal) a)
+module _ (l : ℕ) (s : State) (lent : Lent) (a : Account) (y : Standing) (xs : List Approval) (u : Upload) (tied : Tied l s a)
     (d : Stands s (lent .journal) y) (booked : Booked s (lent .journal) xs) (exact : EachExact xs) (h : Uploads s (lent .journal) u) where
   pub call-uploaded : (e : Event) → Uploaded l e y xs u (call e s lent)
   unfolding signedOn start answer noAnswer powerReturned cardAgrees cardDeclines sendReversal settle sendNextUpload

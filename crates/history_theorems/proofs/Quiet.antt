@@ -80,7 +80,7 @@ agreed-stands Settling y s j h r = absurd (true≢false (sym r))
 agreed-stands Uploading y s j h r = absurd (true≢false (sym r))
 
 -- what a terminal that stands so gives; the history's number goes by whether a reversal is to be sent
-module _ (l : ℕ) (s : State) (lent : Lent) (a : Account) (y : Standing) (tied : Tied l s (lent .journal) a) (h : Stands s (lent .journal) y) where
+module _ (l : ℕ) (s : State) (lent : Lent) (a : Account) (y : Standing) (tied : Tied l s a) (h : Stands s (lent .journal) y) where
   abbrev reverses : Bool
   reverses = reversalPending (a .requests)
 

@@ -232,7 +232,7 @@ unfolding deskInForm
 kind-keyed d f = let k = simp and-eq-true-iff at f in k .0 .0 .0 .0
 
 -- a request that no rule refuses
-module _ (l : ℕ) (s : State) (lent : Lent) (a : Account) (y : Standing) (vs : List Approval) (tied : Tied l s (lent .journal) a)
+module _ (l : ℕ) (s : State) (lent : Lent) (a : Account) (y : Standing) (vs : List Approval) (tied : Tied l s a)
     (stands : Stands s (lent .journal) y) (booked : Booked s (lent .journal) vs) (exact : EachExact vs) (d : Desk) (chip : List ℕ)
     (authorisation : length (d .authorisation) ≡ 6) (reference : length (d .reference) ≡ 12) where
   abbrev es : List Entry

@@ -24,7 +24,7 @@ use Rattle.writing.specs.Writing.{messageBytes}
 use Rattle.entry.specs.Form.{inForm}
 use Rattle.entry.specs.declared.Entry.{Entry}
 use Rattle.entry.proofs.Form.{in-form}
-use Rattle.journal.specs.Journal.{entriesOf, entryAt, nextDue, setByte, taken, totalsOf, withResends}
+use Rattle.journal.specs.Journal.{entriesOf, entryAt, nextDue, setByte, taken, withResends}
 use Rattle.journal.specs.declared.Found.{Found}
 use Rattle.journal.specs.declared.Found.the-variants.{At as Place, Nowhere}
 use Rattle.journal.proofs.Entries.{set-resends}
@@ -203,7 +203,7 @@ each-same (n ∷ ns) m r f a b = (a .0 ∙ sym (b .0), each-same ns m r f (a .1)
 
 -- what is sent, by the phase
 module _ (l : ℕ) (t : State) (lent : Lent) (a : Account) (y : Standing) (n : ℕ) (none : n ≡ 0) where
-  reversal-goes : (p : Phase) → Tied l (inPhase p t) (lent .journal) a → Stands (inPhase p t) (lent .journal) y → Fit (inPhase p t) lent → not (pends p) ≡ false
+  reversal-goes : (p : Phase) → Tied l (inPhase p t) a → Stands (inPhase p t) (lent .journal) y → Fit (inPhase p t) lent → not (pends p) ≡ false
       → Said send-reversal y n (sendFrom p (inPhase p t) lent)
   reversal-goes Resting tied h f w = absurd (true≢false w)
   reversal-goes (Waiting x) tied h f w = absurd (true≢false w)
@@ -234,7 +234,7 @@ module _ (l : ℕ) (t : State) (lent : Lent) (a : Account) (y : Standing) (n : �
   reversal-goes Settling tied h f w = absurd (true≢false w)
   reversal-goes Uploading tied h f w = absurd (true≢false w)
 
-  pub item-goes : (i : ℕ) → Tied l (inPhase Uploading t) (lent .journal) a → Stands (inPhase Uploading t) (lent .journal) y → Fit (inPhase Uploading t) lent
+  pub item-goes : (i : ℕ) → Tied l (inPhase Uploading t) a → Stands (inPhase Uploading t) (lent .journal) y → Fit (inPhase Uploading t) lent
       → nextDue (due Uploading) (entriesOf (t .entries) (lent .journal)) ≡ Place i → Said send-next-upload y n (sendsNext (Place i) (inPhase Uploading t) lent)
   item-goes i tied h f e =
       let es = entriesOf (t .entries) (lent .journal) in
@@ -253,7 +253,7 @@ module _ (l : ℕ) (t : State) (lent : Lent) (a : Account) (y : Standing) (n : �
       })
       (upload-type (messageIn b) (said .indicator), numbered t y (said .batch-number) (h .members))
 
-  pub end-goes : Tied l (inPhase Uploading t) (lent .journal) a → Stands (inPhase Uploading t) (lent .journal) y → Fit (inPhase Uploading t) lent
+  pub end-goes : Tied l (inPhase Uploading t) a → Stands (inPhase Uploading t) (lent .journal) y → Fit (inPhase Uploading t) lent
       → Said send-next-upload y n (sendsNext Nowhere (inPhase Uploading t) lent)
   end-goes tied h f =
       let trace : Trace = record { 0 = taken (entriesOf (t .entries) (lent .journal)) (t .next .0) } in
@@ -271,12 +271,12 @@ module _ (l : ℕ) (t : State) (lent : Lent) (a : Account) (y : Standing) (n : �
       })
       (upload-type (messageIn b) (said .indicator), numbered t y (said .batch-number) (h .members))
 
-  next-goes : (x : Found) → nextDue (due Uploading) (entriesOf (t .entries) (lent .journal)) ≡ x → Tied l (inPhase Uploading t) (lent .journal) a
+  next-goes : (x : Found) → nextDue (due Uploading) (entriesOf (t .entries) (lent .journal)) ≡ x → Tied l (inPhase Uploading t) a
       → Stands (inPhase Uploading t) (lent .journal) y → Fit (inPhase Uploading t) lent → Said send-next-upload y n (sendsNext x (inPhase Uploading t) lent)
   next-goes (Place i) e tied h f = item-goes i tied h f e
   next-goes Nowhere e tied h f = end-goes tied h f
 
-  upload-goes : (p : Phase) → Tied l (inPhase p t) (lent .journal) a → Stands (inPhase p t) (lent .journal) y → Fit (inPhase p t) lent → not (state.uploads p) ≡ false
+  upload-goes : (p : Phase) → Tied l (inPhase p t) a → Stands (inPhase p t) (lent .journal) y → Fit (inPhase p t) lent → not (state.uploads p) ≡ false
       → Said send-next-upload y n (uploadFrom p (inPhase p t) lent)
   upload-goes Resting tied h f w = absurd (true≢false w)
   upload-goes (Waiting x) tied h f w = absurd (true≢false w)
@@ -285,7 +285,7 @@ module _ (l : ℕ) (t : State) (lent : Lent) (a : Account) (y : Standing) (n : �
   upload-goes Uploading tied h f w = next-goes (nextDue (due Uploading) (entriesOf (t .entries) (lent .journal))) refl tied h f
 
 -- each call: its number is the history's, and what passes is sent
-module _ (l : ℕ) (s : State) (lent : Lent) (a : Account) (y : Standing) (tied : Tied l s (lent .journal) a) (h : Stands s (lent .journal) y) where
+module _ (l : ℕ) (s : State) (lent : Lent) (a : Account) (y : Standing) (tied : Tied l s a) (h : Stands s (lent .journal) y) where
   abbrev reverses : Bool
   reverses = reversalPending (a .requests)
 
@@ -342,18 +342,18 @@ module _ (l : ℕ) (s : State) (lent : Lent) (a : Account) (y : Standing) (tied 
   settlement = record { 0 = taken entries (s .next .0) }
 
   abbrev pub settled : Result
-  settled = settleNow s settlement (totalsOf entries) lent
+  settled = settleNow s settlement lent
 
   pub settle-goes : numberOf settles y reverses ≡ 0 → Fit s lent → Said settles y (numberOf settles y reverses) settled
   unfolding whenIdle
   settle-goes z f =
-      let b = handedOut (messageBytes (settlementMessage (s .settings) (s .batch) settlement (totalsOf entries))) (lent .message) in
+      let b = handedOut (messageBytes (settlementMessage (s .settings) (s .batch) settlement (s .totals))) (lent .message) in
       let held = settings-held l s lent a tied f in
       let w = awaits-here ∙ idle-passed (y .signed) (y .awaited) _ z .waits-not in
-      let m = settlement-settles (s .settings) (s .batch) (lent .message) (f .message-room) (f .order .state .batch-most) settlement (totalsOf entries)
+      let m = settlement-settles (s .settings) (s .batch) (lent .message) (f .message-room) (f .order .state .batch-most) settlement (s .totals)
       held (sayable s lent f) in
       let k = settlement-typed (messageIn b) (m .said .indicator) in
-      let number = settlement-trace (s .settings) (s .batch) (lent .message) settlement (totalsOf entries) held (f .message-room)
+      let number = settlement-trace (s .settings) (s .batch) (lent .message) settlement (s .totals) held (f .message-room)
       (taken-range entries (s .next .0) (f .order .state .next-least) (f .order .state .next-most) .1) in
       goes settles y (numberOf settles y reverses) settled z
       (record {

@@ -16,7 +16,7 @@ use Rattle.numbers.specs.declared.Batch.{Batch}
 use Rattle.numbers.specs.declared.Trace.{Trace}
 use Rattle.kinds.specs.declared.Totals.{Totals}
 use Rattle.entry.specs.declared.Entry.{Entry}
-use Rattle.journal.specs.Journal.{entriesOf, taken, totalsOf}
+use Rattle.journal.specs.Journal.{entriesOf, taken}
 use Rattle.state.specs.declared.Settings.{Settings}
 use Rattle.state.specs.declared.State.{State}
 use Rattle.state.specs.Calls.{Lent, judged, refused}
@@ -56,7 +56,7 @@ settlement-reads x batch n m trace t rs room held most p e =
     subst (λ (xs : List Item). Reads 0x0500 xs (readMessage b))
     (ap (settlementFields x batch trace) e ∙ ap (λ (k : ℕ). settlementItems x k (trace .0) rs) p ∙ ap (λ (k : ℕ). settlementItems x n k rs) (sym took)) r
 
-module _ (l : ℕ) (s : State) (lent : Lent) (a : Account) (y : Standing) (tied : Tied l s (lent .journal) a) (d : Stands s (lent .journal) y) where
+module _ (l : ℕ) (s : State) (lent : Lent) (a : Account) (y : Standing) (tied : Tied l s a) (d : Stands s (lent .journal) y) where
   -- what settle sends where it gives these bytes
   abbrev ReadsSettled : List ℕ → Type 0
   ReadsSettled b = Reads 0x0500 (settlementItems (s .settings) (y .batch) (traceIn (messageIn b)) (a .requests)) (readMessage b)
@@ -67,12 +67,12 @@ module _ (l : ℕ) (s : State) (lent : Lent) (a : Account) (y : Standing) (tied 
   abbrev trace : Trace
   trace = record { 0 = taken es (s .next .0) }
 
-  settled-reads : Fit s lent → (b : List ℕ) → givenIn (settleNow s trace (totalsOf es) lent) ≡ history.sent b → ReadsSettled b
+  settled-reads : Fit s lent → (b : List ℕ) → givenIn (settleNow s trace lent) ≡ history.sent b → ReadsSettled b
   settled-reads f b g =
-      let r = settlement-reads (s .settings) (s .batch) (y .batch) (lent .message) trace (totalsOf es) (a .requests) (f .message-room)
+      let r = settlement-reads (s .settings) (s .batch) (y .batch) (lent .message) trace (s .totals) (a .requests) (f .message-room)
       (settings-held l s lent a tied f) (taken-range es (s .next .0) (f .order .state .next-least) (f .order .state .next-most) .1) (d .members .1)
       (tied .kept .books .summed) in
-      let c = handedOut (messageBytes (settlementMessage (s .settings) (s .batch) trace (totalsOf es))) (lent .message) in
+      let c = handedOut (messageBytes (settlementMessage (s .settings) (s .batch) trace (s .totals))) (lent .message) in
       let same : c ≡ b = cc in
       rw same at r
 
@@ -81,7 +81,7 @@ module _ (l : ℕ) (s : State) (lent : Lent) (a : Account) (y : Standing) (tied 
   settle-reads b g = go (eqb (firstBroken (settleRules s lent)) 0) refl g
     where
       go : (t : Bool) → eqb (firstBroken (settleRules s lent)) 0 ≡ t
-          → givenIn (cond t (settleNow s trace (totalsOf es) lent) (refused (firstBroken (settleRules s lent)) s lent)) ≡ history.sent b → ReadsSettled b
+          → givenIn (cond t (settleNow s trace lent) (refused (firstBroken (settleRules s lent)) s lent)) ≡ history.sent b → ReadsSettled b
       go true q g = settled-reads (fit-first s lent _ refl (eqb-true _ 0 q)) b g
       go false q g = let z : _≡_ {A = ℕ} 0 1 = cc in absurd (omega arith)
 

@@ -41,7 +41,7 @@ next-rule false false false true e r z = absurd (omega arith)
 next-rule false false false false true r z = absurd (omega arith)
 next-rule false false false false false r z = refl
 
-module _ (l : ℕ) (s : State) (lent : Lent) (a : Account) (y : Standing) (vs : List Approval) (tied : Tied l s (lent .journal) a)
+module _ (l : ℕ) (s : State) (lent : Lent) (a : Account) (y : Standing) (vs : List Approval) (tied : Tied l s a)
     (stands : Stands s (lent .journal) y) (booked : Booked s (lent .journal) vs) (exact : EachExact vs) where
   abbrev pub Judged : Event → Desk → List ℕ → Result → Type 0
   Judged e d chip r = (givenIn r ≡ refused 1 → ⊥) → (givenIn r ≡ refused 2 → ⊥) → numberOf e y (reversalPending (a .requests)) ≡ 0

@@ -168,7 +168,7 @@ request-card x batch m c q o h g room =
     card-read x batch c q (indicatorOf (q .kind)) (originalFields (q .kind) o) _ (no-chip (q .kind) o)
     (sent-reads (indicatorOf (q .kind)) (requestFields x batch c q o) m (request-listed (q .kind)) (request-held x batch c q o h g) room)
 
-module _ (l : ℕ) (s : State) (lent : Lent) (a : Account) (y : Standing) (tied : Tied l s (lent .journal) a) (h : Stands s (lent .journal) y) (d : Desk) (chip : List ℕ)
+module _ (l : ℕ) (s : State) (lent : Lent) (a : Account) (y : Standing) (tied : Tied l s a) (h : Stands s (lent .journal) y) (d : Desk) (chip : List ℕ)
     (authorisation : length (d .authorisation) ≡ 6) (reference : length (d .reference) ≡ 12) where
   abbrev pub entries : List Entry
   entries = entriesOf (s .entries) (lent .journal)

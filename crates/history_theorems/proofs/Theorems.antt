@@ -48,7 +48,7 @@ use Rattle.history_theorems.proofs.Uploaded.{Uploads}
 use Rattle.history_theorems.proofs.Items.{call-uploaded, given-few}
 use Rattle.history_theorems.proofs.Settled.{call-settled}
 
-call-said : (e : Event) (l : ℕ) (s : State) (lent : Lent) (a : Account) (y : Standing) → EventShaped e → Tied l s (lent .journal) a → Stands s (lent .journal) y
+call-said : (e : Event) (l : ℕ) (s : State) (lent : Lent) (a : Account) (y : Standing) → EventShaped e → Tied l s a → Stands s (lent .journal) y
     → Said e y (numberOf e y (reversalPending (a .requests))) (call e s lent)
 call-said (signed-on batch) l s lent a y w t h = signed-said l s lent a y t h batch
 call-said (starts d b) l s lent a y w t h = start-said l s lent a y t h d b (w .0) (w .1)
@@ -104,7 +104,7 @@ started-with l c h e s = rw e at s
 
 record Holds (l : ℕ) (x : Settings) (r : Run) : Type 0 where
   settings-are : r .state .settings ≡ x
-  tied : Tied l (r .state) (r .journal) (account l (r .history))
+  tied : Tied l (r .state) (account l (r .history))
   stands : Stands (r .state) (r .journal) (standing (r .history))
   each : Each (IsJudged l) (r .history)
   reads : Each (λ c h. Reads c) (r .history)

@@ -165,7 +165,7 @@ reversal-old b e =
     rw (k .is-request, k .is-settlement, k .is-end)
 
 -- the calls that send
-module _ (l : ℕ) (s : State) (lent : Lent) (a : Account) (y : Standing) (xs : List Approval) (tied : Tied l s (lent .journal) a)
+module _ (l : ℕ) (s : State) (lent : Lent) (a : Account) (y : Standing) (xs : List Approval) (tied : Tied l s a)
     (d : Stands s (lent .journal) y) (h : Booked s (lent .journal) xs) where
   reversal-traced : (n : ℕ) (r : Result) → Said send-reversal y n r → Traced y xs r
   reversal-traced n r k b g q =
@@ -193,7 +193,7 @@ module _ (l : ℕ) (s : State) (lent : Lent) (a : Account) (y : Standing) (xs : 
       takes-trace y xs (settled l s lent a y tied d) _ (taken (entriesOf (s .entries) (lent .journal)) (s .next .0)) refl
       (settle-goes l s lent a y tied d (sym (settle-number l s lent a y tied d) ∙ z) f .stands .details) (takes s lent y xs f d h))
 
-item-traced : (l : ℕ) (t : State) (lent : Lent) (a : Account) (y : Standing) (xs : List Approval) (i : ℕ) → Tied l (inPhase Uploading t) (lent .journal) a
+item-traced : (l : ℕ) (t : State) (lent : Lent) (a : Account) (y : Standing) (xs : List Approval) (i : ℕ) → Tied l (inPhase Uploading t) a
     → Stands (inPhase Uploading t) (lent .journal) y → Fit (inPhase Uploading t) lent
     → nextDue (due Uploading) (entriesOf (t .entries) (lent .journal)) ≡ Place i → Traced y xs (sendsNext (Place i) (inPhase Uploading t) lent)
 unfolding isNew
@@ -203,7 +203,7 @@ item-traced l t lent a y xs i tied d f e =
     reuses y xs (sendsNext (Place i) (inPhase Uploading t) lent) _ refl (rw (k .is-request, k .is-settlement, k .is-end))
 
 next-traced : (x : Found) (l : ℕ) (t : State) (lent : Lent) (a : Account) (y : Standing) (xs : List Approval)
-    → nextDue (due Uploading) (entriesOf (t .entries) (lent .journal)) ≡ x → Tied l (inPhase Uploading t) (lent .journal) a
+    → nextDue (due Uploading) (entriesOf (t .entries) (lent .journal)) ≡ x → Tied l (inPhase Uploading t) a
     → Stands (inPhase Uploading t) (lent .journal) y → Booked t (lent .journal) xs → Fit (inPhase Uploading t) lent
     → Traced y xs (sendsNext x (inPhase Uploading t) lent)
 next-traced (Place i) l t lent a y xs e tied d h f = item-traced l t lent a y xs i tied d f e
@@ -211,7 +211,7 @@ next-traced Nowhere l t lent a y xs e tied d h f =
     takes-trace y xs (sendsNext Nowhere (inPhase Uploading t) lent) _ (taken (entriesOf (t .entries) (lent .journal)) (t .next .0)) refl
     (end-goes l t lent a y 0 refl tied d f .stands .details) (takes (inPhase Uploading t) lent y xs f d h)
 
-upload-from : (p : Phase) (l : ℕ) (t : State) (lent : Lent) (a : Account) (y : Standing) (xs : List Approval) → Tied l (inPhase p t) (lent .journal) a
+upload-from : (p : Phase) (l : ℕ) (t : State) (lent : Lent) (a : Account) (y : Standing) (xs : List Approval) → Tied l (inPhase p t) a
     → Stands (inPhase p t) (lent .journal) y → Booked t (lent .journal) xs → Fit (inPhase p t) lent → Traced y xs (uploadFrom p (inPhase p t) lent)
 upload-from Resting l t lent a y xs tied d h f = quiet-traced y xs (quiet (inPhase Resting t) lent) refl
 upload-from (Waiting w) l t lent a y xs tied d h f = quiet-traced y xs (quiet (inPhase (Waiting w) t) lent) refl
@@ -220,7 +220,7 @@ upload-from Settling l t lent a y xs tied d h f = quiet-traced y xs (quiet (inPh
 upload-from Uploading l t lent a y xs tied d h f =
     next-traced (nextDue (due Uploading) (entriesOf (t .entries) (lent .journal))) l t lent a y xs refl tied d h f
 
-upload-traced : (l : ℕ) (s : State) (lent : Lent) (a : Account) (y : Standing) (xs : List Approval) → Tied l s (lent .journal) a
+upload-traced : (l : ℕ) (s : State) (lent : Lent) (a : Account) (y : Standing) (xs : List Approval) → Tied l s a
     → Stands s (lent .journal) y → Booked s (lent .journal) xs → Traced y xs (sendNextUpload s lent)
 unfolding sendNextUpload firstBroken
 upload-traced l s lent a y xs tied d h =
@@ -229,7 +229,7 @@ upload-traced l s lent a y xs tied d h =
 
 -- any call
 pub call-traced : (e : Event) (l : ℕ) (s : State) (lent : Lent) (a : Account) (y : Standing) (xs : List Approval) → EventShaped e
-    → Tied l s (lent .journal) a → Stands s (lent .journal) y → Booked s (lent .journal) xs
+    → Tied l s a → Stands s (lent .journal) y → Booked s (lent .journal) xs
     → Said e y (numberOf e y (reversalPending (a .requests))) (call e s lent) → Traced y xs (call e s lent)
 call-traced (signed-on batch) l s lent a y xs w t d h k = judged-quiet y xs (signed-on batch) _ _ k (λ g. g)
 call-traced (starts u b) l s lent a y xs w t d h k = start-traced l s lent a y xs t d h u b (w .0) (w .1)

@@ -18,10 +18,10 @@ use Rattle.image_definitions.proofs.Theorems.{length-rows}
 -- a chip's parts, put one after the other
 pub region-put : (c : Chip) (b : List ℕ) {b₁ b₂ b₃ b₄ : List ℕ} → length (c .bytes) ≡ 255 → length (c .date) ≡ 2
     → length (c .authorisation) ≡ 6 → length (c .reference) ≡ 12 → length b ≡ size
-    → b₁ ≡ take 108 b ++ (c .bytes ++ drop (108 + length (c .bytes)) b)
-    → b₂ ≡ take 363 b₁ ++ (c .date ++ drop (363 + length (c .date)) b₁)
-    → b₃ ≡ take 365 b₂ ++ (c .authorisation ++ drop (365 + length (c .authorisation)) b₂)
-    → b₄ ≡ take 371 b₃ ++ (c .reference ++ drop (371 + length (c .reference)) b₃)
+    → b₁ ≡ take regionOffset b ++ (c .bytes ++ drop (regionOffset + length (c .bytes)) b)
+    → b₂ ≡ take (regionOffset + 255) b₁ ++ (c .date ++ drop (regionOffset + 255 + length (c .date)) b₁)
+    → b₃ ≡ take (regionOffset + 257) b₂ ++ (c .authorisation ++ drop (regionOffset + 257 + length (c .authorisation)) b₂)
+    → b₄ ≡ take (regionOffset + 263) b₃ ++ (c .reference ++ drop (regionOffset + 263 + length (c .reference)) b₃)
     → length b₄ ≡ size → b₄ ≡ take regionOffset b ++ regionOf c
 region-put c b f d a r l e₁ e₂ e₃ e₄ k =
     let r₀ : Begun (take regionOffset b) regionOffset b = record { count = length-take-le regionOffset b (omega arith); front = refl } in

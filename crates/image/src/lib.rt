@@ -1,6 +1,7 @@
 // The image of the state: its bytes, of one length, with the version of the format at the front. WIDTHS is the layout: a row for each
 // number of the state. After the rows stands a region of bytes, those of the chip.
 use image_definitions::Reading;
+use kinds::Totals;
 use numbers::Batch;
 use numbers::Trace;
 use state::Awaited;
@@ -20,24 +21,24 @@ ghost use lib.ListN.{length, take, drop};
 ghost use Rattle.digits.specs.Lists.{sameBytes};
 ghost use Rattle.field.specs.Bitmap.{wordOf};
 ghost use Rattle.image_definitions.specs.Layout.{widths, regionOffset, size, bytesOf, numbersIn};
-ghost use Rattle.image_definitions.specs.Image.{reasonValue, requestValues, reversalValues, plainValues, awaitedValues, phaseValues, flagValue, memberValues, settingsValues, countsValues, chipValues, valuesOf, rowBytes, regionOf, image, merchantOf, settingsOf, countsOf, requestOf, reasonOf, reversalOf, phaseOf, chipIn, stateOf, refused, readImage};
+ghost use Rattle.image_definitions.specs.Image.{reasonValue, requestValues, reversalValues, plainValues, awaitedValues, phaseValues, flagValue, memberValues, settingsValues, countsValues, totalsValues, chipValues, valuesOf, rowBytes, regionOf, image, merchantOf, settingsOf, countsOf, totalsIn, requestOf, reasonOf, reversalOf, phaseOf, chipIn, stateOf, refused, readImage};
 
 // The bytes of an image.
-pub const SIZE: usize = 383;
+pub const SIZE: usize = 403;
 
 // The version of the format.
-const VERSION: u64 = 2;
+const VERSION: u64 = 3;
 
-pub const ROWS: usize = 29;
+pub const ROWS: usize = 33;
 
 // Where the region stands, and its parts after field 55: date, authorisation, reference.
-const REGION: usize = 108;
+const REGION: usize = 128;
 
-const DATE: usize = 363;
+const DATE: usize = 383;
 
-const AUTHORISATION: usize = 365;
+const AUTHORISATION: usize = 385;
 
-const REFERENCE: usize = 371;
+const REFERENCE: usize = 391;
 
 // The bytes of each number, in the image's order.
 const WIDTHS: [usize; ROWS] = [
@@ -58,6 +59,10 @@ const WIDTHS: [usize; ROWS] = [
     4, // reversed
     4, // given up
     4, // unanswered
+    8, // debit amount
+    2, // debit count
+    8, // credit amount
+    2, // credit count
     1, // phase
     1, // kind of its request
     8, // amount
@@ -142,10 +147,10 @@ fn with_region(c: Chip, b: [u8; SIZE]) -> [u8; SIZE]
     let date = c.date;
     let authorisation = c.authorisation;
     let reference = c.reference;
-    let to363 = put(&field55, REGION, b);
-    let to365 = put(&date, DATE, to363);
-    let to371 = put(&authorisation, AUTHORISATION, to365);
-    put(&reference, REFERENCE, to371)
+    let to383 = put(&field55, REGION, b);
+    let to385 = put(&date, DATE, to383);
+    let to391 = put(&authorisation, AUTHORISATION, to385);
+    put(&reference, REFERENCE, to391)
 }
 
 // The bytes with others from a place on.
@@ -227,11 +232,13 @@ pub fn values_of(s: State) -> [u64; ROWS]
 {
     let settings = s.settings;
     let counts = s.counts;
+    let totals = s.totals;
     let chip = s.chip;
     let phase = s.phase;
     let x = settings_values(settings);
     let m = member_values(s);
     let c = counts_values(counts);
+    let t = totals_values(totals);
     let p = phase_values(phase);
     let k = chip_values(chip);
     [
@@ -252,6 +259,10 @@ pub fn values_of(s: State) -> [u64; ROWS]
         c[3],
         c[4],
         c[5],
+        t[0],
+        t[1],
+        t[2],
+        t[3],
         p[0],
         p[1],
         p[2],
@@ -313,6 +324,12 @@ fn counts_values(c: Counts) -> [u64; 6]
         c.given_up as u64,
         c.unanswered as u64,
     ]
+}
+
+fn totals_values(t: Totals) -> [u64; 4]
+    ensures { λ r. ⌜ r ≡ totalsValues t ⌝ }
+{
+    [t.debit, t.debits as u64, t.credit, t.credits as u64]
 }
 
 // Length of field 55, approved.
@@ -397,8 +414,9 @@ fn state_of(v: [u64; ROWS], region: &[u8]) -> State
 {
     let settings = settings_of(&v[1..7]);
     let counts = counts_of(&v[11..17]);
-    let phase = phase_of(&v[17..27]);
-    let chip = chip_in(&v[27..29], region);
+    let totals = totals_in(&v[17..21]);
+    let phase = phase_of(&v[21..31]);
+    let chip = chip_in(&v[31..33], region);
     let batch = Batch(low32(v[8]));
     let next = Trace(low32(v[9]));
     State {
@@ -408,6 +426,7 @@ fn state_of(v: [u64; ROWS], region: &[u8]) -> State
         next: next,
         entries: low16(v[10]),
         counts: counts,
+        totals: totals,
         chip: chip,
         phase: phase,
     }
@@ -449,6 +468,19 @@ fn counts_of(v: &[u64]) -> Counts
         reversed: low32(v[3]),
         given_up: low32(v[4]),
         unanswered: low32(v[5]),
+    }
+}
+
+// The totals in their four rows.
+fn totals_in(v: &[u64]) -> Totals
+    requires { ⌜ length (now v) ≡ 4 ⌝ }
+    ensures { λ r. ⌜ r ≡ totalsIn (now (v .entry)) ⌝ }
+{
+    Totals {
+        debit: v[0],
+        debits: low16(v[1]),
+        credit: v[2],
+        credits: low16(v[3]),
     }
 }
 

@@ -11,8 +11,8 @@ use borrow.Author.Tests.{leb-true}
 use Rattle.digits.proofs.Lists.{all-at, getD-past}
 use Rattle.state.specs.declared.Phase.the-variants.{Resting}
 use Rattle.image_definitions.specs.Layout.{widths, rows, bytesOf}
-use Rattle.image_definitions.specs.Image.{rowsFrom, settingsOf, countsOf, requestOf, reversalOf, phasesOf, stateOf}
-use Rattle.image_definitions.specs.Sized.{Bytes, SizedSettings, SizedCounts, SizedRequest, SizedReversal, SizedPhase, Sized}
+use Rattle.image_definitions.specs.Image.{rowsFrom, settingsOf, countsOf, totalsIn, requestOf, reversalOf, phasesOf, stateOf}
+use Rattle.image_definitions.specs.Sized.{Bytes, SizedSettings, SizedCounts, SizedTotals, SizedRequest, SizedReversal, SizedPhase, Sized}
 use Rattle.image_definitions.proofs.Laid.{length-bytesOf, append-bytes, bytesOf-bytes}
 use Rattle.image_definitions.proofs.Region.{sized-chip}
 
@@ -44,6 +44,9 @@ sized-counts v =
       unanswered = omega arith;
     }
 
+sized-totals : (v : List ℕ) → getD v 0 0 < 2 ^ 64 → getD v 2 0 < 2 ^ 64 → SizedTotals (totalsIn v)
+sized-totals v debit credit = record { debit = debit; debits = omega arith; credit = credit; credits = omega arith }
+
 module _ (v : List ℕ) (amount : getD v 2 0 < 2 ^ 64) (card : getD v 3 0 < 2 ^ 64) where
   sized-request : SizedRequest (requestOf v)
   sized-request =
@@ -74,10 +77,11 @@ sized-state v r below s =
       next = omega arith;
       entries = omega arith;
       counts = sized-counts (rowsFrom 11 6 v);
-      chip = sized-chip (rowsFrom 27 2 v) r s;
+      totals = sized-totals (rowsFrom 17 4 v) (rw (rows-at 17 4 v 0 (omega arith)) (below 17)) (rw (rows-at 17 4 v 2 (omega arith)) (below 19));
+      chip = sized-chip (rowsFrom 31 2 v) r s;
       phase =
-          sized-phase (rowsFrom 17 10 v) (rw (rows-at 17 10 v 2 (omega arith)) (below 19)) (rw (rows-at 17 10 v 3 (omega arith)) (below 20))
-          (getD (rowsFrom 17 10 v) 0 0);
+          sized-phase (rowsFrom 21 10 v) (rw (rows-at 21 10 v 2 (omega arith)) (below 23)) (rw (rows-at 21 10 v 3 (omega arith)) (below 24))
+          (getD (rowsFrom 21 10 v) 0 0);
     }
 
 -- no row is wider than 64 bits

@@ -10,6 +10,7 @@ use lib.ListN.{length, getD, take, drop, replicate, take-append-drop, length-app
 use lib.Seq.{take-all, take-at, drop-at}
 use borrow.Rule.Slice.PartMut.{putMid}
 use Rattle.field.specs.Bitmap.{wordOf}
+use Rattle.kinds.specs.declared.Totals.{Totals}
 use Rattle.state.specs.declared.Request.{Request}
 use Rattle.state.specs.declared.Reason.{Reason}
 use Rattle.state.specs.declared.Reason.the-variants.{Silence, BadMac, CardDeclined}
@@ -22,8 +23,8 @@ use Rattle.state.specs.declared.Counts.{Counts}
 use Rattle.state.specs.declared.Chip.{Chip}
 use Rattle.state.specs.declared.State.{State}
 use Rattle.image_definitions.specs.Layout.{widths, bytesOf}
-use Rattle.image_definitions.specs.Image.{version, reasonValue, requestValues, reversalValues, plainValues, phaseValues, flagValue, memberValues, settingsValues, countsValues, chipValues, valuesOf, regionOf, merchantOf, rowsFrom, settingsOf, countsOf, requestOf, reasonOf, reversalOf, phaseOf, stateOf}
-use Rattle.image_definitions.specs.Sized.{Bytes, SizedSettings, SizedCounts, SizedChip, SizedRequest, SizedReversal, SizedPhase, Sized}
+use Rattle.image_definitions.specs.Image.{version, reasonValue, requestValues, reversalValues, plainValues, phaseValues, flagValue, memberValues, settingsValues, countsValues, totalsValues, chipValues, valuesOf, regionOf, merchantOf, rowsFrom, settingsOf, countsOf, totalsIn, requestOf, reasonOf, reversalOf, phaseOf, stateOf}
+use Rattle.image_definitions.specs.Sized.{Bytes, SizedSettings, SizedCounts, SizedTotals, SizedChip, SizedRequest, SizedReversal, SizedPhase, Sized}
 use Rattle.image_definitions.proofs.Laid.{Fits, fits-append, length-bytesOf, bytes-word, word-below, drop-bytes}
 use Rattle.image_definitions.proofs.Region.{flag-back, chip-back}
 
@@ -55,6 +56,9 @@ counts-back c z =
       mod-eq-of-lt (z .given-up),
       mod-eq-of-lt (z .unanswered),
     )
+
+totals-back : (t : Totals) → SizedTotals t → totalsIn (totalsValues t) ≡ t
+totals-back t z = rw (mod-eq-of-lt (z .debits), mod-eq-of-lt (z .credits))
 
 request-back : (p : ℕ) (q : Request) (reason n : ℕ) → SizedRequest q → requestOf (requestValues p q reason n) ≡ q
 request-back p q reason n z =
@@ -102,6 +106,7 @@ state-back s z =
       mod-eq-of-lt (z .next),
       mod-eq-of-lt (z .entries),
       counts-back (s .counts) (z .counts),
+      totals-back (s .totals) (z .totals),
       drop-at (phaseValues (s .phase)) (chipValues (s .chip)) 10 (length-phase (s .phase)),
       chip-back (s .chip) (z .chip),
       phase-back (s .phase) (chipValues (s .chip)) (z .phase),
@@ -109,7 +114,7 @@ state-back s z =
 
 -- the widths of the ten rows of the phase
 phaseWidths : List ℕ
-phaseWidths = rowsFrom 17 10 widths
+phaseWidths = rowsFrom 21 10 widths
 
 request-fits : (p : ℕ) (q : Request) (reason n : ℕ) → p < 256 → SizedRequest q → reason < 256 → n < 256
     → Fits phaseWidths (requestValues p q reason n)
@@ -159,7 +164,11 @@ counts-fit : (c : Counts) → SizedCounts c → Fits (rowsFrom 11 6 widths) (cou
 unfolding widths
 counts-fit c z = (z .sent, (z .approved, (z .declined, (z .reversed, (z .given-up, (z .unanswered, tt))))))
 
-chip-fits : (c : Chip) → SizedChip c → Fits (rowsFrom 27 2 widths) (chipValues c)
+totals-fit : (t : Totals) → SizedTotals t → Fits (rowsFrom 17 4 widths) (totalsValues t)
+unfolding widths
+totals-fit t z = (z .debit, (z .debits, (z .credit, (z .credits, tt))))
+
+chip-fits : (c : Chip) → SizedChip c → Fits (rowsFrom 31 2 widths) (chipValues c)
 unfolding widths
 chip-fits c z = (z .count, (flag-small (c .approved), tt))
 
@@ -170,12 +179,14 @@ values-fit s z =
     let x = settingsValues (s .settings) in
     let m = memberValues s in
     let c = countsValues (s .counts) in
+    let t = totalsValues (s .totals) in
     let p = phaseValues (s .phase) in
     let k = chipValues (s .chip) in
-    let from17 = fits-append phaseWidths p (rowsFrom 27 2 widths) k (phase-fits (s .phase) (z .phase)) (chip-fits (s .chip) (z .chip)) in
-    let from11 = fits-append (rowsFrom 11 6 widths) c (rowsFrom 17 12 widths) (p ++ k) (counts-fit (s .counts) (z .counts)) from17 in
-    let from7 = fits-append (rowsFrom 7 4 widths) m (rowsFrom 11 18 widths) (c ++ (p ++ k)) (members-fit s z) from11 in
-    (lit< tt, fits-append (rowsFrom 1 6 widths) x (rowsFrom 7 22 widths) (m ++ (c ++ (p ++ k))) (settings-fit (s .settings) (z .settings)) from7)
+    let from21 = fits-append phaseWidths p (rowsFrom 31 2 widths) k (phase-fits (s .phase) (z .phase)) (chip-fits (s .chip) (z .chip)) in
+    let from17 = fits-append (rowsFrom 17 4 widths) t (rowsFrom 21 12 widths) (p ++ k) (totals-fit (s .totals) (z .totals)) from21 in
+    let from11 = fits-append (rowsFrom 11 6 widths) c (rowsFrom 17 16 widths) (t ++ (p ++ k)) (counts-fit (s .counts) (z .counts)) from17 in
+    let from7 = fits-append (rowsFrom 7 4 widths) m (rowsFrom 11 22 widths) (c ++ (t ++ (p ++ k))) (members-fit s z) from11 in
+    (lit< tt, fits-append (rowsFrom 1 6 widths) x (rowsFrom 7 26 widths) (m ++ (c ++ (t ++ (p ++ k)))) (settings-fit (s .settings) (z .settings)) from7)
 
 -- the ten numbers of a phase, one by one
 phase-listed : (p : Phase) (rest : List ℕ) → getD (phaseValues p) 0 0 ∷ getD (phaseValues p) 1 0 ∷ getD (phaseValues p) 2 0 ∷ getD (phaseValues p) 3 0 ∷ getD (phaseValues p) 4 0 ∷ getD (phaseValues p) 5 0 ∷ getD (phaseValues p) 6 0 ∷ getD (phaseValues p) 7 0 ∷ getD (phaseValues p) 8 0 ∷ getD (phaseValues p) 9 0 ∷ rest ≡ phaseValues p ++ rest
@@ -190,17 +201,18 @@ phase-listed Settling rest = refl
 phase-listed Uploading rest = refl
 
 -- the numbers of a state, listed one by one
-pub values-listed : (s : State) {x m c p k : List ℕ} → x ≡ settingsValues (s .settings) → m ≡ memberValues s
-    → c ≡ countsValues (s .counts) → p ≡ phaseValues (s .phase) → k ≡ chipValues (s .chip)
+pub values-listed : (s : State) {x m c t p k : List ℕ} → x ≡ settingsValues (s .settings) → m ≡ memberValues s
+    → c ≡ countsValues (s .counts) → t ≡ totalsValues (s .totals) → p ≡ phaseValues (s .phase) → k ≡ chipValues (s .chip)
     → version
     ∷ getD x 0 0 ∷ getD x 1 0 ∷ getD x 2 0 ∷ getD x 3 0 ∷ getD x 4 0 ∷ getD x 5 0
     ∷ getD m 0 0 ∷ getD m 1 0 ∷ getD m 2 0 ∷ getD m 3 0
     ∷ getD c 0 0 ∷ getD c 1 0 ∷ getD c 2 0 ∷ getD c 3 0 ∷ getD c 4 0 ∷ getD c 5 0
+    ∷ getD t 0 0 ∷ getD t 1 0 ∷ getD t 2 0 ∷ getD t 3 0
     ∷ getD p 0 0 ∷ getD p 1 0 ∷ getD p 2 0 ∷ getD p 3 0 ∷ getD p 4 0 ∷ getD p 5 0 ∷ getD p 6 0 ∷ getD p 7 0 ∷ getD p 8 0 ∷ getD p 9 0
     ∷ getD k 0 0 ∷ getD k 1 0 ∷ []
     ≡ valuesOf s
 unfolding valuesOf
-values-listed s ex em ec ep ek = rw (ex, em, ec, ep, ek, phase-listed (s .phase) (chipValues (s .chip)))
+values-listed s ex em ec et ep ek = rw (ex, em, ec, et, ep, ek, phase-listed (s .phase) (chipValues (s .chip)))
 
 -- field 42, put as two numbers into 15 bytes
 pub merchant-room : (x : ℕ) {a : List ℕ} → a ≡ bytesOf 8 x → length (a ++ replicate 7 0) ≡ 15

@@ -6,6 +6,7 @@ use lib.Dec.{eqb}
 use lib.ListN.{getD, take, drop, replicate}
 use Rattle.digits.specs.Lists.{sameBytes}
 use Rattle.field.specs.Bitmap.{wordOf}
+use Rattle.kinds.specs.declared.Totals.{Totals}
 use Rattle.state.specs.State.{fresh}
 use Rattle.state.specs.declared.Request.{Request}
 use Rattle.state.specs.declared.Reason.{Reason}
@@ -24,7 +25,7 @@ use Rattle.image_definitions.specs.declared.Reading.{Reading}
 
 -- the version of the format
 abbrev pub version : ℕ
-version = 2
+version = 3
 
 abbrev pub reasonValue : Reason → ℕ
 reasonValue Silence = 0
@@ -72,6 +73,9 @@ memberValues s = flagValue (s .«signed_on») ∷ s .batch .0 ∷ s .next .0 ∷
 abbrev pub countsValues : Counts → List ℕ
 countsValues c = c .sent ∷ c .approved ∷ c .declined ∷ c .reversed ∷ c .«given_up» ∷ c .unanswered ∷ []
 
+abbrev pub totalsValues : Totals → List ℕ
+totalsValues t = t .debit ∷ t .debits ∷ t .credit ∷ t .credits ∷ []
+
 -- length of field 55, approved
 abbrev pub chipValues : Chip → List ℕ
 chipValues c = c .length ∷ flagValue (c .approved) ∷ []
@@ -80,7 +84,9 @@ chipValues c = c .length ∷ flagValue (c .approved) ∷ []
 unfoldable pub valuesOf : State → List ℕ
 valuesOf s =
     version
-    ∷ (settingsValues (s .settings) ++ (memberValues s ++ (countsValues (s .counts) ++ (phaseValues (s .phase) ++ chipValues (s .chip)))))
+    ∷ (settingsValues (s .settings)
+    ++ (memberValues s
+    ++ (countsValues (s .counts) ++ (totalsValues (s .totals) ++ (phaseValues (s .phase) ++ chipValues (s .chip))))))
 
 -- the bytes of the rows
 abbrev pub rowBytes : State → List ℕ
@@ -124,6 +130,10 @@ countsOf v =
       «given_up» = bitsOf 32 v 4;
       unanswered = bitsOf 32 v 5;
     }
+
+-- the totals in their four rows
+abbrev pub totalsIn : List ℕ → Totals
+totalsIn v = record { debit = getD v 0 0; debits = bitsOf 16 v 1; credit = getD v 2 0; credits = bitsOf 16 v 3 }
 
 -- the request, its reversal and the phase in their ten rows
 abbrev pub requestOf : List ℕ → Request
@@ -185,8 +195,9 @@ stateOf v r =
       next = record { 0 = bitsOf 32 v 9 };
       entries = bitsOf 16 v 10;
       counts = countsOf (rowsFrom 11 6 v);
-      chip = chipIn (rowsFrom 27 2 v) r;
-      phase = phaseOf (rowsFrom 17 10 v);
+      totals = totalsIn (rowsFrom 17 4 v);
+      chip = chipIn (rowsFrom 31 2 v) r;
+      phase = phaseOf (rowsFrom 21 10 v);
     }
 
 abbrev pub stateIn : List ℕ → State

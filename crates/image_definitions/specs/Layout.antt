@@ -15,6 +15,8 @@ widths =
     ∷ 1 ∷ 4 ∷ 4 ∷ 2
     -- counts: sent, approved, declined, reversed, given up, unanswered
     ∷ 4 ∷ 4 ∷ 4 ∷ 4 ∷ 4 ∷ 4
+    -- totals: debit amount and count, credit amount and count
+    ∷ 8 ∷ 2 ∷ 8 ∷ 2
     -- phase
     ∷ 1
     -- the request of the phase: kind, amount, card number, card length, trace, original trace
@@ -28,15 +30,15 @@ widths =
 
 -- how many they are
 abbrev pub rows : ℕ
-rows = 29
+rows = 33
 
 -- where the region of bytes stands: after the numbers
 abbrev pub regionOffset : ℕ
-regionOffset = 108
+regionOffset = 128
 
 -- the bytes of the image
 abbrev pub size : ℕ
-size = 383
+size = 403
 
 -- the last n bytes of x
 unfoldable pub bytesOf : ℕ → ℕ → List ℕ

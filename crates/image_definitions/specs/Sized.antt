@@ -3,6 +3,7 @@ use mathlib.Core.Path.{_≡_}
 use mathlib.Core.List.{List}
 use Prim.Native.Nat.{ℕ, _^_, _<_}
 use lib.ListN.{length, getD}
+use Rattle.kinds.specs.declared.Totals.{Totals}
 use Rattle.state.specs.declared.Request.{Request}
 use Rattle.state.specs.declared.Reversal.{Reversal}
 use Rattle.state.specs.declared.Awaited.{Awaited}
@@ -34,6 +35,12 @@ pub record SizedCounts (c : Counts) : Type 0 where
   pub reversed : c .reversed < 2 ^ 32
   pub given-up : c .«given_up» < 2 ^ 32
   pub unanswered : c .unanswered < 2 ^ 32
+
+pub record SizedTotals (t : Totals) : Type 0 where
+  pub debit : t .debit < 2 ^ 64
+  pub debits : t .debits < 2 ^ 16
+  pub credit : t .credit < 2 ^ 64
+  pub credits : t .credits < 2 ^ 16
 
 pub record SizedChip (c : Chip) : Type 0 where
   pub count : c .length < 2 ^ 8
@@ -78,5 +85,6 @@ pub record Sized (s : State) : Type 0 where
   pub next : s .next .0 < 2 ^ 32
   pub entries : s .entries < 2 ^ 16
   pub counts : SizedCounts (s .counts)
+  pub totals : SizedTotals (s .totals)
   pub chip : SizedChip (s .chip)
   pub phase : SizedPhase (s .phase)

@@ -7,24 +7,22 @@ use native.Mathlib.Omega.{arith}
 use lib.ListN.{length, getD, take, drop}
 use lib.Seq.{drop-length, take-all}
 use borrow.Author.Tests.{eq-eqb, ne-eqb, lt-ltb, le-ltb}
-use Rattle.kinds.specs.declared.Totals.{Totals}
 use Rattle.message.specs.Message.{fieldOf}
 use Rattle.reading.specs.Reading.{readMessage}
 use Rattle.reading.specs.declared.Reading.{Reading as MessageReading}
 use Rattle.reading.specs.declared.ReadOutcome.the-variants.{Read, Refused as Unread}
 use Rattle.parts.specs.Parts.{taken, withTaken}
 use Rattle.parts.specs.declared.Taken.{Taken}
-use Rattle.journal.specs.Journal.{entriesOf, totalsOf}
 use Rattle.state.specs.declared.Settings.{Settings}
 use Rattle.state.specs.declared.State.{State}
 use Rattle.state.specs.State.{fresh}
 use Rattle.state.specs.Calls.{Lent, Result}
 use Rattle.image_definitions.specs.Layout.{rows, size}
-use Rattle.image_definitions.specs.Image.{valuesOf, image, readImage}
+use Rattle.image_definitions.specs.Image.{totalsValues, valuesOf, image, readImage}
 use Rattle.image_definitions.specs.declared.Reading.{Reading}
 use Rattle.image_definitions.proofs.Theorems.{image-length}
 use Rattle.call_definitions.specs.Events.{Event, call}
-use Rattle.interface_definitions.specs.Interface.{done, outOfForm, given, noImage, onImage, returned, freshImage, numberAt, listOf, totalsOn, held, takenNumber, takenCount, fieldAt}
+use Rattle.interface_definitions.specs.Interface.{done, outOfForm, given, noImage, onImage, returned, freshImage, numberAt, totalsOn, held, takenNumber, takenCount, fieldAt}
 
 -- what is copied into bytes of its length is all that stands there
 copied : (a o : List ℕ) {x : List ℕ} → length o ≡ length a → x ≡ take (length a) a ++ drop (length a) o → x ≡ a
@@ -67,14 +65,13 @@ module _ (b : List ℕ) {r : Reading} (q : r ≡ readImage b) where
   unfolding numberAt
   number-read row x l h p = rw (lt-ltb row rows l, p, ← q, h)
 
-  pub no-totals : (j x : List ℕ) → r .accepted ≡ false → returned outOfForm x ≡ totalsOn b j x
+  pub no-totals : (x : List ℕ) → r .accepted ≡ false → returned outOfForm x ≡ totalsOn b x
   unfolding totalsOn
-  no-totals j x h = rw (← q, h)
+  no-totals x h = rw (← q, h)
 
-  pub totals-read : (j x : List ℕ) {t : Totals} → r .accepted ≡ true → t ≡ totalsOf (entriesOf (r .state .entries) j)
-      → returned done (listOf t) ≡ totalsOn b j x
+  pub totals-read : (x : List ℕ) → r .accepted ≡ true → returned done (totalsValues (r .state .totals)) ≡ totalsOn b x
   unfolding totalsOn
-  totals-read j x h p = rw (p, ← q, h)
+  totals-read x h = rw (← q, h)
 
 -- bytes that were read as a message
 module _ (b : List ℕ) (n k : ℕ) (out : List ℕ) {r : MessageReading} (q : r ≡ readMessage b) where

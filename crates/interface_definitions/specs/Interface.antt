@@ -1,10 +1,9 @@
 -- The functions for C: the number that each returns, and what it leaves in all that it may write, for every input.
-use mathlib.Core.List.{List, [], _∷_}
+use mathlib.Core.List.{List}
 use mathlib.Core.Bool.{Bool, false, cond, _&&_}
 use Prim.Native.Nat.{ℕ}
 use lib.Dec.{ltb, eqb}
 use lib.ListN.{length, getD, replicate}
-use Rattle.kinds.specs.declared.Totals.{Totals}
 use Rattle.message.specs.Message.{Field, fieldOf}
 use Rattle.message.specs.declared.Message.{Message}
 use Rattle.reading.specs.Reading.{readMessage}
@@ -13,7 +12,6 @@ use Rattle.reading.specs.declared.ReadOutcome.the-variants.{Read, Refused as Un
 use Rattle.parts.specs.Parts.{taken, withTaken}
 use Rattle.parts.specs.declared.Taken.{Taken}
 use Rattle.parts.specs.declared.Taken.the-variants.{Absent, TooLong, Count}
-use Rattle.journal.specs.Journal.{entriesOf, totalsOf}
 use Rattle.state.specs.declared.Settings.{Settings}
 use Rattle.state.specs.declared.Outcome.{Outcome}
 use Rattle.state.specs.declared.Outcome.the-variants.{Send, Quiet, Refused}
@@ -21,7 +19,7 @@ use Rattle.state.specs.State.{fresh}
 use Rattle.state.specs.Calls.{Lent, lend, Result}
 use Rattle.desk.specs.declared.Desk.{Desk}
 use Rattle.image_definitions.specs.Layout.{rows, size}
-use Rattle.image_definitions.specs.Image.{valuesOf, image, readImage}
+use Rattle.image_definitions.specs.Image.{totalsValues, valuesOf, image, readImage}
 use Rattle.call_definitions.specs.Events.{Event, call}
 
 -- The numbers beside those of documents 01 and 02: done, a message does not hold a field, a message is to be sent.
@@ -116,16 +114,9 @@ numberAt b row x =
       (returned done (getD (valuesOf (readImage b .state)) row 0))
       (returned outOfForm x)
 
--- debit amount and count, credit amount and count
-abbrev pub listOf : Totals → List ℕ
-listOf t = t .debit ∷ t .debits ∷ t .credit ∷ t .credits ∷ []
-
--- the totals of as many entries as the image says
-unfoldable pub totalsOn : List ℕ → List ℕ → List ℕ → Returned (List ℕ)
-totalsOn b j x =
-    cond (readImage b .accepted)
-      (returned done (listOf (totalsOf (entriesOf (readImage b .state .entries) j))))
-      (returned outOfForm x)
+-- the totals in an image: debit amount and count, credit amount and count
+unfoldable pub totalsOn : List ℕ → List ℕ → Returned (List ℕ)
+totalsOn b x = cond (readImage b .accepted) (returned done (totalsValues (readImage b .state .totals))) (returned outOfForm x)
 
 -- bytes that are a message, or the number by which they are refused
 abbrev pub readNumber : ReadOutcome → ℕ

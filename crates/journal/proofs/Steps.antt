@@ -14,7 +14,8 @@ use Rattle.entry.proofs.Theorems.{decode-amount}
 use Rattle.journal.specs.declared.Found.the-variants.{At, Nowhere}
 use Rattle.kinds.specs.declared.Totals.{Totals}
 use Rattle.journal.specs.Journal.{entriesOf, every, firstOf, totalsOf}
-use Rattle.journal.specs.Sums.{withEntry, Room}
+use Rattle.journal.specs.Sums.{withEntry}
+use Rattle.kinds.specs.Totals.{noTotals, Room}
 use Rattle.journal.proofs.Here.{here}
 use Rattle.journal.proofs.Entries.{entries-more, entries-short}
 use Rattle.journal.proofs.Sums.{Gathering, gathering-none, gathering-room, gathering-more, gathering-done}
@@ -90,11 +91,11 @@ pub record Summing (n : ℕ) (j : List ℕ) (i at : ℕ) (t : Totals) : Type 0 w
   pub sums : Gathering (entriesOf n j) i (left n j i at) t
 
 module _ {n : ℕ} {j : List ℕ} where
-  pub summing-none : Summing n j 0 0 (record { debit = 0; debits = 0; credit = 0; credits = 0 })
+  pub summing-none : Summing n j 0 0 noTotals
   summing-none = record { bound = omega arith; sums = rw left-none (gathering-none (entriesOf n j)) }
 
   module _ {i at : ℕ} {t : Totals} (r : Summing n j i at t) where
-    pub summing-room : i < 65535 → Room t (here j at)
+    pub summing-room : i < 65535 → Room t (here j at .amount)
     summing-room h = gathering-room (here j at) (r .sums) h (decode-amount (take entrySize (drop at j)))
 
     pub summing-more : i < n → entrySize ≤ length j - at → Summing n j (i + 1) (at + entrySize) (withEntry t (here j at))

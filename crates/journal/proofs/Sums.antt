@@ -1,17 +1,16 @@
 -- Laws of sums over a journal's entries and of the totals.
-use mathlib.Core.Path.{_≡_, refl, ap, sym, _∙_}
+use mathlib.Core.Path.{_≡_, refl, sym, _∙_}
 use mathlib.Core.List.{List, [], _∷_, _++_}
-use mathlib.Core.Bool.{Bool, true, false, cond, _&&_, and-eq-true-iff, true≢false}
+use mathlib.Core.Bool.{Bool, true, false, cond, _&&_, and-eq-true-iff}
 use Prim.Native.Nat.{ℕ, zero, suc, _+_, _*_, _≤_, _<_}
 use native.Mathlib.Nat.{add-zero, zero-add, add-assoc}
 use native.Mathlib.Omega.{arith}
-use native.Mathlib.Decide.{decLt, ℕ-discrete}
+use native.Mathlib.Decide.{decLt}
 use lib.Dec.{leb}
 use lib.ListN.{length, take, drop}
-use borrow.Author.Tests.{leb-true, le-leb, ne-eqb}
+use borrow.Author.Tests.{leb-true, le-leb}
 use Rattle.numbers.specs.Limits.{largestAmount}
-use Rattle.kinds.specs.Kinds.{isDebit, isCredit, sideOf}
-use Rattle.kinds.specs.declared.Side.the-variants.{Debit, Credit, Neither}
+use Rattle.kinds.specs.Totals.{noTotals, booked, Room}
 use Rattle.entry.specs.Entry.{entrySize, decode}
 use Rattle.entry.specs.Form.{fits}
 use Rattle.entry.specs.declared.Entry.{Entry}
@@ -20,7 +19,7 @@ use Rattle.entry.proofs.Theorems.{decode-amount}
 use Rattle.journal.specs.declared.Found.{Found}
 use Rattle.kinds.specs.declared.Totals.{Totals}
 use Rattle.journal.specs.Journal.{entriesOf, every, sumOf, debitEntry, creditEntry, totalsOf, sumsOf, fitsAt, isAt, withVoided, withMark, withResends, changedAt}
-use Rattle.journal.specs.Sums.{withEntry, sumsWith, Room}
+use Rattle.journal.specs.Sums.{withEntry, sumsWith}
 use Rattle.journal.proofs.Entries.{entries-more, entries-short}
 use Rattle.journal.proofs.Searches.{every-implies}
 
@@ -78,53 +77,6 @@ fitting-bounded p l uploading awaited es h =
     (every-implies (fitsAt l uploading awaited) (λ k e. leb (e .amount) largestAmount)
     (λ k e a. le-leb _ _ (fits-amount l uploading (isAt awaited k) e a)) 0 es h)
 
--- debit and credit are two sides
-two-sides : (k : ℕ) → isDebit k ≡ true → isCredit k ≡ false
-unfolding isDebit isCredit
-two-sides k h = go (ℕ-discrete k 20) (ℕ-discrete k 22)
-  where
-    go : Dec (k ≡ 20) → Dec (k ≡ 22) → isCredit k ≡ false
-    go (yes e) d = ap isCredit e
-    go (no e) (yes d) = ap isCredit d
-    go (no e) (no d) = absurd (true≢false (sym h ∙ rw (ne-eqb 20 k (λ q. e (sym q)), ne-eqb 22 k (λ q. d (sym q)))))
-
-is-debit : (d c : Bool) → (d ≡ true → c ≡ false) → cond d Debit (cond c Credit Neither) ≡ Debit → (d ≡ true) × (c ≡ false)
-is-debit true c k h = (refl, k refl)
-is-debit false true k h = let z : _≡_ {A = ℕ} 0 1 = cc in absurd (omega arith)
-is-debit false false k h = let z : _≡_ {A = ℕ} 0 1 = cc in absurd (omega arith)
-
-is-credit : (d c : Bool) → cond d Debit (cond c Credit Neither) ≡ Credit → (d ≡ false) × (c ≡ true)
-is-credit true c h = let z : _≡_ {A = ℕ} 0 1 = cc in absurd (omega arith)
-is-credit false true h = (refl, refl)
-is-credit false false h = let z : _≡_ {A = ℕ} 0 1 = cc in absurd (omega arith)
-
-is-neither : (d c : Bool) → cond d Debit (cond c Credit Neither) ≡ Neither → (d ≡ false) × (c ≡ false)
-is-neither true c h = let z : _≡_ {A = ℕ} 0 1 = cc in absurd (omega arith)
-is-neither false true h = let z : _≡_ {A = ℕ} 0 1 = cc in absurd (omega arith)
-is-neither false false h = (refl, refl)
-
--- one more entry, by its side
-module _ (t : Totals) (e : Entry) where
-  pub with-debit : sideOf (e .kind) ≡ Debit
-      → withEntry t e ≡ record { debit = t .debit + e .amount; debits = t .debits + 1; credit = t .credit; credits = t .credits }
-  unfolding withEntry debitEntry creditEntry sideOf
-  with-debit s =
-      let q = is-debit (isDebit (e .kind)) (isCredit (e .kind)) (two-sides (e .kind)) s in
-      rw (q .0, q .1, add-zero (t .credit), add-zero (t .credits))
-
-  pub with-credit : sideOf (e .kind) ≡ Credit
-      → withEntry t e ≡ record { debit = t .debit; debits = t .debits; credit = t .credit + e .amount; credits = t .credits + 1 }
-  unfolding withEntry debitEntry creditEntry sideOf
-  with-credit s =
-      let q = is-credit (isDebit (e .kind)) (isCredit (e .kind)) s in
-      rw (q .0, q .1, add-zero (t .debit), add-zero (t .debits))
-
-  pub with-neither : sideOf (e .kind) ≡ Neither → withEntry t e ≡ t
-  unfolding withEntry debitEntry creditEntry sideOf
-  with-neither s =
-      let q = is-neither (isDebit (e .kind)) (isCredit (e .kind)) s in
-      rw (q .0, q .1, add-zero (t .debit), add-zero (t .debits), add-zero (t .credit), add-zero (t .credits))
-
 -- a change that keeps what the totals are made of
 pub record KeepsTotals (f : Entry → Entry) : Type 0 where
   pub kind-same : (e : Entry) → f e .kind ≡ e .kind
@@ -161,7 +113,7 @@ totals-changed f h i es =
     )
 
 pub totals-last : (es : List Entry) (e : Entry) → totalsOf (es ++ (e ∷ [])) ≡ withEntry (totalsOf es) e
-unfolding sumsOf withEntry
+unfolding sumsOf booked debitEntry creditEntry
 totals-last es e =
     rw (
       sum-last debitEntry (λ e. e .amount) es e,
@@ -172,7 +124,7 @@ totals-last es e =
 
 -- one more entry in the sums of those that satisfy p
 pub sums-last : (p : Entry → Bool) (es : List Entry) (e : Entry) → sumsOf p (es ++ (e ∷ [])) ≡ sumsWith p (sumsOf p es) e
-unfolding sumsOf sumsWith withEntry
+unfolding sumsOf sumsWith booked debitEntry creditEntry
 sums-last p es e =
     rw (
       sum-last (λ e. p e && debitEntry e) (λ e. e .amount) es e,
@@ -215,10 +167,10 @@ gathered-none : (t : Totals) → gathered t [] ≡ t
 gathered-none t = rw (add-zero (t .debit), add-zero (t .debits), add-zero (t .credit), add-zero (t .credits))
 
 gathered-more : (t : Totals) (e : Entry) (es : List Entry) → gathered t (e ∷ es) ≡ gathered (withEntry t e) es
-unfolding withEntry
+unfolding booked debitEntry creditEntry
 gathered-more t e es = simp add-assoc
 
-gathered-all : (es : List Entry) → gathered (record { debit = 0; debits = 0; credit = 0; credits = 0 }) es ≡ totalsOf es
+gathered-all : (es : List Entry) → gathered noTotals es ≡ totalsOf es
 unfolding sumsOf
 gathered-all es = simp zero-add
 
@@ -230,7 +182,7 @@ pub record Gathering (es : List Entry) (i : ℕ) (left : List Entry) (t : Totals
   pub debits-bound : t .debits ≤ i
   pub credits-bound : t .credits ≤ i
 
-pub gathering-none : (es : List Entry) → Gathering es 0 es (record { debit = 0; debits = 0; credit = 0; credits = 0 })
+pub gathering-none : (es : List Entry) → Gathering es 0 es noTotals
 gathering-none es =
     record {
       eq = gathered-all es;
@@ -241,7 +193,7 @@ gathering-none es =
     }
 
 pub gathering-room : {es left : List Entry} {i : ℕ} {t : Totals} (e : Entry) → Gathering es i left t
-    → i < 65535 → e .amount < 1000000000000 → Room t e
+    → i < 65535 → e .amount < 1000000000000 → Room t (e .amount)
 gathering-room e r h a =
     record {
       debit-small = omega (arith, r .debit-bound);
@@ -253,7 +205,7 @@ gathering-room e r h a =
 
 pub gathering-more : {es left : List Entry} {i : ℕ} {t : Totals} {e : Entry} → Gathering es i (e ∷ left) t → e .amount < 1000000000000
     → Gathering es (i + 1) left (withEntry t e)
-unfolding withEntry
+unfolding booked debitEntry creditEntry
 gathering-more {es} {left} {i} {t} {e} r a =
     record {
       eq = sym (gathered-more t e left) ∙ r .eq;

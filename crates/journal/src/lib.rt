@@ -1,6 +1,5 @@
 // The journal: lent bytes, one entry per approval, oldest first (document 01, "State and journal").
 use entry::Entry;
-use kinds::Side;
 use kinds::Totals;
 use numbers::Trace;
 ghost use mathlib.Core.Path.{_≡_};
@@ -9,7 +8,6 @@ ghost use lib.ListN.{length, take, drop};
 ghost use Rattle.entry.specs.Entry.{decode, entrySize};
 ghost use Rattle.entry.specs.Form.{dueEntry};
 ghost use Rattle.journal.specs.Journal.{entriesOf, entryAt, every, firstOf, asked, totalsOf, isAt, nowhere, originalFor, fitsAt, nextDue, putEntry, setByte};
-ghost use Rattle.journal.specs.Sums.{withEntry, Room};
 
 // The place of an entry, the oldest being 0, or that there is none.
 pub enum Found {
@@ -103,19 +101,14 @@ pub fn all_fit(journal: &[u8], n: u16, sendings: u8, uploading: bool, awaited: F
 pub fn totals_of(journal: &[u8], n: u16) -> Totals
     ensures { λ r. ⌜ r ≡ totalsOf (entriesOf n (now (journal .entry))) ⌝ }
 {
-    let mut sums = Totals {
-        debit: 0,
-        debits: 0,
-        credit: 0,
-        credits: 0,
-    };
+    let mut sums = Totals::new();
     let mut i: u16 = 0;
     let mut at = 0;
     while i < n {
         if journal.len() - at < Entry::SIZE {
             return sums;
         }
-        sums = plus(sums, journal, at);
+        sums = sums.plus(journal[at], amount_in(journal, at));
         at += Entry::SIZE;
         i += 1;
     }
@@ -213,28 +206,5 @@ fn is_asked(journal: &[u8], at: usize, query: Query) -> bool
             & (trace_in(journal, at) == trace.0),
         Query::Due(mark) => kinds::is_due(journal[at])
             & (journal[at + Entry::MARK as usize] == mark),
-    }
-}
-
-// The totals with one entry more, the one that begins at an index.
-fn plus(sums: Totals, journal: &[u8], at: usize) -> Totals
-    requires { ⌜ (at + entrySize ≤ length (now journal)) × Room sums (decode (take entrySize (drop at (now journal)))) ⌝ }
-    ensures { λ r. ⌜ r ≡ withEntry sums (decode (take entrySize (drop at (now (journal .entry))))) ⌝ }
-{
-    let amount = amount_in(journal, at);
-    match kinds::side_of(journal[at]) {
-        Side::Debit => Totals {
-            debit: sums.debit + amount,
-            debits: sums.debits + 1,
-            credit: sums.credit,
-            credits: sums.credits,
-        },
-        Side::Credit => Totals {
-            debit: sums.debit,
-            debits: sums.debits,
-            credit: sums.credit + amount,
-            credits: sums.credits + 1,
-        },
-        Side::Neither => sums,
     }
 }

@@ -1,5 +1,7 @@
 // The kinds of card request, which are the numbers of field 60.1 (document 01, "Kinds").
 ghost use mathlib.Core.Path.{_≡_};
+ghost use Prim.Native.Nat.{_+_, _≤_, _<_};
+ghost use Rattle.kinds.specs.Totals.{noTotals, booked, Room};
 ghost use Rattle.kinds.specs.Kinds.{isKind, indicatorOf, processingOf, conditionOf, sideOf, isDue, takesOriginal, originalKind, keysReference, keysAuthorisation, keysDate, isRefund, isNeverReversed, isVoidable, sendsChip};
 
 // The side of the settlement that a kind's amount stands on.
@@ -15,6 +17,40 @@ pub struct Totals {
     pub debits: u16,
     pub credit: u64,
     pub credits: u16,
+}
+
+impl Totals {
+    pub fn new() -> Self
+        ensures { λ r. ⌜ r ≡ noTotals ⌝ }
+    {
+        Totals {
+            debit: 0,
+            debits: 0,
+            credit: 0,
+            credits: 0,
+        }
+    }
+
+    // One amount more, on the side of its kind, where there is room for it.
+    pub fn plus(self, kind: u8, amount: u64) -> Self
+        ensures { λ r. ⌜ (Room self amount → r ≡ booked kind amount self) ⌝ }
+    {
+        match side_of(kind) {
+            Side::Debit => Totals {
+                debit: sum(self.debit, amount),
+                debits: one_more(self.debits),
+                credit: self.credit,
+                credits: self.credits,
+            },
+            Side::Credit => Totals {
+                debit: self.debit,
+                debits: self.debits,
+                credit: sum(self.credit, amount),
+                credits: one_more(self.credits),
+            },
+            Side::Neither => self,
+        }
+    }
 }
 
 pub fn is_kind(kind: u8) -> bool
@@ -148,4 +184,16 @@ pub fn is_voidable(kind: u8) -> bool
     ensures { λ r. ⌜ r ≡ isVoidable kind ⌝ }
 {
     (kind == 20) | (kind == 22)
+}
+
+fn sum(total: u64, amount: u64) -> u64
+    ensures { λ r. ⌜ (total + amount < 18446744073709551616 → r ≡ total + amount) ⌝ }
+{
+    std::num::wrapping_add_u64(total, amount)
+}
+
+fn one_more(n: u16) -> u16
+    ensures { λ r. ⌜ (n < 65535 → r ≡ n + 1) ⌝ }
+{
+    std::num::wrapping_add_u16(n, 1)
 }

@@ -6,7 +6,7 @@ use lib.Dec.{eqb}
 use lib.ListN.{length, take}
 use Rattle.message.specs.declared.Message.{Message}
 use Rattle.reading.specs.Reading.{readMessage}
-use Rattle.journal.specs.Journal.{entriesOf, totalsOf}
+use Rattle.journal.specs.Journal.{entriesOf}
 use Rattle.state_rules.specs.StateRules.{waiting}
 use Rattle.state.specs.Calls.{Lent}
 use Rattle.dump.specs.Shown.{messageText}
@@ -34,10 +34,10 @@ messageIn b = readMessage b .message
 unfoldable pub fieldsText : List ℕ → List ℕ
 fieldsText b = cond (eqb (length b) 0) (text "message none\n") (messageText (messageIn b) (length b))
 
--- what is shown; totals are what a settlement would carry now
+-- what is shown; totals are the stored sums, which a settlement would carry now
 abbrev pub shown : Show → Rehearsal → Lent → List ℕ
 shown show.Counts r lent = countsLine (r .state .counts) (waiting (r .state .phase))
-shown show.Totals r lent = totalsLine (totalsOf (entriesOf (r .state .entries) (lent .journal)))
+shown show.Totals r lent = totalsLine (r .state .totals)
 shown show.State r lent = stateLine (r .state)
 shown show.Journal r lent = journalText (r .state .entries) (entriesOf (r .state .entries) (lent .journal))
 shown show.Message r lent = messageLine (last r (lent .message))

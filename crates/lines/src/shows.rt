@@ -66,7 +66,7 @@ fn show(x: Show, r: Rehearsal, journal: &[u8], message: &[u8], out: &mut [u8]) -
     let phase = state.phase;
     match x {
         Show::Counts => screen::add_counts(counts, phase, 0, out),
-        Show::Totals => screen::add_totals(journal::totals_of(journal, state.entries), 0, out),
+        Show::Totals => screen::add_totals(state.totals, 0, out),
         Show::State => screen::add_state(state, 0, out),
         Show::Journal => screen::add_journal(journal, state.entries, 0, out),
         Show::Message => screen::add_message(last(r, message), 0, out),

@@ -13,11 +13,14 @@ use Rattle.message.specs.Message.{largest}
 use Rattle.entry.specs.Entry.{entrySize}
 use Rattle.entry.specs.Form.{inForm, keepsVoided, keepsUnmarked, keepsResends, keepsSilent}
 use Rattle.entry.specs.declared.Entry.{Entry}
-use Rattle.journal.specs.Journal.{entriesOf, every, totalsOf, distinct, isAt}
+use Rattle.journal.specs.Journal.{entriesOf, every, debitEntry, creditEntry, sumsOf, totalsOf, distinct, isAt}
+use Rattle.journal.proofs.Entries.{length-entries-le}
+use Rattle.journal.proofs.Sums.{count-bounded}
 use Rattle.state.specs.declared.State.{State}
 use Rattle.state.specs.Calls.{Lent}
 use Rattle.checks.specs.Checks.{firstBroken}
-use Rattle.state_rules.proofs.Holds.{StateHolds, each, state-holds}
+use Rattle.state.specs.State.{amountIn, Bookable}
+use Rattle.state_rules.proofs.Holds.{StateHolds, each, state-holds, room-for-one, amount-small}
 use Rattle.rules.specs.Rules.{tooShort, journalClauses, journalKept, inUpload, due, awaitedItem, phaseKept, keepsRule2, rules12}
 use Rattle.state_rules.specs.StateRules.{stateKept, sumsKept}
 
@@ -34,7 +37,7 @@ pub record JournalHolds (l : ℕ) (due : Entry → Bool) (uploading : Bool) (ite
 
 -- rule 2 whole
 pub record InOrder (s : State) (es : List Entry) : Type 0 where
-  pub state : StateHolds s
+  pub state : StateHolds s (totalsOf es)
   pub journal : JournalHolds (s .settings .sendings) (due (s .phase)) (inUpload (s .phase)) (awaitedItem (s .phase)) es
   pub phase-kept : phaseKept (s .settings) (s .entries) es (s .phase) ≡ true
 
@@ -59,9 +62,9 @@ pub keeps-rule2 : (s : State) (es : List Entry) → keepsRule2 s es ≡ true →
 unfolding keepsRule2
 keeps-rule2 s es e =
     let journal = journalKept (s .settings .sendings) (due (s .phase)) (inUpload (s .phase)) (awaitedItem (s .phase)) es in
-    let a = and-eq-true-iff (stateKept s && journal) (phaseKept (s .settings) (s .entries) es (s .phase)) .0 e in
-    let b = and-eq-true-iff (stateKept s) journal .0 (a .0) in
-    record { state = state-holds s (b .0); journal = journal-holds _ _ _ _ es (b .1); phase-kept = a .1 }
+    let a = and-eq-true-iff (stateKept s (totalsOf es) && journal) (phaseKept (s .settings) (s .entries) es (s .phase)) .0 e in
+    let b = and-eq-true-iff (stateKept s (totalsOf es)) journal .0 (a .0) in
+    record { state = state-holds s (totalsOf es) (b .0); journal = journal-holds _ _ _ _ es (b .1); phase-kept = a .1 }
 
 -- the buffers are long enough
 pub record Fit (s : State) (lent : Lent) : Type 0 where
@@ -91,3 +94,23 @@ fit s lent e = go (tooShort s lent) (keepsRule2 s (entriesOf (s .entries) (lent 
           journal-room = ltb-false (length (lent .journal)) (entrySize * s .settings .limit) (h .1);
           order = keeps-rule2 s (entriesOf (s .entries) (lent .journal)) q;
         }
+
+-- the totals stored are the journal's, so they have room for the amount that is awaited
+pub bookable : (s : State) (lent : Lent) → Fit s lent → Bookable (amountIn (s .phase)) s
+unfolding sumsOf
+bookable s lent f =
+    let es = entriesOf (s .entries) (lent .journal) in
+    let n = length-entries-le (s .entries) (lent .journal) in
+    let o = f .order .state in
+    record {
+      counts = room-for-one s o;
+      totals =
+          rw (o .totals)
+          (record {
+            debit-small = omega (arith, f .order .journal .debit-most);
+            credit-small = omega (arith, f .order .journal .credit-most);
+            debits-small = omega (arith, count-bounded debitEntry es, o .few, o .settings .limit-most);
+            credits-small = omega (arith, count-bounded creditEntry es, o .few, o .settings .limit-most);
+            amount-small = omega (arith, amount-small (s .phase) (o .phase-form));
+          });
+    }

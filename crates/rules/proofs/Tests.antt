@@ -84,12 +84,12 @@ journal-kept-is l uploading item es =
     (every (λ i e. keepsResends l e) 0 es) (every (λ i e. keepsSilent l (isAt item i) e) 0 es) (distinct es) (sumsKept (totalsOf es)))
 
 -- where settings and state break a rule, rule 2 is broken; else it goes by journal and phase
-pub state-broken : (s : State) (es : List Entry) (b : Bool) → b ≡ stateKept s → not b ≡ true → false ≡ keepsRule2 s es
+pub state-broken : (s : State) (es : List Entry) (b : Bool) → b ≡ stateKept s (totalsOf es) → not b ≡ true → false ≡ keepsRule2 s es
 unfolding keepsRule2
 state-broken s es true e h = absurd (true≢false (sym h))
 state-broken s es false e h = rw (← e)
 
-pub state-right : (s : State) (es : List Entry) (b : Bool) {x y : Bool} → b ≡ stateKept s → not b ≡ false
+pub state-right : (s : State) (es : List Entry) (b : Bool) {x y : Bool} → b ≡ stateKept s (totalsOf es) → not b ≡ false
     → x ≡ journalKept (s .settings .sendings) (due (s .phase)) (inUpload (s .phase)) (awaitedItem (s .phase)) es
     → y ≡ phaseKept (s .settings) (s .entries) es (s .phase) → (x && y) ≡ keepsRule2 s es
 unfolding keepsRule2

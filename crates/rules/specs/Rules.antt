@@ -124,7 +124,7 @@ phaseKept x n es Uploading = true
 -- Rule 2 is kept.
 unfoldable pub keepsRule2 : State → List Entry → Bool
 keepsRule2 s es =
-    stateKept s
+    stateKept s (totalsOf es)
     && journalKept (s .settings .sendings) (due (s .phase)) (inUpload (s .phase)) (awaitedItem (s .phase)) es
     && phaseKept (s .settings) (s .entries) es (s .phase)
 

@@ -2,6 +2,7 @@
 use entry::Entry;
 use journal::Found;
 use journal::Query;
+use kinds::Totals;
 use message::Message;
 use state::Awaited;
 use state::Phase;
@@ -10,38 +11,47 @@ use state::Settings;
 use state::State;
 ghost use mathlib.Core.Path.{_≡_};
 ghost use Rattle.entry.specs.Form.{dueEntry};
-ghost use Rattle.journal.specs.Journal.{entriesOf};
+ghost use Rattle.journal.specs.Journal.{entriesOf, totalsOf};
 ghost use Rattle.checks.specs.Checks.{firstBroken};
 ghost use Rattle.state.specs.Calls.{lend};
 ghost use Rattle.rules.specs.Rules.{journalKept, awaitedInUpload, inUpload, itemIn, awaitedItem, unvoidedAt, originalUnvoided, requestKept, awaitedKept, phaseKept, keepsRule2, rules12, idleRules};
 
-// Rule 2, the journal of n entries: by the sendings set, whether it is the upload, and the place of the awaited item.
-pub fn journal_kept(journal: &[u8], n: u16, sendings: u8, uploading: bool, item: Found) -> bool
-    ensures { λ r. ⌜ r ≡ journalKept sendings dueEntry uploading item (entriesOf n (now (journal .entry))) ⌝ }
+// Rule 2, the journal of n entries: by its totals, the sendings set, whether it is the upload, and the place of the awaited item.
+pub fn journal_kept(
+    journal: &[u8],
+    n: u16,
+    totals: Totals,
+    sendings: u8,
+    uploading: bool,
+    item: Found,
+) -> bool
+    ensures { λ r. ⌜ (totals ≡ totalsOf (entriesOf n (now (journal .entry))) → r ≡ journalKept sendings dueEntry uploading item (entriesOf n (now (journal .entry)))) ⌝ }
 {
     journal::all_fit(journal, n, sendings, uploading, item)
         & traces::are_distinct(journal, n)
-        & state_rules::sums_kept(journal::totals_of(journal, n))
+        & state_rules::sums_kept(totals)
 }
 
 // Rule 2: whether settings, state and journal break no rule.
 pub fn keeps_rule2(s: State, journal: &[u8]) -> bool
     ensures { λ r. ⌜ r ≡ keepsRule2 s (entriesOf (s .entries) (now (journal .entry))) ⌝ }
 {
-    if !state_rules::state_kept(s) {
+    let n = s.entries;
+    let totals = journal::totals_of(journal, n);
+    if !state_rules::state_kept(s, totals) {
         return false;
     }
     let settings = s.settings;
     let phase = s.phase;
-    let n = s.entries;
     journal_kept(
         journal,
         n,
+        totals,
         settings.sendings,
         in_upload(phase),
         awaited_item(phase),
     )
-        & phase_kept(settings, journal, n, phase)
+        & phase_kept(settings, journal, n, totals, phase)
 }
 
 // The number of the first of rules 1 and 2 that is broken, 0 for none.
@@ -153,21 +163,21 @@ fn original_unvoided(q: Request, journal: &[u8], n: u16) -> bool
     true
 }
 
-fn request_kept(limit: u32, journal: &[u8], n: u16, q: Request) -> bool
-    ensures { λ r. ⌜ r ≡ requestKept limit n (entriesOf n (now (journal .entry))) q ⌝ }
+fn request_kept(limit: u32, journal: &[u8], n: u16, totals: Totals, q: Request) -> bool
+    ensures { λ r. ⌜ (totals ≡ totalsOf (entriesOf n (now (journal .entry))) → r ≡ requestKept limit n (entriesOf n (now (journal .entry))) q) ⌝ }
 {
     let trace = q.trace;
     ((n as u32) < limit)
-        & !state_rules::is_past(q.kind, q.amount, journal::totals_of(journal, n))
+        & !state_rules::is_past(q.kind, q.amount, totals)
         & original_unvoided(q, journal, n)
         & journal::find(journal, n, Query::Trace(trace)).is_nowhere()
 }
 
-fn awaited_kept(x: Settings, journal: &[u8], n: u16, a: Awaited) -> bool
-    ensures { λ r. ⌜ r ≡ awaitedKept x n (entriesOf n (now (journal .entry))) a ⌝ }
+fn awaited_kept(x: Settings, journal: &[u8], n: u16, totals: Totals, a: Awaited) -> bool
+    ensures { λ r. ⌜ (totals ≡ totalsOf (entriesOf n (now (journal .entry))) → r ≡ awaitedKept x n (entriesOf n (now (journal .entry))) a) ⌝ }
 {
     match a {
-        Awaited::Request(q) => request_kept(x.limit, journal, n, q),
+        Awaited::Request(q) => request_kept(x.limit, journal, n, totals, q),
         Awaited::Reversal(v) => (1 <= v.sendings) & (v.sendings <= x.sendings),
         Awaited::Settlement(_) => true,
         Awaited::Item(i) => journal::next_due(journal, n).is_at(i),
@@ -175,12 +185,12 @@ fn awaited_kept(x: Settings, journal: &[u8], n: u16, a: Awaited) -> bool
     }
 }
 
-fn phase_kept(x: Settings, journal: &[u8], n: u16, p: Phase) -> bool
-    ensures { λ r. ⌜ r ≡ phaseKept x n (entriesOf n (now (journal .entry))) p ⌝ }
+fn phase_kept(x: Settings, journal: &[u8], n: u16, totals: Totals, p: Phase) -> bool
+    ensures { λ r. ⌜ (totals ≡ totalsOf (entriesOf n (now (journal .entry))) → r ≡ phaseKept x n (entriesOf n (now (journal .entry))) p) ⌝ }
 {
     match p {
         Phase::Resting => true,
-        Phase::Waiting(a) => awaited_kept(x, journal, n, a),
+        Phase::Waiting(a) => awaited_kept(x, journal, n, totals, a),
         Phase::Pending(v) => v.sendings < x.sendings,
         Phase::Settling => true,
         Phase::Uploading => true,

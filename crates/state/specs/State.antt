@@ -8,6 +8,8 @@ use Rattle.numbers.specs.Limits.{mostRequests, mostEntries}
 use Rattle.numbers.specs.Numbers.{following}
 use Rattle.numbers.specs.declared.Trace.{Trace}
 use Rattle.numbers.specs.declared.Batch.{Batch}
+use Rattle.kinds.specs.Totals.{noTotals, Room}
+use Rattle.kinds.specs.declared.Totals.{Totals}
 use Rattle.state.specs.declared.Settings.{Settings}
 use Rattle.state.specs.declared.Count.{Count}
 use Rattle.state.specs.declared.Count.the-variants.{Sent, Approved, Declined, Reversed, GivenUp, Unanswered}
@@ -15,6 +17,7 @@ use Rattle.state.specs.declared.Counts.{Counts}
 use Rattle.state.specs.declared.Approval.{Approval}
 use Rattle.state.specs.declared.Chip.{Chip}
 use Rattle.state.specs.declared.Awaited.{Awaited}
+use Rattle.state.specs.declared.Awaited.the-variants as awaited
 use Rattle.state.specs.declared.Phase.{Phase}
 use Rattle.state.specs.declared.Phase.the-variants.{Resting, Waiting, Pending, Settling, Uploading}
 use Rattle.state.specs.declared.State.{State}
@@ -85,35 +88,38 @@ abbrev pub approvalIn : Chip → Approval
 approvalIn c = record { date = c .date; authorisation = c .authorisation; reference = c .reference }
 
 -- a state from its members
-abbrev stateOf : Settings → Bool → Batch → Trace → ℕ → Counts → Chip → Phase → State
-stateOf x on batch next n c chip p =
-    record { settings = x; «signed_on» = on; batch = batch; next = next; entries = n; counts = c; chip = chip; phase = p }
+abbrev stateOf : Settings → Bool → Batch → Trace → ℕ → Counts → Totals → Chip → Phase → State
+stateOf x on batch next n c t chip p =
+    record { settings = x; «signed_on» = on; batch = batch; next = next; entries = n; counts = c; totals = t; chip = chip; phase = p }
 
--- a fresh terminal is signed off, in batch 1, resting, journal empty, counts 0, next trace 1
+-- a fresh terminal is signed off, in batch 1, resting, journal empty, counts and totals 0, next trace 1
 abbrev pub fresh : Settings → State
-fresh x = stateOf x false (record { 0 = 1 }) (record { 0 = 1 }) 0 noCounts noChip Resting
+fresh x = stateOf x false (record { 0 = 1 }) (record { 0 = 1 }) 0 noCounts noTotals noChip Resting
 
 -- the state with one member changed; the settings never change
 abbrev pub signed : Bool → State → State
-signed on s = stateOf (s .settings) on (s .batch) (s .next) (s .entries) (s .counts) (s .chip) (s .phase)
+signed on s = stateOf (s .settings) on (s .batch) (s .next) (s .entries) (s .counts) (s .totals) (s .chip) (s .phase)
 
 abbrev pub inBatch : Batch → State → State
-inBatch batch s = stateOf (s .settings) (s .«signed_on») batch (s .next) (s .entries) (s .counts) (s .chip) (s .phase)
+inBatch batch s = stateOf (s .settings) (s .«signed_on») batch (s .next) (s .entries) (s .counts) (s .totals) (s .chip) (s .phase)
 
 abbrev pub withNext : Trace → State → State
-withNext next s = stateOf (s .settings) (s .«signed_on») (s .batch) next (s .entries) (s .counts) (s .chip) (s .phase)
+withNext next s = stateOf (s .settings) (s .«signed_on») (s .batch) next (s .entries) (s .counts) (s .totals) (s .chip) (s .phase)
 
 abbrev pub withEntries : ℕ → State → State
-withEntries n s = stateOf (s .settings) (s .«signed_on») (s .batch) (s .next) n (s .counts) (s .chip) (s .phase)
+withEntries n s = stateOf (s .settings) (s .«signed_on») (s .batch) (s .next) n (s .counts) (s .totals) (s .chip) (s .phase)
 
 abbrev pub withCounts : Counts → State → State
-withCounts c s = stateOf (s .settings) (s .«signed_on») (s .batch) (s .next) (s .entries) c (s .chip) (s .phase)
+withCounts c s = stateOf (s .settings) (s .«signed_on») (s .batch) (s .next) (s .entries) c (s .totals) (s .chip) (s .phase)
+
+abbrev pub withTotals : Totals → State → State
+withTotals t s = stateOf (s .settings) (s .«signed_on») (s .batch) (s .next) (s .entries) (s .counts) t (s .chip) (s .phase)
 
 abbrev pub withChip : Chip → State → State
-withChip chip s = stateOf (s .settings) (s .«signed_on») (s .batch) (s .next) (s .entries) (s .counts) chip (s .phase)
+withChip chip s = stateOf (s .settings) (s .«signed_on») (s .batch) (s .next) (s .entries) (s .counts) (s .totals) chip (s .phase)
 
 abbrev pub inPhase : Phase → State → State
-inPhase p s = stateOf (s .settings) (s .«signed_on») (s .batch) (s .next) (s .entries) (s .counts) (s .chip) p
+inPhase p s = stateOf (s .settings) (s .«signed_on») (s .batch) (s .next) (s .entries) (s .counts) (s .totals) (s .chip) p
 
 -- the next trace is the one after that taken
 abbrev pub took : Trace → State → State
@@ -123,16 +129,36 @@ took trace s = withNext (record { 0 = following (trace .0) }) s
 abbrev pub counted : Count → State → State
 counted k s = withCounts (plus k (s .counts)) s
 
--- closing empties the journal, zeroes the counts, adds 1 to the batch (999999 to 1) and signs off
+-- closing empties the journal, zeroes counts and totals, adds 1 to the batch (999999 to 1) and signs off
 abbrev pub closed : State → State
 closed s =
     inPhase Resting
-      (withCounts noCounts (withEntries 0 (inBatch (record { 0 = following (s .batch .0) }) (signed false s))))
+      (withTotals noTotals (withCounts noCounts (withEntries 0 (inBatch (record { 0 = following (s .batch .0) }) (signed false s)))))
 
 -- there is room for one more entry and for one more of each count
 pub record CountsBounded (s : State) : Type 0 where
   pub entries : s .entries ≤ mostEntries
   pub counts : CountsSmall (s .counts)
+
+-- the amount of the card request that is awaited, 0 where there is none
+abbrev pub awaitedAmount : Awaited → ℕ
+awaitedAmount (awaited.Request q) = q .amount
+awaitedAmount (awaited.Reversal v) = 0
+awaitedAmount (awaited.Settlement x) = 0
+awaitedAmount (awaited.Item i) = 0
+awaitedAmount (awaited.End x) = 0
+
+abbrev pub amountIn : Phase → ℕ
+amountIn Resting = 0
+amountIn (Waiting a) = awaitedAmount a
+amountIn (Pending v) = 0
+amountIn Settling = 0
+amountIn Uploading = 0
+
+-- and in the totals for its amount
+pub record Bookable (amount : ℕ) (s : State) : Type 0 where
+  pub counts : CountsBounded s
+  pub totals : Room (s .totals) amount
 
 -- something is awaited
 abbrev pub waits : Phase → Bool

@@ -1,10 +1,11 @@
 // The terminal's state (document 01, "State and journal").
+use kinds::Totals;
 use numbers::Batch;
 use numbers::Trace;
 ghost use mathlib.Core.Path.{_≡_};
 ghost use Prim.Native.Nat.{_+_, _≤_};
 ghost use Rattle.numbers.specs.Limits.{mostRequests};
-ghost use Rattle.state.specs.State.{usual, noChip, asSent, approvedBy, approvalIn, noCounts, CountsSmall, plus, fresh, inPhase, withCounts, withChip, withEntries, withNext, inBatch, signed, took, closed, rests, waits, pends, closes, uploads, isResting, isWaiting, isPending, isClosing, isUploading};
+ghost use Rattle.state.specs.State.{usual, noChip, asSent, approvedBy, approvalIn, noCounts, CountsSmall, plus, fresh, inPhase, withCounts, withChip, withTotals, withEntries, withNext, inBatch, signed, took, closed, rests, waits, pends, closes, uploads, isResting, isWaiting, isPending, isClosing, isUploading};
 
 // A card number keyed at the desk: its digits as a number, and how many they are.
 pub struct Card {
@@ -95,6 +96,7 @@ pub struct State {
     pub next: Trace,
     pub entries: u16,
     pub counts: Counts,
+    pub totals: Totals,
     pub chip: Chip,
     pub phase: Phase,
 }
@@ -328,6 +330,7 @@ impl State {
             next: next,
             entries: 0,
             counts: Counts::new(),
+            totals: Totals::new(),
             chip: Chip::none(),
             phase: Phase::Resting,
         }
@@ -341,6 +344,7 @@ impl State {
         let batch = self.batch;
         let next = self.next;
         let counts = self.counts;
+        let totals = self.totals;
         let chip = self.chip;
         State {
             settings: settings,
@@ -349,6 +353,7 @@ impl State {
             next: next,
             entries: self.entries,
             counts: counts,
+            totals: totals,
             chip: chip,
             phase: phase,
         }
@@ -359,6 +364,14 @@ impl State {
         ensures { λ r. ⌜ r ≡ withCounts counts self ⌝ }
     {
         self.counts = counts;
+        self
+    }
+
+    // The state with other totals.
+    pub fn with_totals(mut self, totals: Totals) -> Self
+        ensures { λ r. ⌜ r ≡ withTotals totals self ⌝ }
+    {
+        self.totals = totals;
         self
     }
 
@@ -411,7 +424,7 @@ impl State {
         let next = batch.following();
         let off = self.signed(false).in_batch(next);
         let empty = off.with_entries(0).with_counts(Counts::new());
-        empty.in_phase(Phase::Resting)
+        empty.with_totals(Totals::new()).in_phase(Phase::Resting)
     }
 
     // Whether nothing goes on.

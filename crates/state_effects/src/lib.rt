@@ -13,7 +13,7 @@ use state::State;
 ghost use mathlib.Core.Path.{_≡_};
 ghost use Prim.Native.Nat.{_+_, _<_, _≤_};
 ghost use Rattle.numbers.specs.Limits.{mostEntries, mostSendings};
-ghost use Rattle.state.specs.State.{CountsSmall, CountsBounded};
+ghost use Rattle.state.specs.State.{CountsSmall, CountsBounded, Bookable};
 ghost use Rattle.effect_definitions.specs.StateEffects.{adopts, on, requested, ended, pendingOrUnanswered, silenceOf, failed, oneMore, onReversal, onSettlement, onEnd, again, settles, ending};
 
 // Whether signing on adopts the batch number: no card request has left in this batch, and the terminal rests.
@@ -92,12 +92,15 @@ pub fn failed(s: State, v: Reversal) -> State
     s.in_phase(Phase::Pending(v))
 }
 
-// An approval: one entry more, and the request counted.
-pub fn one_more(s: State) -> State
-    ensures { λ r. ⌜ (CountsBounded s → r ≡ oneMore s) ⌝ }
+// An approval: one entry more, its amount booked, and the request counted.
+pub fn one_more(s: State, kind: u8, amount: u64) -> State
+    ensures { λ r. ⌜ (Bookable amount s → r ≡ oneMore kind amount s) ⌝ }
 {
     let n = s.entries;
-    ended(s, Count::Approved).with_entries(one_entry_more(n))
+    let totals = s.totals;
+    ended(s, Count::Approved)
+        .with_entries(one_entry_more(n))
+        .with_totals(totals.plus(kind, amount))
 }
 
 // An answer to a reversal.

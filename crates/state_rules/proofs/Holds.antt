@@ -14,16 +14,19 @@ use Rattle.field.specs.Contents.{allPrintable}
 use Rattle.digits.specs.Digits.{isPacked}
 use Rattle.elements.specs.Elements.{chipInForm}
 use Rattle.kinds.specs.Kinds.{isKind, takesOriginal, isNeverReversed, sendsChip}
+use Rattle.kinds.specs.declared.Totals.{Totals}
 use Rattle.state.specs.declared.Approval.{Approval}
 use Rattle.state.specs.declared.Card.{Card}
 use Rattle.state.specs.declared.Chip.{Chip}
+use Rattle.state.specs.declared.Awaited.the-variants as awaited
 use Rattle.state.specs.declared.Phase.{Phase}
+use Rattle.state.specs.declared.Phase.the-variants.{Resting, Waiting, Pending, Settling, Uploading}
 use Rattle.state.specs.declared.Request.{Request}
 use Rattle.state.specs.declared.Reversal.{Reversal}
 use Rattle.state.specs.declared.Settings.{Settings}
 use Rattle.state.specs.declared.State.{State}
-use Rattle.state.specs.State.{noChip, chipBytes, hasChip, asSent, approvalIn, CountsBounded, endedIn}
-use Rattle.state_rules.specs.StateRules.{settingsInForm, isCard, requestInForm, reversalInForm, phaseInForm, kindIn, requestAwaited, approvalInForm, consentKept, chipKept, stateInForm, waiting, balanced, allOf, stateClauses, stateKept}
+use Rattle.state.specs.State.{noChip, chipBytes, hasChip, asSent, approvalIn, CountsBounded, amountIn, endedIn}
+use Rattle.state_rules.specs.StateRules.{settingsInForm, isCard, requestInForm, reversalInForm, phaseInForm, kindIn, requestAwaited, approvalInForm, consentKept, chipKept, stateInForm, waiting, balanced, totalsTrue, allOf, stateClauses, stateKept}
 
 -- settings in their ranges
 pub record SettingsHold (x : Settings) : Type 0 where
@@ -108,6 +111,18 @@ pub reversal-holds : (v : Reversal) → reversalInForm v ≡ true → RequestHol
 unfolding reversalInForm
 reversal-holds v e = request-holds (v .request) (and-eq-true-iff (requestInForm (v .request)) (not (isNeverReversed (v .request .kind))) .0 e .0)
 
+-- the amount of the card request that is awaited
+pub amount-small : (p : Phase) → phaseInForm p ≡ true → amountIn p ≤ largestAmount
+amount-small Resting h = omega arith
+amount-small (Waiting (awaited.Request q)) h = request-holds q h .amount-most
+amount-small (Waiting (awaited.Reversal v)) h = omega arith
+amount-small (Waiting (awaited.Settlement x)) h = omega arith
+amount-small (Waiting (awaited.Item i)) h = omega arith
+amount-small (Waiting (awaited.End x)) h = omega arith
+amount-small (Pending v) h = omega arith
+amount-small Settling h = omega arith
+amount-small Uploading h = omega arith
+
 -- an approval: four packed digits, six and twelve printable bytes
 pub record ApprovalHolds (a : Approval) : Type 0 where
   pub date-packed : isPacked 4 (a .date) ≡ true
@@ -185,8 +200,8 @@ chip-reversed p r c k h = record { sent = λ y. rw (← k) (h .sent y); awaited 
 pub chip-stays : (p r : Phase) (c : Chip) → kindIn p ≡ kindIn r → requestAwaited p ≡ requestAwaited r → ChipHolds p c → ChipHolds r c
 chip-stays p r c k w h = record { sent = λ y. rw (← k) (h .sent y); awaited = λ y. rw (← w) (h .awaited y) }
 
--- rule 2 of settings and state, and the bounds that follow
-pub record StateHolds (s : State) : Type 0 where
+-- rule 2 of settings and state, by the totals of the journal, and the bounds that follow
+pub record StateHolds (s : State) (t : Totals) : Type 0 where
   pub settings : SettingsHold (s .settings)
   pub batch-least : 1 ≤ s .batch .0
   pub batch-most : s .batch .0 ≤ lastNumber
@@ -198,6 +213,7 @@ pub record StateHolds (s : State) : Type 0 where
   pub few : s .entries ≤ s .settings .limit
   pub balance : s .counts .sent ≡ endedIn (s .counts) + waiting (s .phase)
   pub approvals : s .counts .approved ≡ s .entries
+  pub totals : s .totals ≡ t
 
 -- the tests of a list, all true
 abbrev pub Each : List Bool → Type 0
@@ -208,10 +224,28 @@ pub each : (bs : List Bool) → allOf bs ≡ true → Each bs
 each [] e = tt
 each (b ∷ bs) e = let a = and-eq-true-iff b (allOf bs) .0 e in (a .0, each bs (a .1))
 
-pub state-holds : (s : State) → stateKept s ≡ true → StateHolds s
+-- four numbers that are the same
+pub totals-same : (stored found : Totals) → totalsTrue stored found ≡ true → stored ≡ found
+unfolding totalsTrue
+totals-same u t e =
+    let a = and-eq-true-iff (eqb (u .debit) (t .debit) && eqb (u .debits) (t .debits) && eqb (u .credit) (t .credit)) (eqb (u .credits) (t .credits)) .0 e in
+    let b = and-eq-true-iff (eqb (u .debit) (t .debit) && eqb (u .debits) (t .debits)) (eqb (u .credit) (t .credit)) .0 (a .0) in
+    let d = and-eq-true-iff (eqb (u .debit) (t .debit)) (eqb (u .debits) (t .debits)) .0 (b .0) in
+    rw (
+      ← eqb-true (u .debit) (t .debit) (d .0),
+      ← eqb-true (u .debits) (t .debits) (d .1),
+      ← eqb-true (u .credit) (t .credit) (b .1),
+      ← eqb-true (u .credits) (t .credits) (a .1),
+    )
+
+same-totals : (t : Totals) → totalsTrue t t ≡ true
+unfolding totalsTrue
+same-totals t = rw (eq-eqb (t .debit) _ refl, eq-eqb (t .debits) _ refl, eq-eqb (t .credit) _ refl, eq-eqb (t .credits) _ refl)
+
+pub state-holds : (s : State) (t : Totals) → stateKept s t ≡ true → StateHolds s t
 unfolding stateKept stateInForm balanced
-state-holds s e =
-    let a = each (stateClauses s) e in
+state-holds s t e =
+    let a = each (stateClauses s t) e in
     let c = s .counts in
     let o = and-eq-true-iff (within 1 (s .batch .0) lastNumber && within 1 (s .next .0) lastNumber && leb (c .sent) mostRequests && phaseInForm (s .phase)) (chipKept (s .phase) (s .chip)) .0 (a .1 .0) in
     let p = and-eq-true-iff (within 1 (s .batch .0) lastNumber && within 1 (s .next .0) lastNumber && leb (c .sent) mostRequests) (phaseInForm (s .phase)) .0 (o .0) in
@@ -233,10 +267,11 @@ state-holds s e =
       few = leb-true (s .entries) (s .settings .limit) (a .1 .1 .0);
       balance = eqb-true (c .sent) whole (u .0);
       approvals = eqb-true (c .approved) (s .entries) (u .1);
+      totals = totals-same (s .totals) t (a .1 .1 .1 .1 .0);
     }
 
 -- the counts are bounded by what has been sent, so each has room for one more
-pub room-for-one : (s : State) → StateHolds s → CountsBounded s
+pub room-for-one : (s : State) {t : Totals} → StateHolds s t → CountsBounded s
 room-for-one s o =
     let l = o .settings in
     record {
@@ -278,7 +313,7 @@ request-back q h =
     )
     (h .original-form)
 
-pub state-form-back : (s : State) → StateHolds s → stateInForm s ≡ true
+pub state-form-back : (s : State) {t : Totals} → StateHolds s t → stateInForm s ≡ true
 unfolding stateInForm
 state-form-back s h =
     rw (
@@ -289,13 +324,15 @@ state-form-back s h =
     )
     (chip-back (s .phase) (s .chip) (h .chip))
 
-pub state-back : (s : State) → StateHolds s → stateKept s ≡ true
+pub state-back : (s : State) (t : Totals) → StateHolds s t → stateKept s t ≡ true
 unfolding stateKept balanced
-state-back s h =
+state-back s t h =
     rw (
       settings-back (s .settings) (h .settings),
       state-form-back s h,
       le-leb (s .entries) (s .settings .limit) (h .few),
       eq-eqb _ _ (h .balance),
       eq-eqb _ _ (h .approvals),
+      h .totals,
+      same-totals t,
     )

@@ -13,13 +13,14 @@ use Rattle.digits.specs.Digits.{isPacked}
 use Rattle.field.specs.Contents.{allPrintable}
 use Rattle.elements.specs.Elements.{chipInForm}
 use Rattle.kinds.specs.Kinds.{sendsChip}
+use Rattle.kinds.specs.declared.Totals.{Totals}
 use Rattle.state.specs.State.{chipBytes}
 use Rattle.state.specs.declared.Approval.{Approval}
 use Rattle.state.specs.declared.Card.{Card}
 use Rattle.state.specs.declared.Chip.{Chip}
 use Rattle.state.specs.declared.Phase.{Phase}
 use Rattle.state.specs.declared.State.{State}
-use Rattle.state_rules.specs.StateRules.{kindIn, approvalInForm, consentKept, chipKept, stateKept, settingsInForm, isCard, stateInForm, exceeds, waiting, balanced}
+use Rattle.state_rules.specs.StateRules.{kindIn, approvalInForm, consentKept, chipKept, stateKept, settingsInForm, isCard, stateInForm, exceeds, waiting, balanced, totalsTrue}
 
 -- a card of too few or too many digits
 pub few-digits : (c : Card) → c .length < 13 → false ≡ isCard c
@@ -77,15 +78,16 @@ unfolding chipKept
 chip-some p c l k f r = rw (ne-eqb _ _ l, k, f, r)
 
 -- the tests of the state
-pub state-kept-is : (s : State) {a b c d : Bool} → a ≡ settingsInForm (s .settings) → b ≡ stateInForm s
+pub state-kept-is : (s : State) (t : Totals) {a b c d e : Bool} → a ≡ settingsInForm (s .settings) → b ≡ stateInForm s
     → c ≡ leb (s .entries) (s .settings .limit) → d ≡ balanced (s .counts) (waiting (s .phase)) (s .entries)
-    → (a && b && c && d) ≡ stateKept s
+    → e ≡ totalsTrue (s .totals) t → (a && b && c && d && e) ≡ stateKept s t
 unfolding stateKept
-state-kept-is s {a} {b} {c} {d} p q r t = rw (← p, ← q, ← r, ← t) (go a b c d)
+state-kept-is s t {a} {b} {c} {d} {e} p q r u v = rw (← p, ← q, ← r, ← u, ← v) (go a b c d e)
   where
-    go : (a b c d : Bool) → (a && b && c && d) ≡ (a && (b && (c && (d && true))))
-    go false b c d = refl
-    go true false c d = refl
-    go true true false d = refl
-    go true true true false = refl
-    go true true true true = refl
+    go : (a b c d e : Bool) → (a && b && c && d && e) ≡ (a && (b && (c && (d && (e && true)))))
+    go false b c d e = refl
+    go true false c d e = refl
+    go true true false d e = refl
+    go true true true false e = refl
+    go true true true true false = refl
+    go true true true true true = refl

@@ -143,12 +143,21 @@ balanced c undecided n =
     eqb (c .sent) (endedIn c + undecided)
     && eqb (c .approved) n
 
+-- Document 02, request 2: the stored sums are those of the journal, each number by itself.
+unfoldable pub totalsTrue : Totals → Totals → Bool
+totalsTrue stored found =
+    eqb (stored .debit) (found .debit)
+    && eqb (stored .debits) (found .debits)
+    && eqb (stored .credit) (found .credit)
+    && eqb (stored .credits) (found .credits)
+
 abbrev pub allOf : List Bool → Bool
 allOf [] = true
 allOf (b ∷ bs) = b && allOf bs
 
-abbrev pub stateClauses : State → List Bool
-stateClauses s =
+-- by the totals of the journal
+abbrev pub stateClauses : State → Totals → List Bool
+stateClauses s t =
     -- each value is in its range and form
     settingsInForm (s .settings)
     ∷ stateInForm s
@@ -156,10 +165,12 @@ stateClauses s =
     ∷ leb (s .entries) (s .settings .limit)
     -- the counts balance
     ∷ balanced (s .counts) (waiting (s .phase)) (s .entries)
+    -- the stored sums are the journal's
+    ∷ totalsTrue (s .totals) t
     ∷ []
 
-unfoldable pub stateKept : State → Bool
-stateKept s = allOf (stateClauses s)
+unfoldable pub stateKept : State → Totals → Bool
+stateKept s t = allOf (stateClauses s t)
 
 -- Sums past rule 21: the kind's debit or credit total would pass 999,999,999,999.
 abbrev pub exceeds : ℕ → ℕ → Bool

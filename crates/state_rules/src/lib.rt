@@ -13,7 +13,7 @@ use state::Settings;
 use state::State;
 ghost use mathlib.Core.Path.{_≡_};
 ghost use Prim.Native.Nat.{_≤_};
-ghost use Rattle.state_rules.specs.StateRules.{settingsInForm, isCard, requestInForm, reversalInForm, awaitedInForm, phaseInForm, awaitedKind, kindIn, awaitsRequest, requestAwaited, approvalInForm, consentKept, chipKept, stateInForm, awaitedWaiting, waiting, balanced, stateKept, exceeds, past, sumsKept};
+ghost use Rattle.state_rules.specs.StateRules.{settingsInForm, isCard, requestInForm, reversalInForm, awaitedInForm, phaseInForm, awaitedKind, kindIn, awaitsRequest, requestAwaited, approvalInForm, consentKept, chipKept, stateInForm, awaitedWaiting, waiting, balanced, totalsTrue, stateKept, exceeds, past, sumsKept};
 
 // The powers of ten from 10^13 to 10^19.
 const POWERS: [u64; 7] = [
@@ -73,9 +73,9 @@ pub fn waiting_in(p: Phase) -> u64
     }
 }
 
-// Rule 2, settings and state.
-pub fn state_kept(s: State) -> bool
-    ensures { λ r. ⌜ r ≡ stateKept s ⌝ }
+// Rule 2, settings and state, by the totals of the journal.
+pub fn state_kept(s: State, found: Totals) -> bool
+    ensures { λ r. ⌜ r ≡ stateKept s found ⌝ }
 {
     let settings = s.settings;
     let counts = s.counts;
@@ -84,6 +84,7 @@ pub fn state_kept(s: State) -> bool
         & state_in_form(s)
         & (s.entries as u32 <= settings.limit)
         & is_balanced(counts, waiting_in(phase), s.entries)
+        & totals_true(s.totals, found)
 }
 
 fn settings_in_form(x: Settings) -> bool
@@ -271,6 +272,16 @@ fn is_balanced(c: Counts, undecided: u64, n: u16) -> bool
         + c.given_up as u64
         + c.unanswered as u64;
     (c.sent as u64 == decided + undecided) & (c.approved == n as u32)
+}
+
+// Whether the stored sums are those of the journal.
+fn totals_true(stored: Totals, found: Totals) -> bool
+    ensures { λ r. ⌜ r ≡ totalsTrue stored found ⌝ }
+{
+    (stored.debit == found.debit)
+        & (stored.debits == found.debits)
+        & (stored.credit == found.credit)
+        & (stored.credits == found.credits)
 }
 
 fn exceeds(total: u64, amount: u64) -> bool

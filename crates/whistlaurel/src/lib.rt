@@ -261,17 +261,17 @@ pub extern "C" fn whistlaurel_number(image: &[u8], row: usize, number: &mut u64)
     0
 }
 
-// The debit amount and count and the credit amount and count of the entries.
+// The debit amount and count and the credit amount and count in an image.
 #[no_mangle]
-pub extern "C" fn whistlaurel_totals(image: &[u8], journal: &[u8], totals: &mut [u64; 4]) -> u8
-    ensures { λ r. ⌜ returned r (now (totals .exit)) ≡ totalsOn (now (image .entry)) (now (journal .entry)) (now (totals .entry)) ⌝ }
+pub extern "C" fn whistlaurel_totals(image: &[u8], totals: &mut [u64; 4]) -> u8
+    ensures { λ r. ⌜ returned r (now (totals .exit)) ≡ totalsOn (now (image .entry)) (now (totals .entry)) ⌝ }
 {
     let held = image::read(image);
     if !held.accepted {
         return 2;
     }
     let state = held.state;
-    let t = journal::totals_of(journal, state.entries);
+    let t = state.totals;
     *totals = [t.debit, t.debits as u64, t.credit, t.credits as u64];
     0
 }

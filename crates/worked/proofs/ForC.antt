@@ -18,5 +18,9 @@ for-c =
       short = refl;
       not-held = refl;
       totals = refl;
+      debit-amount = refl;
+      debit-count = refl;
+      credit-amount = refl;
+      credit-count = refl;
       approved = refl;
     }

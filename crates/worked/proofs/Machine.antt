@@ -15,13 +15,14 @@ use Rattle.writing.specs.Writing.{namedBytes, fieldsBytes, messageBytes}
 use Rattle.digits.specs.Packed.{packedNumber}
 use Rattle.parts.specs.Parts.{matches, copies, numberIn}
 use Rattle.kinds.specs.Kinds.{isKind, indicatorOf, processingOf, conditionOf, isDebit, isCredit, sideOf, isDue, takesOriginal, originalKind, isVoidable}
+use Rattle.kinds.specs.Totals.{booked}
 use Rattle.entry.specs.Entry.{decode, encode, allZero}
 use Rattle.entry.specs.Form.{cardInForm, inForm, keepsVoided, keepsUnmarked, keepsResends, keepsSilent}
 use Rattle.journal.specs.Journal.{debitEntry, creditEntry, sumsOf, hasTrace, isOriginal, dueWith, nextDue, absent, taken, putEntry, setByte}
 use Rattle.checks.specs.Checks.{firstBroken}
 use Rattle.state.specs.Calls.{judged}
 use Rattle.rules.specs.Rules.{tooShort, originalUnvoided, requestKept, journalKept, keepsRule2}
-use Rattle.state_rules.specs.StateRules.{settingsInForm, isCard, requestInForm, reversalInForm, approvalInForm, consentKept, chipKept, stateInForm, past, sumsKept, balanced, stateKept}
+use Rattle.state_rules.specs.StateRules.{settingsInForm, isCard, requestInForm, reversalInForm, approvalInForm, consentKept, chipKept, stateInForm, past, sumsKept, balanced, totalsTrue, stateKept}
 use Rattle.outgoing.specs.Outgoing.{requestMessage, reversalMessage}
 use Rattle.call_definitions.specs.Start.{originalOf, start}
 use Rattle.desk.specs.DeskRules.{deskInForm}
@@ -40,10 +41,10 @@ unfoldable pub machine : ℕ
 unfolding half unpack packedByte pack halfAllowed isPacked allDigits value numberOf formats indicators bit names listedAt listed
     allowed allPrintable tagSize lengthSize elementSize tagsAfter hasTag elementsAfter elementsInForm chipInForm contentsAt spanAt span
     fieldBytes fieldIn readFields readMessage namedBytes fieldsBytes messageBytes packedNumber sameBytes matches copies numberIn isKind
-    indicatorOf processingOf conditionOf isDebit isCredit sideOf isDue takesOriginal originalKind isVoidable decode encode allZero
+    indicatorOf processingOf conditionOf isDebit isCredit sideOf isDue takesOriginal originalKind isVoidable booked decode encode allZero
     within cardInForm inForm keepsVoided keepsUnmarked keepsResends keepsSilent debitEntry creditEntry sumsOf hasTrace isOriginal
     dueWith nextDue absent following taken putEntry setByte firstBroken judged tooShort settingsInForm isCard requestInForm
-    reversalInForm approvalInForm consentKept chipKept stateInForm past sumsKept balanced originalUnvoided requestKept stateKept
+    reversalInForm approvalInForm consentKept chipKept stateInForm past sumsKept balanced totalsTrue originalUnvoided requestKept stateKept
     journalKept keepsRule2 requestMessage reversalMessage deskInForm originalOf start adopts signedOn sendReversal matchesSent
     approvalHolds isAnswer goodMac endsReversal closesBatch fieldOr zeroFilled approvalOf approvedEntry pendingOrUnanswered failed
     silentMark silent noAnswer cardAgrees cardDeclines originalVoided approved granted onRequest agreed onReversal onSettlement onItem

@@ -20,10 +20,8 @@ use Rattle.kinds.specs.declared.Side.the-variants.{Debit}
 use Rattle.entry.specs.Entry.{entrySize}
 use Rattle.entry.specs.declared.Entry.{Entry}
 use Rattle.journal.specs.Journal.{entriesOf, hasTrace, absent, totalsOf, sumsOf, putEntry}
-use Rattle.kinds.specs.declared.Totals.{Totals}
-use Rattle.journal.specs.Sums.{withEntry}
 use Rattle.journal.proofs.Entries.{put-appends}
-use Rattle.journal.proofs.Sums.{totals-last, with-debit}
+use Rattle.kinds.proofs.Booked.{booked-debit}
 use Rattle.journal.proofs.Traces.{absent-last}
 use Rattle.traces.proofs.Absent.{absent-none}
 use Rattle.state.specs.declared.State.{State}
@@ -32,7 +30,7 @@ use Rattle.state.specs.State.{noChip, fresh}
 use Rattle.checks.specs.Checks.{firstBroken}
 use Rattle.state.specs.Calls.{Lent, lend, withJournal, Result, judged, quiet, sends}
 use Rattle.rules.specs.Rules.{tooShort, keepsRule2, journalKept}
-use Rattle.state_rules.specs.StateRules.{settingsInForm, consentKept, chipKept, stateInForm, past, sumsKept, balanced, stateKept}
+use Rattle.state_rules.specs.StateRules.{settingsInForm, consentKept, chipKept, stateInForm, past, sumsKept, balanced, totalsTrue, stateKept}
 use Rattle.rules.proofs.InOrder.{Fit}
 use Rattle.outgoing.specs.Outgoing.{requestMessage}
 use Rattle.call_definitions.specs.SignOn.{signedOn}
@@ -58,33 +56,28 @@ entry n = approvedEntry (asked 9999999999 (suc n)) (approvalOf (answered (suc n)
 
 taken-in : (n : ℕ) (lent : Lent) → Fit (requested (at n) noChip (asked 9999999999 (suc n))) lent
     → answer (approvalBytes (suc n)) true (requested (at n) noChip (asked 9999999999 (suc n))) lent
-    ≡ quiet (oneMore (requested (at n) noChip (asked 9999999999 (suc n)))) (withJournal (putEntry n (entry n) (lent .journal)) lent)
-unfolding answer judged firstBroken answeredBy onRequest granted approved originalVoided takesOriginal
+    ≡ quiet (oneMore 22 9999999999 (requested (at n) noChip (asked 9999999999 (suc n)))) (withJournal (putEntry n (entry n) (lent .journal)) lent)
+unfolding answer judged firstBroken answeredBy onRequest granted approved approvedEntry originalVoided takesOriginal
 taken-in n lent fit =
     let r = fit-ready (requested (at n) noChip (asked 9999999999 (suc n))) lent fit in
     rw (r .long, r .order, reads (suc n) .outcome, is-answer (suc n), approving (suc n), good-mac (suc n))
-
-one-more : (n : ℕ) → n < 999998 → oneMore (requested (at n) noChip (asked 9999999999 (suc n))) ≡ at (suc n)
-unfolding following
-one-more n h = rw (lt-ltb (suc n) 999999 (omega arith), add-one n, add-one (suc n))
-
--- what the journal holds after n of them: no later trace, and n times the amount in debit
-record Sold (n : ℕ) (j : List ℕ) : Type 0 where
-  free : (x : ℕ) → n < x → absent x (entriesOf n j) ≡ true
-  sums : totalsOf (entriesOf n j) ≡ record { debit = n * 9999999999; debits = n; credit = 0; credits = 0 }
-
-none-sold : (j : List ℕ) → Sold 0 j
-unfolding sumsOf
-none-sold j = record { free = λ x h. absent-none x; sums = refl }
 
 is-sale : sideOf 22 ≡ Debit
 unfolding sideOf isDebit
 is-sale = refl
 
-entry-debit : (n : ℕ) (t : Totals)
-    → withEntry t (entry n) ≡ record { debit = t .debit + 9999999999; debits = t .debits + 1; credit = t .credit; credits = t .credits }
-unfolding approvedEntry
-entry-debit n t = with-debit t (entry n) is-sale
+one-more : (n : ℕ) → n < 999998 → oneMore 22 9999999999 (requested (at n) noChip (asked 9999999999 (suc n))) ≡ at (suc n)
+unfolding following
+one-more n h =
+    let d : n * 9999999999 + 9999999999 ≡ suc n * 9999999999 = omega arith in
+    rw (booked-debit 22 9999999999 (at n .totals) is-sale, lt-ltb (suc n) 999999 (omega arith), d, add-one n, add-one (suc n))
+
+-- the journal holds no later trace after n of them
+abbrev Sold : ℕ → List ℕ → Type 0
+Sold n j = (x : ℕ) → n < x → absent x (entriesOf n j) ≡ true
+
+none-sold : (j : List ℕ) → Sold 0 j
+none-sold j x h = absent-none x
 
 other-trace : (n x : ℕ) → suc n < x → not (hasTrace x (entry n)) ≡ true
 unfolding hasTrace approvedEntry
@@ -95,22 +88,18 @@ one-sold n j small room s =
     let e : entriesOf (suc n) (putEntry n (entry n) j) ≡ entriesOf n j ++ (entry n ∷ []) =
     put-appends n (entry n) j (shaped (asked 9999999999 (suc n)) (approvalOf (answered (suc n))) (approval-holds (suc n)))
     (entry-form (suc n) (omega arith) (omega arith)) (omega arith) in
-    let d : n * 9999999999 + 9999999999 ≡ suc n * 9999999999 = omega arith in
-    record {
-      free = λ x h. rw (e, absent-last x (entriesOf n j) (entry n), s .free x (omega arith), other-trace n x h);
-      sums = rw (e, totals-last (entriesOf n j) (entry n), s .sums, entry-debit n, d, add-one n);
-    }
+    λ x h. rw (e, absent-last x (entriesOf n j) (entry n), s x (omega arith), other-trace n x h)
 
 -- rule 21 passes
-not-past : (amount n : ℕ) (j : List ℕ) → Sold n j → n * 9999999999 + amount ≤ 999999999999
-    → past 22 amount (totalsOf (entriesOf n j)) ≡ false
+not-past : (amount n : ℕ) (lent : Lent) → Fit (at n) lent → n * 9999999999 + amount ≤ 999999999999
+    → past 22 amount (totalsOf (entriesOf n (lent .journal))) ≡ false
 unfolding past
-not-past amount n j s h = rw (s .sums, is-sale) (le-ltb 999999999999 (n * 9999999999 + amount) h)
+not-past amount n lent f h = rw (← f .order .state .totals, is-sale) (le-ltb 999999999999 (n * 9999999999 + amount) h)
 
-is-past : (amount n : ℕ) (j : List ℕ) → Sold n j → 999999999999 < n * 9999999999 + amount
-    → past 22 amount (totalsOf (entriesOf n j)) ≡ true
+is-past : (amount n : ℕ) (lent : Lent) → Fit (at n) lent → 999999999999 < n * 9999999999 + amount
+    → past 22 amount (totalsOf (entriesOf n (lent .journal))) ≡ true
 unfolding past
-is-past amount n j s h = rw (s .sums, is-sale) (lt-ltb 999999999999 (n * 9999999999 + amount) h)
+is-past amount n lent f h = rw (← f .order .state .totals, is-sale) (lt-ltb 999999999999 (n * 9999999999 + amount) h)
 
 -- what the terminal is after n of them
 record After (n : ℕ) (s : State) (lent : Lent) : Type 0 where
@@ -130,12 +119,12 @@ one-after : (n : ℕ) (lent : Lent) → n < 100 → Fit (at n) lent → Sold n (
     → Holds (suc n) (run (sale 9999999999 ∷ approval 22 9999999999 (suc n) ∷ []) (quiet (at n) lent))
 one-after n lent small fit sold =
     let q = asked 9999999999 (suc n) in
-    let g = goes 9999999999 n lent fit (omega arith) largest-form (sold .free (suc n) (omega arith))
-    (not-past 9999999999 n (lent .journal) sold (omega arith)) in
+    let g = goes 9999999999 n lent fit (omega arith) largest-form (sold (suc n) (omega arith))
+    (not-past 9999999999 n lent fit (omega arith)) in
     let r = sends (saleBytes 9999999999 (suc n)) (requested (at n) noChip q) lent in
     let f : Fits r = rw g at (start-fits (desk 9999999999) [] (at n) lent fit) in
     let a = taken-in n (r .lent) f in
-    let h : Fits (quiet (oneMore (requested (at n) noChip q)) (withJournal (putEntry n (entry n) (lent .journal)) (r .lent))) =
+    let h : Fits (quiet (oneMore 22 9999999999 (requested (at n) noChip q)) (withJournal (putEntry n (entry n) (lent .journal)) (r .lent))) =
     rw a at (answer-fits (approvalBytes (suc n)) true (requested (at n) noChip q) (r .lent) f) in
     rw (g, a) (record { state = one-more n (omega arith); fits = h; sold = one-sold n (lent .journal) small (fit .journal-room) sold })
 
@@ -151,7 +140,7 @@ all-after (suc n) r h b =
 
 -- a fresh terminal that has signed on
 fresh-order : keepsRule2 (fresh (settings 300)) [] ≡ true
-unfolding keepsRule2 stateKept journalKept settingsInForm consentKept chipKept stateInForm within allPrintable sumsKept sumsOf balanced
+unfolding keepsRule2 stateKept journalKept settingsInForm consentKept chipKept stateInForm within allPrintable sumsKept sumsOf balanced totalsTrue
 fresh-order = refl
 
 one-number : within 1 1 999999 ≡ true
@@ -191,19 +180,19 @@ amount-form = (refl, refl)
 
 one-goes : (s : State) (lent : Lent) → After 100 s lent → run (sale 99 ∷ []) (quiet s lent) .outcome ≡ Send 76
 one-goes s lent h =
+    let f : Fit (at 100) lent = rw (h .state) at (h .fits) in
     rw (
       h .state,
-      goes 99 100 lent (rw (h .state) at (h .fits)) (omega arith) (amount-form .0) (h .sold .free 101 (omega arith))
-          (not-past 99 100 (lent .journal) (h .sold) (omega arith)),
+      goes 99 100 lent f (omega arith) (amount-form .0) (h .sold 101 (omega arith)) (not-past 99 100 lent f (omega arith)),
       sale-length,
     )
 
 one-is-refused : (s : State) (lent : Lent) → After 100 s lent → run (sale 100 ∷ []) (quiet s lent) .outcome ≡ Refused 21
 one-is-refused s lent h =
+    let f : Fit (at 100) lent = rw (h .state) at (h .fits) in
     rw (
       h .state,
-      goes-not 100 100 lent (rw (h .state) at (h .fits)) (omega arith) (amount-form .1)
-          (is-past 100 100 (lent .journal) (h .sold) (omega arith)),
+      goes-not 100 100 lent f (omega arith) (amount-form .1) (is-past 100 100 lent f (omega arith)),
     )
 
 pub i : run (sale 99 ∷ []) hundred .outcome ≡ Send 76

@@ -2,7 +2,7 @@
 use mathlib.Core.Path.{_≡_, refl}
 use mathlib.Core.List.{List, []}
 use mathlib.Core.Bool.{true, false}
-use Prim.Native.Nat.{ℕ, zero, suc, _<_}
+use Prim.Native.Nat.{ℕ, zero, suc, _*_, _<_}
 use native.Mathlib.Omega.{arith}
 use lib.ListN.{length, replicate}
 use borrow.Author.Tests.{lt-leb}
@@ -38,6 +38,7 @@ at n =
       next = record { 0 = suc n };
       entries = n;
       counts = salesApproved n;
+      totals = record { debit = n * 9999999999; debits = n; credit = 0; credits = 0 };
       chip = noChip;
       phase = Resting;
     }

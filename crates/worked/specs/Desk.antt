@@ -8,7 +8,6 @@ use Rattle.message.specs.Message.{largest}
 use Rattle.message.specs.Build.{Item, digits, bytes, messageOf}
 use Rattle.writing.specs.Writing.{messageBytes}
 use Rattle.entry.specs.Entry.{entrySize}
-use Rattle.journal.specs.Journal.{entriesOf, totalsOf}
 use Rattle.kinds.specs.declared.Totals.{Totals}
 use Rattle.state.specs.State.{fresh}
 use Rattle.state.specs.Calls.{lend, Result, quiet}
@@ -65,6 +64,6 @@ approval kind amount trace =
 abbrev pub toReversal : ℕ → ℕ → ℕ → Event
 toReversal trace a b = reply 0x0410 22 trace a b []
 
--- debit and credit of the journal
+-- the stored sums
 abbrev pub totals : Result → Totals
-totals r = totalsOf (entriesOf (r .state .entries) (r .lent .journal))
+totals r = r .state .totals

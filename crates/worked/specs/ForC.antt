@@ -1,4 +1,4 @@
--- The functions for C on the worked cases: fields of the sale that leaves, and the totals and the batch after its approval.
+-- The functions for C on the worked cases: fields of the sale that leaves, and the totals and counts after its approval.
 use mathlib.Core.Path.{_≡_}
 use mathlib.Core.List.{[], _∷_}
 use mathlib.Core.Bool.{false}
@@ -8,7 +8,7 @@ use Rattle.call_definitions.specs.Events.{run, starts}
 use Rattle.image_definitions.specs.Image.{image}
 use Rattle.interface_definitions.specs.Interface.{deskOf, settingsOf, returned, held, fieldAt, numberAt, totalsOn}
 use Rattle.worked.specs.Desk.{settings, opened, sale, approval}
-use Rattle.worked.specs.Worked.{sent}
+use Rattle.worked.specs.Worked.{sent, afterF}
 
 -- a sale of 12,000 fen, approved
 abbrev pub sold : Result
@@ -26,6 +26,11 @@ pub record ForC : Type 0 where
   -- a sale holds no field 39
   pub not-held : fieldAt sent 39 (held 7 (replicate 2 0xEE)) ≡ returned 254 (held 7 (replicate 2 0xEE))
   -- debit 12,000 in 1, credit 0 in 0
-  pub totals : totalsOn (image (sold .state)) (sold .lent .journal) [] ≡ returned 0 (12000 ∷ 1 ∷ 0 ∷ 0 ∷ [])
+  pub totals : totalsOn (image (sold .state)) [] ≡ returned 0 (12000 ∷ 1 ∷ 0 ∷ 0 ∷ [])
+  -- after case f, by their rows
+  pub debit-amount : numberAt (image (afterF .state)) 17 7 ≡ returned 0 12000
+  pub debit-count : numberAt (image (afterF .state)) 18 7 ≡ returned 0 1
+  pub credit-amount : numberAt (image (afterF .state)) 19 7 ≡ returned 0 12000
+  pub credit-count : numberAt (image (afterF .state)) 20 7 ≡ returned 0 1
   -- one request approved, by its row
   pub approved : numberAt (image (sold .state)) 12 7 ≡ returned 0 1

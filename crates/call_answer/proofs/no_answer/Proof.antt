@@ -2,7 +2,7 @@
 use mathlib.Core.List.{[]}
 use borrow.Author.Needs.{needs}
 use Rattle.state.proofs.Phases.{not-waiting}
-use Rattle.call_definitions.proofs.Quietly.{bounded}
+use Rattle.call_definitions.proofs.Quietly.{roomy}
 use Rattle.call_answer.proofs.Steps.{no-answer-first-refusal, no-answer-unawaited, no-answer-changes}
 use Rattle.call_answer.proofs.no_answer.Statement.{statement}
 use Rattle.call_answer.proofs.no_answer.Tie as tie
@@ -62,7 +62,7 @@ returns-3 c =
     let at-if1 = c .before .before .before .before .before .before .before .before .if1 in
     let at-phase = c .before .before .before .before .before .before .phase in
     let at-silent = c .before .before .before .silent in
-    no-answer-changes _ _ _ (at-first-refusal .ensures) _ _ _ _ (at-if1 .left) (at-phase .given .1) (at-silent .ensures (bounded _ _ [] _ (at-first-refusal .ensures) (at-if1 .left)))
+    no-answer-changes _ _ _ (at-first-refusal .ensures) _ _ _ _ (at-if1 .left) (at-phase .given .1) (at-silent .ensures (roomy _ _ [] _ (at-first-refusal .ensures) (at-if1 .left) .counts))
     (c .quiet .ensures)
 
 pub no-answer-spec : {M : Type 1} → statement M

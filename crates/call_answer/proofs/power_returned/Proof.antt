@@ -1,7 +1,7 @@
 -- `call_answer::power_returned` meets its contract.
 use mathlib.Core.List.{[]}
 use borrow.Author.Needs.{needs}
-use Rattle.call_definitions.proofs.Quietly.{bounded}
+use Rattle.call_definitions.proofs.Quietly.{roomy}
 use Rattle.call_answer.proofs.Steps.{power-first-refusal, power-changes}
 use Rattle.call_answer.proofs.power_returned.Statement.{statement}
 use Rattle.call_answer.proofs.power_returned.Tie as tie
@@ -43,7 +43,8 @@ returns-2 c =
     let at-first-refusal = c .before .before .before .before .before .before .before .first-refusal in
     let at-if1 = c .before .before .before .before .before .before .if1 in
     let at-silent-in = c .before .before .before .before .silent-in in
-    power-changes _ _ _ (at-first-refusal .ensures) _ _ _ _ (at-if1 .left) (at-silent-in .ensures (bounded _ _ [] _ (at-first-refusal .ensures) (at-if1 .left))) (c .before .signed .ensures)
+    power-changes _ _ _ (at-first-refusal .ensures) _ _ _ _ (at-if1 .left)
+    (at-silent-in .ensures (roomy _ _ [] _ (at-first-refusal .ensures) (at-if1 .left) .counts)) (c .before .signed .ensures)
     (c .quiet .ensures)
 
 pub power-returned-spec : {M : Type 1} → statement M

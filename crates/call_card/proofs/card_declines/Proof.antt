@@ -41,7 +41,7 @@ returns-2 c =
     let at-refusal = c .before .before .before .before .before .before .refusal in
     let at-if1 = c .before .before .before .before .before .if1 in
     let at-silent-in = c .before .before .before .silent-in in
-    word-taken _ _ _ (at-refusal .ensures) _ _ _ _ (at-if1 .left) (at-silent-in .ensures) (c .quiet .ensures)
+    word-taken _ _ _ (at-refusal .ensures) _ _ _ _ (at-if1 .left) (λ room. at-silent-in .ensures (room .counts)) (c .quiet .ensures)
 
 pub card-declines-spec : {M : Type 1} → statement M
 card-declines-spec =

@@ -27,9 +27,6 @@ returns c =
 take-requires : tie.Need-take-requires
 take-requires c κs = search needs
 
-totals-of-requires : tie.Need-totals-of-requires
-totals-of-requires c κs = search needs
-
 settlement-message-requires : tie.Need-settlement-message-requires
 settlement-message-requires c κs = search needs
 
@@ -51,22 +48,21 @@ same-length-4 c = search needs
 returns-2 : tie.Need-returns-2
 returns-2 c =
     let at-args-s = c .before .before .before .before .before .before .before .before .before .before .before .before .before .before
-    .before .before .before .before .before .before .args .s in
+    .before .before .before .before .before .args .s in
     let at-refusal-ensures = c .before .before .before .before .before .before .before .before .before .before .before .before .before
-    .before .before .refusal .ensures in
-    let at-if1-left = c .before .before .before .before .before .before .before .before .before .before .before .before .before .before
-    .if1 .left in
-    let at-take-ensures = c .before .before .before .before .before .before .before .before .before .take .ensures in
-    let at-totals-of-ensures = c .before .before .before .before .before .before .before .totals-of .ensures in
+    .before .refusal .ensures in
+    let at-if1-left = c .before .before .before .before .before .before .before .before .before .before .before .before .before .if1
+    .left in
+    let at-take-ensures = c .before .before .before .before .before .before .before .before .take .ensures in
     let at-settlement-message-ensures = c .before .before .before .before .before .before .settlement-message .ensures in
     let at-write-outgoing-ensures = c .before .before .before .before .write-outgoing .ensures in
     let g = c .before .before .before .before .before .before .before .before .before .before .before .before .before .before .before
-    .before .before .before .before .before .good .0 .1 .1 .0 in
+    .before .before .before .before .good .0 .1 .1 .0 in
     let l : length (at-args-s .settings .terminal) ≡ 8 = search needs in
     let k : length (at-args-s .settings .merchant) ≡ 15 = search needs in
     let at-settles = c .before .settles in
     rw (c .sends .ensures)
-    (is-sent at-args-s _ _ at-refusal-ensures at-if1-left l k _ _ _ _ _ _ at-take-ensures at-totals-of-ensures
+    (is-sent at-args-s _ _ at-refusal-ensures at-if1-left l k _ _ _ _ _ at-take-ensures
     at-settlement-message-ensures (at-write-outgoing-ensures .0) (at-write-outgoing-ensures .1) (at-settles .ensures))
 
 pub settle-spec : {M : Type 1} → statement M
@@ -79,7 +75,6 @@ settle-spec =
     same-length-2
     returns
     take-requires
-    totals-of-requires
     settlement-message-requires
     write-outgoing-requires
     settles-requires

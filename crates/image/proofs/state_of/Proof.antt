@@ -29,6 +29,18 @@ part-counts-of-end c = search needs
 counts-of-requires : tie.Need-counts-of-requires
 counts-of-requires c κs = search needs
 
+sub-totals-in : tie.Need-sub-totals-in
+sub-totals-in c = search needs
+
+part-totals-in-start : tie.Need-part-totals-in-start
+part-totals-in-start c = search needs
+
+part-totals-in-end : tie.Need-part-totals-in-end
+part-totals-in-end c = search needs
+
+totals-in-requires : tie.Need-totals-in-requires
+totals-in-requires c κs = search needs
+
 sub-phase-of : tie.Need-sub-phase-of
 sub-phase-of c = search needs
 
@@ -65,8 +77,8 @@ array-read-low32-2 c = lit< tt
 low32-requires-2 : tie.Need-low32-requires-2
 low32-requires-2 c κs = tt
 
-array-read-t30 : tie.Need-array-read-t30
-array-read-t30 c = lit< tt
+array-read-t35 : tie.Need-array-read-t35
+array-read-t35 c = lit< tt
 
 array-read-low16 : tie.Need-array-read-low16
 array-read-low16 c = lit< tt
@@ -77,14 +89,17 @@ low16-requires c κs = tt
 returns : tie.Need-returns
 unfolding stateOf
 returns c =
-    let at-settings-of = c .before .before .before .before .before .before .before .before .before .before .before .before .settings-of in
-    let at-counts-of = c .before .before .before .before .before .before .before .before .before .counts-of in
+    let at-settings-of = c .before .before .before .before .before .before .before .before .before .before .before .before .before .before
+    .before .settings-of in
+    let at-counts-of = c .before .before .before .before .before .before .before .before .before .before .before .before .counts-of in
+    let at-totals-in = c .before .before .before .before .before .before .before .before .before .totals-in in
     let at-phase-of = c .before .before .before .before .before .before .phase-of in
     let at-chip-in = c .before .before .before .chip-in in
     let at-low32 = c .before .before .low32 in
     rw (
       at-settings-of .ensures,
       at-counts-of .ensures,
+      at-totals-in .ensures,
       at-phase-of .ensures,
       at-chip-in .ensures,
       at-low32 .ensures,
@@ -104,6 +119,10 @@ state-of-spec =
     part-counts-of-start
     part-counts-of-end
     counts-of-requires
+    sub-totals-in
+    part-totals-in-start
+    part-totals-in-end
+    totals-in-requires
     sub-phase-of
     part-phase-of-start
     part-phase-of-end
@@ -116,7 +135,7 @@ state-of-spec =
     low32-requires
     array-read-low32-2
     low32-requires-2
-    array-read-t30
+    array-read-t35
     array-read-low16
     low16-requires
     returns)

@@ -1,6 +1,7 @@
 -- `journal_effects::answered` meets its contract.
 use borrow.Author.Needs.{needs}
 use Rattle.effect_definitions.specs.JournalEffects.{answered}
+use Rattle.journal_effects.proofs.Booking.{of-request}
 use Rattle.journal_effects.proofs.answered.Statement.{statement}
 use Rattle.journal_effects.proofs.answered.Tie as tie
 
@@ -45,13 +46,13 @@ unfolding answered
 returns c room =
     let at-a = c .before .before .before .before .before .a in
     let at-on-request = c .before .before .on-request in
-    rw (at-a .given .1) (at-on-request .ensures room)
+    rw (at-a .given .1) (at-on-request .ensures (of-request (at-a .given .1) room))
 
 returns-2 : tie.Need-returns-2
 unfolding answered
 returns-2 c room =
     let at-a2 = c .before .before .a2 in
-    rw (c .on-reversal .ensures room, at-a2 .given .1)
+    rw (c .on-reversal .ensures (room .counts), at-a2 .given .1)
 
 returns-3 : tie.Need-returns-3
 unfolding answered

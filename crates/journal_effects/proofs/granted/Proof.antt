@@ -2,6 +2,7 @@
 use borrow.Author.Needs.{needs}
 use borrow.Author.Tests.{eq-eqb, ne-eqb}
 use Rattle.effect_definitions.specs.JournalEffects.{granted}
+use Rattle.journal_effects.proofs.Booking.{of-entry}
 use Rattle.journal_effects.proofs.granted.Statement.{statement}
 use Rattle.journal_effects.proofs.granted.Tie as tie
 
@@ -28,7 +29,7 @@ returns c room =
       eq-eqb _ _ (at-if1 .taken),
       ← at-approval-of .ensures,
       ← at-approved-entry .ensures,
-    ) (at-approved .ensures room)
+    ) (at-approved .ensures (of-entry _ _ (at-approved-entry .ensures) room))
 
 approved-by-requires : tie.Need-approved-by-requires
 approved-by-requires c κs = search needs

@@ -40,7 +40,7 @@ returns-2 c room =
     let at-approves = c .before .before .before .before .approves in
     let at-if1 = c .before .before .before .if1 in
     let at-is-good = c .before .before .is-good in
-    rw (c .pending-or-unanswered .ensures room, ← at-approves .ensures, at-if1 .taken, ← at-is-good .ensures, c .before .if2 .left)
+    rw (c .pending-or-unanswered .ensures (room .counts), ← at-approves .ensures, at-if1 .taken, ← at-is-good .ensures, c .before .if2 .left)
 
 ended-requires : tie.Need-ended-requires
 ended-requires c κs = search needs
@@ -49,7 +49,7 @@ returns-3 : tie.Need-returns-3
 unfolding onRequest
 returns-3 c room =
     let at-approves = c .before .before .approves in
-    rw (c .ended .ensures room, ← at-approves .ensures, c .before .if1 .left)
+    rw (c .ended .ensures (room .counts), ← at-approves .ensures, c .before .if1 .left)
 
 pub on-request-spec : {M : Type 1} → statement M
 on-request-spec =

@@ -36,28 +36,28 @@ is-nowhere-requires c κs = search needs
 
 returns : tie.Need-returns
 unfolding within
-returns c =
+returns c found =
     let at-a = c .before .before .a in
-    rw (c .request-kept .ensures, at-a .given .1)
+    rw (c .request-kept .ensures found, at-a .given .1)
 
 returns-2 : tie.Need-returns-2
 unfolding within
-returns-2 c =
+returns-2 c found =
     let at-a2 = c .before .before .before .before .a2 in
     rw (at-a2 .given .1)
 
 returns-3 : tie.Need-returns-3
-returns-3 c = search needs
+returns-3 c found = rw (c .enum-told .given .1)
 
 returns-4 : tie.Need-returns-4
 unfolding within
-returns-4 c =
+returns-4 c found =
     let at-a3 = c .before .before .before .a3 in
     rw (c .is-at .ensures, c .before .next-due .ensures, at-a3 .given .1)
 
 returns-5 : tie.Need-returns-5
 unfolding within
-returns-5 c =
+returns-5 c found =
     let at-enum-told2 = c .before .before .enum-told2 in
     rw (c .is-nowhere .ensures, c .before .next-due2 .ensures, at-enum-told2 .given .1)
 

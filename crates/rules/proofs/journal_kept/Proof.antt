@@ -10,18 +10,15 @@ all-fit-requires c κs = search needs
 are-distinct-requires : tie.Need-are-distinct-requires
 are-distinct-requires c κs = search needs
 
-totals-of-requires : tie.Need-totals-of-requires
-totals-of-requires c κs = search needs
-
 sums-kept-requires : tie.Need-sums-kept-requires
 sums-kept-requires c κs = search needs
 
 returns : tie.Need-returns
-returns c =
-    rw (c .sums-kept .ensures, c .before .totals-of .ensures, c .before .before .are-distinct .ensures, c .before .before .before .all-fit .ensures)
+returns c found =
+    rw (c .sums-kept .ensures, found, c .before .are-distinct .ensures, c .before .before .all-fit .ensures)
     (journal-kept-is _ _ _ _)
 
 pub journal-kept-spec : {M : Type 1} → statement M
 journal-kept-spec =
     tie.close
-    (tie.spec all-fit-requires are-distinct-requires totals-of-requires sums-kept-requires returns)
+    (tie.spec all-fit-requires are-distinct-requires sums-kept-requires returns)

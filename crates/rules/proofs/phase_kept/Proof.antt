@@ -22,23 +22,23 @@ enum-told-3 : tie.Need-enum-told-3
 enum-told-3 c = search needs
 
 returns : tie.Need-returns
-returns c = search needs
+returns c found = search needs
 
 returns-2 : tie.Need-returns-2
-returns-2 c =
+returns-2 c found =
     let at-p = c .before .before .p in
-    rw (c .awaited-kept .ensures, at-p .given .1)
+    rw (c .awaited-kept .ensures found, at-p .given .1)
 
 returns-3 : tie.Need-returns-3
-returns-3 c =
+returns-3 c found =
     let at-p2 = c .before .before .before .p2 in
     rw (at-p2 .given .1)
 
 returns-4 : tie.Need-returns-4
-returns-4 c = search needs
+returns-4 c found = search needs
 
 returns-5 : tie.Need-returns-5
-returns-5 c = search needs
+returns-5 c found = search needs
 
 pub phase-kept-spec : {M : Type 1} → statement M
 phase-kept-spec =

@@ -4,9 +4,6 @@ use Rattle.rules.proofs.Tests.{request-kept-is}
 use Rattle.rules.proofs.request_kept.Statement.{statement}
 use Rattle.rules.proofs.request_kept.Tie as tie
 
-totals-of-requires : tie.Need-totals-of-requires
-totals-of-requires c κs = search needs
-
 is-past-requires : tie.Need-is-past-requires
 is-past-requires c κs = search needs
 
@@ -20,19 +17,17 @@ is-nowhere-requires : tie.Need-is-nowhere-requires
 is-nowhere-requires c κs = search needs
 
 returns : tie.Need-returns
-returns c =
-    let at-args = c .before .before .before .before .before .before .before .args in
-    let at-totals-of = c .before .before .before .before .totals-of in
+returns c found =
+    let at-args = c .before .before .before .before .before .before .args in
     let at-is-past = c .before .before .before .is-past in
     let at-original-unvoided = c .before .before .original-unvoided in
-    rw (c .is-nowhere .ensures, c .before .find .ensures, at-original-unvoided .ensures, at-is-past .ensures, at-totals-of .ensures)
+    rw (c .is-nowhere .ensures, c .before .find .ensures, at-original-unvoided .ensures, at-is-past .ensures, found)
     (request-kept-is _ _ _ (at-args .q))
 
 pub request-kept-spec : {M : Type 1} → statement M
 request-kept-spec =
     tie.close
     (tie.spec
-    totals-of-requires
     is-past-requires
     original-unvoided-requires
     find-requires

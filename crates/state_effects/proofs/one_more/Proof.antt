@@ -12,10 +12,21 @@ one-entry-more-requires c κs = search needs
 with-entries-requires : tie.Need-with-entries-requires
 with-entries-requires c κs = search needs
 
+plus-requires : tie.Need-plus-requires
+plus-requires c κs = search needs
+
+with-totals-requires : tie.Need-with-totals-requires
+with-totals-requires c κs = search needs
+
 returns : tie.Need-returns
 returns c room =
-    let at-ended = c .before .before .ended in
-    rw (c .with-entries .ensures, c .before .one-entry-more .ensures (room .entries), at-ended .ensures room)
+    rw (
+      c .with-totals .ensures,
+      c .before .plus .ensures (room .totals),
+      c .before .before .with-entries .ensures,
+      c .before .before .before .one-entry-more .ensures (room .counts .entries),
+      c .before .before .before .before .ended .ensures (room .counts),
+    )
 
 pub one-more-spec : {M : Type 1} → statement M
-one-more-spec = tie.close (tie.spec ended-requires one-entry-more-requires with-entries-requires returns)
+one-more-spec = tie.close (tie.spec ended-requires one-entry-more-requires with-entries-requires plus-requires with-totals-requires returns)

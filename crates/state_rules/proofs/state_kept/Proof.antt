@@ -1,5 +1,5 @@
 -- `state_rules::state_kept` meets its contract.
-use mathlib.Core.Path.{_≡_, refl, sym, ap, _∙_}
+use mathlib.Core.Path.{refl}
 use borrow.Author.Needs.{needs}
 use Rattle.state_rules.proofs.Tests.{state-kept-is}
 use Rattle.state_rules.proofs.state_kept.Statement.{statement}
@@ -20,10 +20,15 @@ waiting-in-requires c κs = search needs
 is-balanced-requires : tie.Need-is-balanced-requires
 is-balanced-requires c κs = search needs
 
+totals-true-requires : tie.Need-totals-true-requires
+totals-true-requires c κs = search needs
+
 returns : tie.Need-returns
 returns c =
-    state-kept-is (c .before .before .before .before .before .before .before .before .args .s) (c .before .before .before .before .before .settings-in-form .ensures) (c .before .before .before .before .state-in-form .ensures) refl
-    (rw (c .before .waiting-in .ensures .0) at (c .is-balanced .ensures))
+    state-kept-is (c .before .before .before .before .before .before .before .before .before .args .s) _
+    (c .before .before .before .before .before .before .settings-in-form .ensures)
+    (c .before .before .before .before .before .state-in-form .ensures) refl
+    (rw (c .before .before .waiting-in .ensures .0) at (c .before .is-balanced .ensures)) (c .totals-true .ensures)
 
 pub state-kept-spec : {M : Type 1} → statement M
 state-kept-spec =
@@ -34,4 +39,5 @@ state-kept-spec =
     cast-result
     waiting-in-requires
     is-balanced-requires
+    totals-true-requires
     returns)

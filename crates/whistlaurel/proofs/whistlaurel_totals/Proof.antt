@@ -11,24 +11,20 @@ read-requires c κs = search needs
 returns : tie.Need-returns
 returns c =
     let at-read = c .before .before .read in
-    no-totals _ (at-read .ensures) _ _ (not-true _ (c .if1 .taken))
+    no-totals _ (at-read .ensures) _ (not-true _ (c .if1 .taken))
 
-totals-of-requires : tie.Need-totals-of-requires
-totals-of-requires c κs = search needs
+cast-t7 : tie.Need-cast-t7
+cast-t7 c = search needs
 
 cast-t8 : tie.Need-cast-t8
 cast-t8 c = search needs
-
-cast-t9 : tie.Need-cast-t9
-cast-t9 c = search needs
 
 returns-2 : tie.Need-returns-2
 returns-2 c =
     let at-read = c .before .before .before .before .before .before .before .read in
     let at-if1 = c .before .before .before .before .before .if1 in
-    let at-totals-of = c .before .before .before .totals-of in
-    totals-read _ (at-read .ensures) _ _ (not-false _ (at-if1 .left)) (at-totals-of .ensures)
+    totals-read _ (at-read .ensures) _ (not-false _ (at-if1 .left))
 
 pub whistlaurel-totals-spec : {M : Type 1} → statement M
 whistlaurel-totals-spec =
-    tie.close (tie.spec read-requires returns totals-of-requires cast-t8 cast-t9 returns-2)
+    tie.close (tie.spec read-requires returns cast-t7 cast-t8 returns-2)

@@ -16,9 +16,6 @@ add-counts-requires c κs = search needs
 enum-told-2 : tie.Need-enum-told-2
 enum-told-2 c = search needs
 
-totals-of-requires : tie.Need-totals-of-requires
-totals-of-requires c κs = search needs
-
 add-totals-requires : tie.Need-add-totals-requires
 add-totals-requires c κs = search needs
 
@@ -64,13 +61,11 @@ same-length-2 c = search needs
 
 returns-2 : tie.Need-returns-2
 returns-2 c =
-    let at-args = c .before .before .before .before .before .before .before .before .before .before .before .before .args in
-    let at-enum-told2 = c .before .before .before .before .before .enum-told2 in
-    let at-totals-of = c .before .before .before .before .totals-of in
+    let at-args = c .before .before .before .before .before .before .before .before .before .before .before .args in
+    let at-enum-told2 = c .before .before .before .before .enum-told2 in
     let at-add-totals = c .before .before .add-totals in
     shows (at-args .r) (lend (at-args .journal .now) (at-args .message .now))
-    (at-enum-told2 .given .1) (rw (at-totals-of .ensures) at
-    (at-add-totals .ensures [] (start _)))
+    (at-enum-told2 .given .1) (at-add-totals .ensures [] (start _))
 
 same-length-3 : tie.Need-same-length-3
 same-length-3 c = search needs
@@ -123,7 +118,6 @@ show-spec =
     enum-told
     add-counts-requires
     enum-told-2
-    totals-of-requires
     add-totals-requires
     enum-told-3
     add-state-requires

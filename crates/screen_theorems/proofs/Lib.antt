@@ -1,0 +1,2 @@
+-- Proofs of the theorems of specs/Theorems.antt.
+pub mod Theorems
