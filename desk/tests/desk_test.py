@@ -162,6 +162,9 @@ class Centre(threading.Thread):
         return sorted(self.types())
 
     def stop(self):
+        """Ends the thread first: one that is still accepting could accept for the next centre, which gets the same descriptor."""
+        self.server.shutdown(socket.SHUT_RDWR)
+        self.join()
         self.server.close()
 
 

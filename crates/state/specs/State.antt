@@ -155,7 +155,7 @@ amountIn (Pending v) = 0
 amountIn Settling = 0
 amountIn Uploading = 0
 
--- and in the totals for its amount
+-- there is also room for an amount in the totals
 pub record Bookable (amount : ℕ) (s : State) : Type 0 where
   pub counts : CountsBounded s
   pub totals : Room (s .totals) amount
