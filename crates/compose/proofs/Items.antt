@@ -1,7 +1,7 @@
 -- Items that a field may hold: digits and bytes of the field's class, as many as it allows.
 use mathlib.Core.Path.{_≡_, refl}
 use mathlib.Core.List.{List, [], _∷_}
-use mathlib.Core.Bool.{Bool, true, false, cond, _&&_, and-eq-true-iff}
+use mathlib.Core.Bool.{Bool, true, false, cond, _&&_, and-true, and-eq-true-iff}
 use Prim.Native.Nat.{ℕ}
 use native.Mathlib.Omega.{arith}
 use lib.Dec.{leb, eqb}
@@ -94,7 +94,7 @@ module _ (b : List ℕ) (h : chipInForm b ≡ true) where
 
   pub chip-held : mayHold formats (bytes 55 b) ≡ true
   unfolding formats allowed
-  chip-held = bytes-held 55 b (chip-parts .0)
+  chip-held = bytes-held 55 b (rw and-true (chip-parts .0))
 
   pub chip-elements : elementsInForm b ≡ true
   chip-elements = chip-parts .1

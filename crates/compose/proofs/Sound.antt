@@ -1,16 +1,16 @@
 -- The message of a list of items that may be held: it is not refused, and holds what the list has.
 use mathlib.Core.Path.{_≡_, refl, sym, _∙_}
 use mathlib.Core.List.{List, [], _∷_, _++_}
-use mathlib.Core.Bool.{Bool, true, false, cond, _&&_, _||_, and-eq-true-iff}
+use mathlib.Core.Bool.{Bool, true, false, cond, not, _&&_, _||_, or-true, and-eq-true-iff}
 use Prim.Native.Nat.{ℕ, _+_, _-_, _<_}
 use native.Mathlib.Omega.{arith}
 use lib.Dec.{ltb, leb, eqb}
 use lib.ListN.{length, getD, take, drop, length-append}
 use borrow.Author.Tests.{lt-ltb, eqb-true, ltb-true, leb-true}
 use Rattle.digits.proofs.Lists.{all-true}
-use Rattle.field.specs.Table.{among, formats, indicators, numbers}
+use Rattle.field.specs.Table.{among, keyMaterial, formats, indicators, numbers}
 use Rattle.field.specs.Bitmap.{bit, names, listedAt, listed}
-use Rattle.field.specs.Contents.{size, room, allowed, fault}
+use Rattle.field.specs.Contents.{size, room, keyLengths, allowed, stands, kept, fault}
 use Rattle.field.specs.declared.Format.{Format}
 use Rattle.field.proofs.Formats.{length-formats, every}
 use Rattle.message.specs.Build.{Item, has, find, padded, bitmapFor, countsFor, contentsFor, messageOf}
@@ -18,12 +18,12 @@ use Rattle.message.specs.Message.{Field, Shaped, fieldIn, fieldOf}
 use Rattle.message.proofs.Places.{roomsOf, rooms-formats}
 use Rattle.message.proofs.Standing.{small, small-formats}
 use Rattle.message.specs.Late.{lateFault}
-use Rattle.message.proofs.Late.{late-kept}
+use Rattle.message.proofs.Late.{keysKept, late-both}
 use Rattle.writing.specs.Writing.{fieldFault, fieldsFault, messageFault}
-use Rattle.compose.specs.Compose.{allHeld}
+use Rattle.compose.specs.Compose.{mayHold, allHeld}
 use Rattle.compose.proofs.Places.{length-padded}
 use Rattle.compose.proofs.Bitmaps.{names-has}
-use Rattle.compose.proofs.Held.{distinct, distinct-formats, first-distinct, Fitting, fitting-formats, fitting-head, fitting-tail, fitting-stored, stored-drop, stored-bytes, named, nothing, held-listed, found-held, found-kept, find-none}
+use Rattle.compose.proofs.Held.{distinct, distinct-formats, first-distinct, Fitting, fitting-formats, fitting-head, fitting-tail, fitting-stored, stored-drop, stored-bytes, named, nothing, sound-in, held-listed, found-held, found-kept, find-none}
 
 -- its arrays have their lengths
 length-counts : (fs : List Format) (xs : List Item) → length (countsFor fs xs) ≡ length fs
@@ -76,7 +76,7 @@ field-sound f fs xs rest s r =
     v = find xs (f .number)
 
     go : (t : Bool) → has xs (f .number) ≡ t
-        → cond t (cond (allowed f (v .count)) (fault (f .class) (v .count) (take (size (f .class) (v .count)) (padded (room f) (v .bytes) ++ rest))) 7) 0 ≡ 0
+        → cond t (cond (stands f (v .count)) (fault (f .class) (kept f (v .count)) (take (size (f .class) (kept f (v .count))) (padded (room f) (v .bytes) ++ rest))) 7) 0 ≡ 0
     go true h = let d = fitting-head f fs xs r h in rw (d .allows, stored-bytes (d .stored) rest, d .no-fault)
     go false h = refl
 
@@ -127,9 +127,24 @@ held-field i xs n h = go (among n (numbers formats)) refl
         absent true e = e ∙ sym (held-listed formats (named n (find xs n)) (found-held xs n h e)) ∙ l
         absent false e = e
 
--- rule 23
+-- rules 23 and 24
+keys-listed : (x : Field) → mayHold formats (named 62 x) ≡ true → among (x .count) keyLengths ≡ true
+unfolding formats allowed
+keys-listed x h =
+    let a = sound-in (keyMaterial 62) x h .allows in
+    and-eq-true-iff (leb 24 (x .count) && leb (x .count) 84) (among (x .count) keyLengths) .0 a .1
+
+keys-sound : (i : ℕ) (xs : List Item) → allHeld xs ≡ true → keysKept (messageOf i xs) ≡ true
+keys-sound i xs h = rw (names-has xs 62 (omega arith) (omega arith), held-field i xs 62 h) (go (has xs 62) refl)
+  where
+    go : (t : Bool) → has xs 62 ≡ t → (not t || among (find xs 62 .count) keyLengths) ≡ true
+    go true e = keys-listed (find xs 62) (found-held xs 62 h e)
+    go false e = refl
+
 late-sound : (i : ℕ) (xs : List Item) → allHeld xs ≡ true → lateFault (messageOf i xs) ≡ 0
-late-sound i xs h = late-kept (messageOf i xs) (rw (held-field i xs 55 h) (found-kept xs h))
+late-sound i xs h =
+    late-both (messageOf i xs)
+    (rw (held-field i xs 55 h, found-kept xs h) (or-true (not (names (messageOf i xs .bitmap) 55)))) (keys-sound i xs h)
 
 pub sound : (i : ℕ) (xs : List Item) → among i indicators ≡ true → allHeld xs ≡ true → messageFault (messageOf i xs) ≡ 0
 unfolding messageFault

@@ -3,7 +3,7 @@ ghost use mathlib.Core.Path.{_≡_};
 ghost use Prim.Native.Nat.{_-_, _<_};
 ghost use Rattle.field.specs.Table.{formats, indicators, among};
 ghost use Rattle.field.specs.Bitmap.{names, listed, wordOf, bits, hasIn};
-ghost use Rattle.field.specs.Contents.{size, allowed, allPrintable, fault, places};
+ghost use Rattle.field.specs.Contents.{size, keyLengths, listedLength, allowed, late, allPrintable, fault, places};
 
 // What a field holds: packed digits, printable bytes, or bytes of every value.
 pub enum Class {
@@ -19,6 +19,13 @@ pub enum Prefix {
     Two,
 }
 
+// Which counts from low to high a field may have: every one, or those of key material; another count is refused by 7 where the field
+// stands, of key material by 24 once the message is read.
+pub enum Lengths {
+    Every,
+    Keys,
+}
+
 // A field's form: the count of its digits or bytes is low to high.
 pub struct Format {
     pub number: u8,
@@ -26,56 +33,58 @@ pub struct Format {
     pub prefix: Prefix,
     pub low: u8,
     pub high: u8,
+    pub lengths: Lengths,
 }
 
 // The number of fields in the table.
-pub const ROWS: usize = 24;
+pub const ROWS: usize = 25;
 
 // The fields of a message in ascending order.
 const FORMATS: [Format; ROWS] = [
-    Format { number: 2, class: Class::Digits, prefix: Prefix::One, low: 13, high: 19 },
-    Format { number: 3, class: Class::Digits, prefix: Prefix::Absent, low: 6, high: 6 },
-    Format { number: 4, class: Class::Digits, prefix: Prefix::Absent, low: 12, high: 12 },
-    Format { number: 11, class: Class::Digits, prefix: Prefix::Absent, low: 6, high: 6 },
-    Format { number: 12, class: Class::Digits, prefix: Prefix::Absent, low: 6, high: 6 },
-    Format { number: 13, class: Class::Digits, prefix: Prefix::Absent, low: 4, high: 4 },
-    Format { number: 14, class: Class::Digits, prefix: Prefix::Absent, low: 4, high: 4 },
-    Format { number: 15, class: Class::Digits, prefix: Prefix::Absent, low: 4, high: 4 },
-    Format { number: 22, class: Class::Digits, prefix: Prefix::Absent, low: 3, high: 3 },
-    Format { number: 25, class: Class::Digits, prefix: Prefix::Absent, low: 2, high: 2 },
-    Format { number: 32, class: Class::Digits, prefix: Prefix::One, low: 1, high: 11 },
-    Format { number: 37, class: Class::Printable, prefix: Prefix::Absent, low: 12, high: 12 },
-    Format { number: 38, class: Class::Printable, prefix: Prefix::Absent, low: 6, high: 6 },
-    Format { number: 39, class: Class::Printable, prefix: Prefix::Absent, low: 2, high: 2 },
-    Format { number: 41, class: Class::Printable, prefix: Prefix::Absent, low: 8, high: 8 },
-    Format { number: 42, class: Class::Printable, prefix: Prefix::Absent, low: 15, high: 15 },
-    Format { number: 44, class: Class::Any, prefix: Prefix::One, low: 0, high: 25 },
-    Format { number: 48, class: Class::Digits, prefix: Prefix::Two, low: 62, high: 62 },
-    Format { number: 49, class: Class::Printable, prefix: Prefix::Absent, low: 3, high: 3 },
-    Format { number: 55, class: Class::Any, prefix: Prefix::Two, low: 1, high: 255 },
-    Format { number: 60, class: Class::Digits, prefix: Prefix::Two, low: 11, high: 11 },
-    Format { number: 61, class: Class::Digits, prefix: Prefix::Two, low: 16, high: 16 },
-    Format { number: 63, class: Class::Any, prefix: Prefix::Two, low: 3, high: 63 },
-    Format { number: 64, class: Class::Any, prefix: Prefix::Absent, low: 8, high: 8 },
+    Format { number: 2, class: Class::Digits, prefix: Prefix::One, low: 13, high: 19, lengths: Lengths::Every },
+    Format { number: 3, class: Class::Digits, prefix: Prefix::Absent, low: 6, high: 6, lengths: Lengths::Every },
+    Format { number: 4, class: Class::Digits, prefix: Prefix::Absent, low: 12, high: 12, lengths: Lengths::Every },
+    Format { number: 11, class: Class::Digits, prefix: Prefix::Absent, low: 6, high: 6, lengths: Lengths::Every },
+    Format { number: 12, class: Class::Digits, prefix: Prefix::Absent, low: 6, high: 6, lengths: Lengths::Every },
+    Format { number: 13, class: Class::Digits, prefix: Prefix::Absent, low: 4, high: 4, lengths: Lengths::Every },
+    Format { number: 14, class: Class::Digits, prefix: Prefix::Absent, low: 4, high: 4, lengths: Lengths::Every },
+    Format { number: 15, class: Class::Digits, prefix: Prefix::Absent, low: 4, high: 4, lengths: Lengths::Every },
+    Format { number: 22, class: Class::Digits, prefix: Prefix::Absent, low: 3, high: 3, lengths: Lengths::Every },
+    Format { number: 25, class: Class::Digits, prefix: Prefix::Absent, low: 2, high: 2, lengths: Lengths::Every },
+    Format { number: 32, class: Class::Digits, prefix: Prefix::One, low: 1, high: 11, lengths: Lengths::Every },
+    Format { number: 37, class: Class::Printable, prefix: Prefix::Absent, low: 12, high: 12, lengths: Lengths::Every },
+    Format { number: 38, class: Class::Printable, prefix: Prefix::Absent, low: 6, high: 6, lengths: Lengths::Every },
+    Format { number: 39, class: Class::Printable, prefix: Prefix::Absent, low: 2, high: 2, lengths: Lengths::Every },
+    Format { number: 41, class: Class::Printable, prefix: Prefix::Absent, low: 8, high: 8, lengths: Lengths::Every },
+    Format { number: 42, class: Class::Printable, prefix: Prefix::Absent, low: 15, high: 15, lengths: Lengths::Every },
+    Format { number: 44, class: Class::Any, prefix: Prefix::One, low: 0, high: 25, lengths: Lengths::Every },
+    Format { number: 48, class: Class::Digits, prefix: Prefix::Two, low: 62, high: 62, lengths: Lengths::Every },
+    Format { number: 49, class: Class::Printable, prefix: Prefix::Absent, low: 3, high: 3, lengths: Lengths::Every },
+    Format { number: 55, class: Class::Any, prefix: Prefix::Two, low: 1, high: 255, lengths: Lengths::Every },
+    Format { number: 60, class: Class::Digits, prefix: Prefix::Two, low: 11, high: 11, lengths: Lengths::Every },
+    Format { number: 61, class: Class::Digits, prefix: Prefix::Two, low: 16, high: 16, lengths: Lengths::Every },
+    Format { number: 62, class: Class::Any, prefix: Prefix::Two, low: 24, high: 84, lengths: Lengths::Keys },
+    Format { number: 63, class: Class::Any, prefix: Prefix::Two, low: 3, high: 63, lengths: Lengths::Every },
+    Format { number: 64, class: Class::Any, prefix: Prefix::Absent, low: 8, high: 8, lengths: Lengths::Every },
 ];
 
 // Where the contents of each field stand in a message, one field after another.
 const PLACES: [u16; ROWS] = [
-    0, 10, 13, 19, 22, 25, 27, 29, 31, 33, 34, 40, 52, 58, 60, 68, 83, 108, 139, 142, 397, 403, 411, 474,
+    0, 10, 13, 19, 22, 25, 27, 29, 31, 33, 34, 40, 52, 58, 60, 68, 83, 108, 139, 142, 397, 403, 411, 495, 558,
 ];
 
 // The bit of each field in a bitmap as one number, from the lowest.
 const BITS: [u8; ROWS] = [
-    62, 61, 60, 53, 52, 51, 50, 49, 42, 39, 32, 27, 26, 25, 23, 22, 20, 16, 15, 9, 4, 3, 1, 0,
+    62, 61, 60, 53, 52, 51, 50, 49, 42, 39, 32, 27, 26, 25, 23, 22, 20, 16, 15, 9, 4, 3, 2, 1, 0,
 ];
 
-// The types of document 01.
-const INDICATORS: [u16; 12] = [
-    0x0100, 0x0110, 0x0200, 0x0210, 0x0220, 0x0230, 0x0320, 0x0330, 0x0400, 0x0410, 0x0500, 0x0510,
+// The types of document 01, and those of a sign-on.
+const INDICATORS: [u16; 14] = [
+    0x0100, 0x0110, 0x0200, 0x0210, 0x0220, 0x0230, 0x0320, 0x0330, 0x0400, 0x0410, 0x0500, 0x0510, 0x0800, 0x0810,
 ];
 
 // The bits of each bitmap byte that stand for no field of the table.
-const UNLISTED: [u8; 8] = [0x8F, 0xC1, 0xFB, 0x7E, 0xF1, 0x2E, 0x7D, 0xE4];
+const UNLISTED: [u8; 8] = [0x8F, 0xC1, 0xFB, 0x7E, 0xF1, 0x2E, 0x7D, 0xE0];
 
 pub fn table() -> [Format; ROWS]
     ensures { λ r. ⌜ r ≡ formats ⌝ }
@@ -101,7 +110,7 @@ pub fn listed_indicator(x: u16) -> bool
 {
     let list = INDICATORS;
     let mut i = 0;
-    while i < 12 {
+    while i < 14 {
         if list[i] == x {
             return true;
         }
@@ -173,11 +182,30 @@ pub fn size_of(class: Class, n: u8) -> usize
     }
 }
 
-// Rule 7: whether a field may have n digits or bytes.
+// Rule 7, for key material rule 24: whether a field may have n digits or bytes.
 pub fn is_allowed(f: Format, n: usize) -> bool
     ensures { λ r. ⌜ r ≡ allowed f n ⌝ }
 {
-    (wide(f.low) <= n) & (n <= wide(f.high))
+    let lengths = f.lengths;
+    (wide(f.low) <= n) & (n <= wide(f.high)) & is_listed_length(lengths, n)
+}
+
+// Whether another count is refused once the message is read, and not where the field stands.
+pub fn is_late(f: Format) -> bool
+    ensures { λ r. ⌜ r ≡ late f ⌝ }
+{
+    let lengths = f.lengths;
+    match lengths {
+        Lengths::Every => false,
+        Lengths::Keys => true,
+    }
+}
+
+// Whether n bytes are key material: 24, 40, 56, 60 or 84.
+pub fn is_key_length(n: usize) -> bool
+    ensures { λ r. ⌜ r ≡ among n keyLengths ⌝ }
+{
+    (24 == n) | ((40 == n) | ((56 == n) | ((60 == n) | (84 == n))))
 }
 
 // Rule 8: whether each byte is 20 to 7E.
@@ -216,6 +244,15 @@ pub fn fault_of(class: Class, n: u8, b: &[u8]) -> u8
             8
         }
         Class::Any => 0,
+    }
+}
+
+fn is_listed_length(lengths: Lengths, n: usize) -> bool
+    ensures { λ r. ⌜ r ≡ listedLength lengths n ⌝ }
+{
+    match lengths {
+        Lengths::Every => true,
+        Lengths::Keys => is_key_length(n),
     }
 }
 

@@ -6,9 +6,9 @@ ghost use Prim.Native.Nat.{_+_, _*_, _/_, _%_};
 ghost use lib.ListN.{length, take};
 ghost use Rattle.digits.specs.Digits.{pack};
 ghost use Rattle.digits.specs.Numbers.{digitsOf};
-ghost use Rattle.field.specs.Contents.{size, skip};
+ghost use Rattle.field.specs.Contents.{size, skip, kept};
 ghost use Rattle.span.specs.Span.{fieldBytes};
-ghost use Rattle.field_writing.specs.Placing.{putFault, Placing};
+ghost use Rattle.field_writing.specs.Placing.{heldFault, putFault, Placing};
 
 // What some bytes are refused for, 0 for nothing, and how many were written.
 pub struct Placed {
@@ -18,28 +18,38 @@ pub struct Placed {
 
 // Writes a field of n digits or bytes, with its contents at the front of bs, at the front of out.
 pub fn put_field(f: Format, n: u8, bs: &[u8], out: &mut [u8]) -> Placed
-    ensures { λ r. ⌜ Placing (putFault f n (now (bs .entry)) (now (out .entry))) (fieldBytes f n (take (size (f .class) n) (now (bs .entry)))) r (now (out .exit)) ⌝ }
+    ensures { λ r. ⌜ Placing (putFault f n (now (bs .entry)) (now (out .entry))) (fieldBytes f (kept f n) (take (size (f .class) (kept f n)) (now (bs .entry)))) r (now (out .exit)) ⌝ }
 {
     if field::is_allowed(f, n as usize) {
-        let class = f.class;
-        let prefix = f.prefix;
-        let size = field::size_of(class, n);
-        let skip = span::skip_of(prefix);
-        let end = skip + size;
-        if bs.len() < size {
-            return Placed { fault: 3, size: 0 };
-        }
-        if out.len() < end {
-            return Placed { fault: 1, size: 0 };
-        }
-        put_count(prefix, n, &mut out[..skip]);
-        let e = contents::take(class, n, &bs[..size], &mut out[skip..end]);
-        return Placed {
-            fault: e,
-            size: end,
-        };
+        return put_held(f, n, bs, out);
+    }
+    if field::is_late(f) {
+        return put_held(f, 0, bs, out);
     }
     Placed { fault: 7, size: 0 }
+}
+
+// Writes a field of n digits or bytes, whatever it may have.
+fn put_held(f: Format, n: u8, bs: &[u8], out: &mut [u8]) -> Placed
+    ensures { λ r. ⌜ Placing (heldFault f n (now (bs .entry)) (now (out .entry))) (fieldBytes f n (take (size (f .class) n) (now (bs .entry)))) r (now (out .exit)) ⌝ }
+{
+    let class = f.class;
+    let prefix = f.prefix;
+    let size = field::size_of(class, n);
+    let skip = span::skip_of(prefix);
+    let end = skip + size;
+    if bs.len() < size {
+        return Placed { fault: 3, size: 0 };
+    }
+    if out.len() < end {
+        return Placed { fault: 1, size: 0 };
+    }
+    put_count(prefix, n, &mut out[..skip]);
+    let e = contents::take(class, n, &bs[..size], &mut out[skip..end]);
+    Placed {
+        fault: e,
+        size: end,
+    }
 }
 
 // A count's last two digits, packed.

@@ -1,15 +1,18 @@
 // A message by value: its type, its bitmap as it stands on the wire, and each field's count and contents.
 use field::Format;
 ghost use mathlib.Core.Path.{_≡_};
+ghost use mathlib.Core.Bool.{not, _||_};
 ghost use Prim.Native.Nat.{_<_};
-ghost use Rattle.field.specs.Table.{formats};
+ghost use Rattle.field.specs.Table.{formats, among};
+ghost use Rattle.field.specs.Bitmap.{names};
+ghost use Rattle.field.specs.Contents.{keyLengths};
 ghost use Rattle.elements.specs.Elements.{elementsInForm};
 ghost use Rattle.message.specs.Message.{empty, headOf, whole, fieldOf};
 ghost use Rattle.message.specs.Located.{located};
 ghost use Rattle.message.specs.Late.{lateFault};
 
 // The bytes of the contents of all fields.
-pub const ROOM: usize = 482;
+pub const ROOM: usize = 566;
 
 // The contents of all fields.
 pub type Contents = [u8; ROOM];
@@ -24,7 +27,7 @@ pub struct Message {
 
 impl Message {
     // The most bytes that a message takes.
-    pub const LARGEST: usize = 505;
+    pub const LARGEST: usize = 591;
 
     // A message of no type that names no field.
     pub fn new() -> Self
@@ -108,14 +111,35 @@ pub fn locate(n: u8) -> Located
 pub fn late_fault(m: Message) -> u8
     ensures { λ r. ⌜ r ≡ lateFault m ⌝ }
 {
-    let bitmap = m.bitmap;
-    if field::named(&bitmap, 55) {
-        if chip_in_form(m) {
-            return 0;
-        }
+    if !chip_kept(m) {
         return 23;
     }
+    if !keys_kept(m) {
+        return 24;
+    }
     0
+}
+
+// Rule 23: whether field 55, where it is named, is elements in form.
+fn chip_kept(m: Message) -> bool
+    ensures { λ r. ⌜ r ≡ (not (names (m .bitmap) 55) || elementsInForm (fieldOf m 55 .bytes)) ⌝ }
+{
+    let bitmap = m.bitmap;
+    if field::named(&bitmap, 55) {
+        return chip_in_form(m);
+    }
+    true
+}
+
+// Rule 24: whether field 62, where it is named, has a length of key material.
+fn keys_kept(m: Message) -> bool
+    ensures { λ r. ⌜ r ≡ (not (names (m .bitmap) 62) || among (fieldOf m 62 .count) keyLengths) ⌝ }
+{
+    let bitmap = m.bitmap;
+    if field::named(&bitmap, 62) {
+        return keys_in_form(m);
+    }
+    true
 }
 
 // Whether field 55 is elements in form.
@@ -130,6 +154,21 @@ fn chip_in_form(m: Message) -> bool
             elements::in_form(&contents[from..end])
         }
         Located::Missing => true,
+    }
+}
+
+// Whether field 62 has a length of key material.
+fn keys_in_form(m: Message) -> bool
+    ensures { λ r. ⌜ r ≡ among (fieldOf m 62 .count) keyLengths ⌝ }
+{
+    let counts = m.counts;
+    match locate(62) {
+        Located::Found {
+            row,
+            from: _,
+            form: _,
+        } => field::is_key_length(wide(counts[row])),
+        Located::Missing => false,
     }
 }
 

@@ -1,7 +1,7 @@
 -- What the loop over the table keeps while it reads the fields.
 use mathlib.Core.Path.{_≡_, refl, ap, sym, _∙_}
 use mathlib.Core.List.{List, [], _∷_, _++_, append-assoc, append-nil}
-use mathlib.Core.Bool.{Bool, true, false, cond}
+use mathlib.Core.Bool.{Bool, true, false, cond, _||_}
 use Prim.Native.Nat.{ℕ, zero, suc, _+_, _-_, _≤_, _<_}
 use native.Mathlib.Omega.{arith}
 use native.Mathlib.Decide.{decLt}
@@ -19,14 +19,14 @@ use Rattle.field.proofs.Formats.{length-formats, drop-formats}
 use Rattle.span.specs.Span.{spanAt, span}
 use Rattle.span.specs.declared.Span.{Span}
 use Rattle.span.specs.declared.Span.the-variants.{Held, Refused}
-use Rattle.span.proofs.Held.{span-held, span-fits}
+use Rattle.span.proofs.Held.{span-within, span-fits}
 use Rattle.message.specs.Build.{padded}
 use Rattle.message.proofs.Places.{At, roomsOf, rooms-formats, places-rest}
 use Rattle.message.specs.Message.{rooms}
 use Rattle.message.specs.declared.Message.{Message}
 use Rattle.message.proofs.Late.{late-none}
 use Rattle.reading.specs.Found.{told, parsed, bitmapIn, Copied}
-use Rattle.reading.specs.Reading.{Fields, bad, good, prepend, afterSpan, readFields, bitmapOf, accepted, assembled}
+use Rattle.reading.specs.Reading.{Fields, bad, good, prepend, readFields, bitmapOf, accepted, assembled}
 use Rattle.reading.specs.declared.ReadOutcome.{ReadOutcome}
 use Rattle.reading.specs.declared.ReadOutcome.the-variants.{Read, Refused as Unread}
 
@@ -150,7 +150,7 @@ module _ {bm s cs bs : List ℕ} {k at : ℕ} {f : Format} (r : ReadTo bm s k at
     found-there = rw (← tail-part at s) (sym (y .found))
 
     pub within : {n p z : ℕ} → t ≡ Held n p z → at + p + z ≤ length s
-    within g = omega (arith, span-held f (drop at s) (found-there ∙ g) .fits, length-drop at s, r .at-bound)
+    within g = omega (arith, span-within f (drop at s) (found-there ∙ g), length-drop at s, r .at-bound)
 
     module _ (h : names bm (f .number) ≡ true) where
       named-there : span f bm (drop at s) ≡ t
@@ -216,6 +216,6 @@ pub assembled-told : (o : ReadOutcome) (i : ℕ) (bm cs bs : List ℕ)
 assembled-told Read i bm cs bs = refl
 assembled-told (Unread e) i bm cs bs = refl
 
--- a message without field 55 breaks no rule on it as a whole
-pub accepted-plain : (m : Message) → names (m .bitmap) 55 ≡ false → accepted m ≡ record { outcome = Read; message = m }
+-- a message without fields 55 and 62 breaks no rule on it as a whole
+pub accepted-plain : (m : Message) → (names (m .bitmap) 55 || names (m .bitmap) 62) ≡ false → accepted m ≡ record { outcome = Read; message = m }
 accepted-plain m h = rw (late-none m h)

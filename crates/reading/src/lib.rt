@@ -4,9 +4,11 @@ use message::Contents;
 use message::Message;
 use span::Span;
 ghost use mathlib.Core.Path.{_≡_};
+ghost use mathlib.Core.Bool.{_||_};
 ghost use Prim.Native.Nat.{_≤_, _<_};
 ghost use lib.ListN.{length, getD};
 ghost use Rattle.field.specs.Table.{formats};
+ghost use Rattle.field.specs.Bitmap.{names};
 ghost use Rattle.field.specs.Contents.{room};
 ghost use Rattle.reading.specs.Reading.{refused, accepted, indicatorIn, readFields, readMessage};
 ghost use Rattle.reading.specs.Found.{Fresh, told, parsed, bitmapIn, Copied};
@@ -35,7 +37,7 @@ pub fn read(s: &[u8]) -> Reading
         return refusal(e);
     }
     let indicator = indicator_in(s);
-    if field::named(&bitmap, 55) {
+    if is_judged(&bitmap) {
         return judged(indicator, bitmap, counts, contents);
     }
     Reading {
@@ -60,7 +62,7 @@ pub fn outcome_of(s: &[u8]) -> ReadOutcome
     if let ReadOutcome::Refused(e) = o {
         return ReadOutcome::Refused(e);
     }
-    if field::named(&bitmap, 55) {
+    if is_judged(&bitmap) {
         let indicator = indicator_in(s);
         let r = judged(indicator, bitmap, counts, contents);
         return r.outcome;
@@ -178,7 +180,14 @@ fn read_field(f: Format, s: &[u8], out: &mut [u8]) -> Span
     }
 }
 
-// A message that was read, where no rule on it as a whole is broken; they look at field 55 alone.
+// Whether a bitmap names a field that the rules on a message as a whole look at.
+fn is_judged(bitmap: &[u8; 8]) -> bool
+    ensures { λ r. ⌜ r ≡ (names (now (bitmap .entry)) 55 || names (now (bitmap .entry)) 62) ⌝ }
+{
+    field::named(bitmap, 55) | field::named(bitmap, 62)
+}
+
+// A message that was read, where no rule on it as a whole is broken.
 fn judged(indicator: u16, bitmap: [u8; 8], counts: [u8; field::ROWS], contents: Contents) -> Reading
     ensures { λ r. ⌜ r ≡ accepted (record { indicator = indicator; bitmap = bitmap; counts = counts; contents = contents }) ⌝ }
 {

@@ -1,21 +1,21 @@
 -- A field is found where its frame stands and its contents are in form.
-use mathlib.Core.Path.{_≡_, refl, sym, _∙_}
+use mathlib.Core.Path.{_≡_, refl}
 use mathlib.Core.List.{List}
 use mathlib.Core.Bool.{Bool, true, false, cond}
-use Prim.Native.Nat.{ℕ, _+_, _*_, _≤_, _<_}
+use Prim.Native.Nat.{ℕ, _*_, _≤_}
 use native.Mathlib.Omega.{arith}
 use lib.Dec.{ltb, eqb}
 use lib.ListN.{length, take, drop, length-drop}
 use borrow.Author.Tests.{ltb-false, le-ltb, eq-eqb, ne-eqb}
 use Rattle.digits.specs.Digits.{isPacked}
 use Rattle.field.specs.Contents.{size, skip, allowed, fault}
-use Rattle.field.specs.declared.Prefix.{Prefix}
 use Rattle.field.specs.declared.Prefix.the-variants.{Absent}
 use Rattle.field.specs.declared.Format.{Format}
-use Rattle.span.specs.Span.{countIn, contentsAt, spanAt, sizedAt, frameAt}
+use Rattle.field.proofs.Contents.{none-in-form}
+use Rattle.span.specs.Span.{countIn, passedAt, contentsAt, spanAt, sizedAt, frameAt}
 use Rattle.span.specs.declared.Span.{Span}
 use Rattle.span.specs.declared.Span.the-variants.{Held, Refused}
-use Rattle.span.proofs.Held.{Fits, passed-no, passed-yes, size-bound}
+use Rattle.span.proofs.Held.{Fits, passed-no, passed-yes, passed-held, size-bound}
 
 -- a frame's contents are judged after it
 abbrev judged : Format → List ℕ → Span → Span
@@ -27,9 +27,13 @@ judged-cond : (f : Format) (s : List ℕ) (b : Bool) (x y : Span) → judged f s
 judged-cond f s true x y = refl
 judged-cond f s false x y = refl
 
+judged-passed : (f : Format) (s : List ℕ) (n : ℕ) (r : List ℕ) → judged f s (passedAt f n r) ≡ passedAt f n r
+unfolding passedAt
+judged-passed f s n r = rw (judged-cond, judged-cond, none-in-form)
+
 span-frame : (f : Format) (s : List ℕ) → spanAt f s ≡ judged f s (frameAt f s)
 unfolding spanAt contentsAt frameAt sizedAt
-span-frame f s = rw (judged-cond, judged-cond, judged-cond, judged-cond)
+span-frame f s = rw (judged-cond, judged-cond, judged-cond, judged-cond, judged-passed)
 
 module _ (f : Format) (s : List ℕ) where
   pub frame-refused : {e : ℕ} → frameAt f s ≡ Refused e → spanAt f s ≡ Refused e
@@ -45,19 +49,30 @@ module _ (f : Format) (s : List ℕ) where
 pub frame-fits : (f : Format) (s : List ℕ) {n p z : ℕ} → frameAt f s ≡ Held n p z → Fits f s p z
 unfolding frameAt sizedAt
 frame-fits f s {n} {p} {z} q =
-    let k = skip (f .prefix) in
-    let m = countIn (f .prefix) (f .high) (take (skip (f .prefix)) s) in
-    let w = size (f .class) m in
-    let r = drop k s in
     let a = passed-no (ltb (length s) k) 3 _ q in
     let b = passed-yes (isPacked (2 * k) (take k s)) 6 _ (a .1) in
-    let c = passed-yes (allowed f m) 7 _ (b .1) in
-    let d = passed-no (ltb (length r) w) 3 (Held m k w) (c .1) in
-    let kp : k ≤ length s = ltb-false (length s) k (a .0) in
-    let wr : w ≤ length r = ltb-false (length r) w (d .0) in
-    let pk : k ≡ p = cc in
-    let zw : w ≡ z = cc in
-    record { within = omega (arith, length-drop k s); placed = rw (← zw) (size-bound f m (c .0)) }
+    go (allowed f m) refl (ltb-false (length s) k (a .0)) (b .1)
+  where
+    k : ℕ
+    k = skip (f .prefix)
+
+    m : ℕ
+    m = countIn (f .prefix) (f .high) (take k s)
+
+    w : ℕ
+    w = size (f .class) m
+
+    go : (t : Bool) → allowed f m ≡ t → k ≤ length s
+        → cond t (cond (ltb (length (drop k s)) w) (Refused 3) (Held m k w)) (passedAt f m (drop k s)) ≡ Held n p z → Fits f s p z
+    go true t kp q =
+        let d = passed-no (ltb (length (drop k s)) w) 3 (Held m k w) q in
+        let wr : w ≤ length (drop k s) = ltb-false (length (drop k s)) w (d .0) in
+        let kq : k ≡ p = cc in
+        let zw : w ≡ z = cc in
+        record { within = omega (arith, length-drop k s); placed = rw (← zw) (size-bound f m t) }
+    go false t kp q =
+        let h = passed-held f m s q kp in
+        record { within = omega (arith, h .within, h .size-none); placed = omega (arith, h .size-none) }
 
 -- a field without a length has one count
 pub frame-absent : (f : Format) (s : List ℕ) → f .prefix ≡ Absent → frameAt f s ≡ sizedAt f (f .high) s

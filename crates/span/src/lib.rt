@@ -2,11 +2,12 @@
 use field::Format;
 use field::Prefix;
 ghost use mathlib.Core.Path.{_≡_};
-ghost use Prim.Native.Nat.{_+_, _*_};
+ghost use Prim.Native.Nat.{_+_, _*_, _<_};
 ghost use Rattle.field.specs.Contents.{skip};
-ghost use Rattle.span.specs.Span.{countIn, sizedAt, frameAt};
+ghost use Rattle.span.specs.Span.{countIn, passedAt, sizedAt, frameAt};
 
-// A field's count, the bytes before its contents and the bytes of its contents; or why it is refused.
+// A field's count, the bytes before its contents and the bytes of its contents; or why it is refused. Key material of a length that is
+// not allowed has no contents: all its bytes stand before them.
 pub enum Span {
     Held { count: u8, skip: usize, size: usize },
     Refused(u8),
@@ -36,20 +37,20 @@ pub fn frame_of(f: Format, s: &[u8]) -> Span
 }
 
 fn wide(x: u8) -> usize
-    ensures { λ r. ⌜ r ≡ x ⌝ }
+    ensures { λ r. ⌜ (r ≡ x) × (r < 256) ⌝ }
 {
     x as usize
 }
 
 fn two_digits(tens: u8, ones: u8) -> usize
-    ensures { λ r. ⌜ r ≡ tens * 10 + ones ⌝ }
+    ensures { λ r. ⌜ (r ≡ tens * 10 + ones) × (r < 2816) ⌝ }
 {
     wide(tens) * 10 + wide(ones)
 }
 
 // The count that the length bytes s say; with no length the field's only count.
 fn count_in(prefix: Prefix, high: u8, s: &[u8]) -> usize
-    ensures { λ r. ⌜ r ≡ countIn prefix high (now (s .entry)) ⌝ }
+    ensures { λ r. ⌜ (r ≡ countIn prefix high (now (s .entry))) × (r < 0x100000) ⌝ }
 {
     match prefix {
         Prefix::Absent => wide(high),
@@ -64,6 +65,7 @@ fn count_in(prefix: Prefix, high: u8, s: &[u8]) -> usize
 
 // The contents of n digits or bytes at the front of s, not judged.
 fn sized_at(f: Format, n: usize, s: &[u8]) -> Span
+    requires { ⌜ n < 0x100000 ⌝ }
     ensures { λ r. ⌜ r ≡ sizedAt f n (now (s .entry)) ⌝ }
 {
     if field::is_allowed(f, n) {
@@ -78,6 +80,25 @@ fn sized_at(f: Format, n: usize, s: &[u8]) -> Span
             count: count,
             skip: skip_of(prefix),
             size: size,
+        };
+    }
+    passed_at(f, n, s)
+}
+
+// Contents of n digits or bytes at the front of s where that many are not allowed.
+fn passed_at(f: Format, n: usize, s: &[u8]) -> Span
+    requires { ⌜ n < 0x100000 ⌝ }
+    ensures { λ r. ⌜ r ≡ passedAt f n (now (s .entry)) ⌝ }
+{
+    if field::is_late(f) {
+        if s.len() < n {
+            return Span::Refused(3);
+        }
+        let prefix = f.prefix;
+        return Span::Held {
+            count: 0,
+            skip: skip_of(prefix) + n,
+            size: 0,
         };
     }
     Span::Refused(7)

@@ -9,7 +9,7 @@ use lib.ListN.{getD, take, drop}
 use borrow.Author.Tests.{eqb-true, eqb-false}
 use Rattle.field.specs.Table.{among, indicators, formats}
 use Rattle.field.specs.Bitmap.{names, listed}
-use Rattle.field.specs.Contents.{size, room, allowed, fault}
+use Rattle.field.specs.Contents.{size, room, stands, kept, fault}
 use Rattle.field.specs.declared.Format.{Format}
 use Rattle.message.specs.Late.{lateFault}
 use Rattle.message.specs.declared.Message.{Message}
@@ -20,16 +20,16 @@ chosen : (b : Bool) (x y : ℕ) → (b ≡ false → y ≡ 0 → ⊥) → cond b
 chosen true x y n h = (refl, h)
 chosen false x y n h = absurd (n refl h)
 
--- a field that is not refused
+-- a field that is not refused where it stands
 pub record Sound (f : Format) (n : ℕ) (bs : List ℕ) : Type 0 where
-  pub allows : allowed f n ≡ true
-  pub no-fault : fault (f .class) n (take (size (f .class) n) bs) ≡ 0
+  pub stands-there : stands f n ≡ true
+  pub no-fault : fault (f .class) (kept f n) (take (size (f .class) (kept f n)) bs) ≡ 0
 
 pub field-sound : (f : Format) (bm : List ℕ) (n : ℕ) (bs : List ℕ) → names bm (f .number) ≡ true → fieldFault f bm n bs ≡ 0 → Sound f n bs
 unfolding fieldFault
 field-sound f bm n bs e h =
-    let q = chosen (allowed f n) (fault (f .class) n (take (size (f .class) n) bs)) 7 (λ _ z. omega (arith, z)) (rw e at h) in
-    record { allows = q .0; no-fault = q .1 }
+    let q = chosen (stands f n) (fault (f .class) (kept f n) (take (size (f .class) (kept f n)) bs)) 7 (λ _ z. omega (arith, z)) (rw e at h) in
+    record { stands-there = q .0; no-fault = q .1 }
 
 -- the first field and the others
 pub fields-sound : (f : Format) (fs : List Format) (bm cs bs : List ℕ) → fieldsFault (f ∷ fs) bm cs bs ≡ 0

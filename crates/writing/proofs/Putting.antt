@@ -13,31 +13,31 @@ use borrow.Author.Tests.{le-ltb, eq-eqb, ne-eqb}
 use Rattle.digits.proofs.Lists.{tail-part, put-tail}
 use Rattle.field.specs.Table.{among, indicators, formats, rows}
 use Rattle.field.specs.Bitmap.{names, listed}
-use Rattle.field.specs.Contents.{size, room, skip, allowed, fault}
+use Rattle.field.specs.Contents.{size, room, skip, stands, kept, fault}
 use Rattle.field.specs.declared.Format.{Format}
 use Rattle.field.proofs.Formats.{drop-formats}
 use Rattle.span.specs.Span.{fieldBytes}
-use Rattle.span.proofs.Held.{size-bound}
+use Rattle.span.proofs.Held.{kept-bound}
 use Rattle.span.proofs.Bytes.{length-field}
 use Rattle.message.specs.Message.{largest, Shaped, rooms}
 use Rattle.message.specs.Late.{lateFault}
 use Rattle.message.specs.declared.Message.{Message}
 use Rattle.message.proofs.Places.{width, widthsOf, largest-formats, At, Place, place-none, place-part, place-more, place-room, first-count}
 use Rattle.contents.proofs.Taken.{copied}
-use Rattle.field_writing.specs.Placing.{putFault, Placing}
+use Rattle.field_writing.specs.Placing.{heldFault, putFault, Placing}
 use Rattle.field_writing.specs.declared.Placed.{Placed}
 use Rattle.field_writing.proofs.Counts.{set-two}
 use Rattle.field_writing.proofs.Parts.{placing-refused}
 use Rattle.writing.specs.Writing.{fieldFault, fieldsFault, namedBytes, fieldsBytes, head, messageBytes, messageFault, written, writeMessage}
 use Rattle.writing.specs.declared.Writing.the-variants.{Written}
-use Rattle.writing.proofs.Faults.{field-sound, fields-sound, fault-inversion}
+use Rattle.writing.proofs.Faults.{fields-sound, fault-inversion}
 
 pub field-fits : (f : Format) (bm : List ℕ) (n : ℕ) (bs : List ℕ) → fieldFault f bm n bs ≡ 0 → length (namedBytes f bm n bs) ≤ width f
 unfolding namedBytes
 field-fits f bm n bs h = go (names bm (f .number)) refl
   where
-    go : (b : Bool) → names bm (f .number) ≡ b → length (cond b (fieldBytes f n (take (size (f .class) n) bs)) []) ≤ width f
-    go true e = rw length-field (omega (arith, size-bound f n (field-sound f bm n bs e h .allows), length-take (size (f .class) n) bs))
+    go : (b : Bool) → names bm (f .number) ≡ b → length (cond b (fieldBytes f (kept f n) (take (size (f .class) (kept f n)) bs)) []) ≤ width f
+    go true e = rw length-field (omega (arith, kept-bound f n, length-take (size (f .class) (kept f n)) bs))
     go false e = omega arith
 
 fields-fit : (fs : List Format) (bm cs bs : List ℕ) → fieldsFault fs bm cs bs ≡ 0 → length (fieldsBytes fs bm cs bs) ≤ widthsOf fs
@@ -57,16 +57,17 @@ message-fits m s h =
 
 -- with room for the largest, a field is refused for its count or its contents alone
 put-fault : (f : Format) (n : ℕ) (bs o : List ℕ) → room f ≤ length bs → width f ≤ length o
-    → putFault f n bs o ≡ cond (allowed f n) (fault (f .class) n (take (size (f .class) n) bs)) 7
-unfolding putFault
-put-fault f n bs o hb ho = go (allowed f n) refl
-  where
-    go : (t : Bool) → allowed f n ≡ t → putFault f n bs o ≡ cond t (fault (f .class) n (take (size (f .class) n) bs)) 7
-    go true e = let s = size-bound f n e in rw (e, le-ltb (length bs) (size (f .class) n) (omega arith), le-ltb (length o) (skip (f .prefix) + size (f .class) n) (omega arith))
-    go false e = rw e
+    → putFault f n bs o ≡ cond (stands f n) (fault (f .class) (kept f n) (take (size (f .class) (kept f n)) bs)) 7
+unfolding putFault heldFault
+put-fault f n bs o hb ho =
+    let s = kept-bound f n in
+    rw (
+      le-ltb (length bs) (size (f .class) (kept f n)) (omega arith),
+      le-ltb (length o) (skip (f .prefix) + size (f .class) (kept f n)) (omega arith),
+    )
 
 -- what code counts with at place k
-pub row-fits : {k : ℕ} → k < rows → Fits w64 (k * 5) × Fits w64 (k * 2) × Fits w64 (k + 1)
+pub row-fits : {k : ℕ} → k < rows → Fits w64 (k * 6) × Fits w64 (k * 2) × Fits w64 (k + 1)
 row-fits h = (omega arith, omega arith, omega arith)
 
 pub row-less : {k : ℕ} → k < rows → rows - (k + 1) < rows - k
@@ -120,7 +121,7 @@ module _ {bm cs bs : List ℕ} {most k at : ℕ} {out : List ℕ} {f : Format} (
 
   module _ {t : Bool} {s : ℕ} {p : Placed} {y : List ℕ} (q : t ≡ names bm (f .number)) (e : t ≡ true) (st : Place bs k s)
       (w : Placing (putFault f (getD cs k 0) (take (rooms - s) (drop s bs)) (take (length out - at) (drop at out)))
-      (fieldBytes f (getD cs k 0) (take (size (f .class) (getD cs k 0)) (take (rooms - s) (drop s bs)))) p y) where
+      (fieldBytes f (kept f (getD cs k 0)) (take (size (f .class) (kept f (getD cs k 0))) (take (rooms - s) (drop s bs)))) p y) where
     same : r .from ≡ s
     same = omega (arith, r .place .rest, st .rest)
 

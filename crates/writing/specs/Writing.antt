@@ -6,7 +6,7 @@ use lib.Dec.{ltb, eqb}
 use lib.ListN.{length, getD, take, drop}
 use Rattle.field.specs.Table.{among, indicators, formats}
 use Rattle.field.specs.Bitmap.{names, listed}
-use Rattle.field.specs.Contents.{size, room, allowed, fault}
+use Rattle.field.specs.Contents.{size, room, stands, kept, fault}
 use Rattle.field.specs.declared.Format.{Format}
 use Rattle.span.specs.Span.{fieldBytes}
 use Rattle.message.specs.Message.{largest}
@@ -18,7 +18,7 @@ use Rattle.writing.specs.declared.Writing.the-variants.{Written, Refused
 -- what a field of n digits or bytes, with bs at its place, is refused for: length before contents; 0 for nothing
 unfoldable pub fieldFault : Format → List ℕ → ℕ → List ℕ → ℕ
 fieldFault f bm n bs =
-    cond (names bm (f .number)) (cond (allowed f n) (fault (f .class) n (take (size (f .class) n) bs)) 7) 0
+    cond (names bm (f .number)) (cond (stands f n) (fault (f .class) (kept f n) (take (size (f .class) (kept f n)) bs)) 7) 0
 
 -- the first fault of the fields of a table, ascending
 unfoldable pub fieldsFault : List Format → List ℕ → List ℕ → List ℕ → ℕ
@@ -28,9 +28,9 @@ fieldsFault (f ∷ fs) bm cs bs =
       (fieldsFault fs bm (drop 1 cs) (drop (room f) bs))
       (fieldFault f bm (getD cs 0 0) bs)
 
--- the bytes of a field, none where the bitmap does not name it
+-- the bytes of a field, none where the bitmap does not name it; key material of another length has none but those of a length 0
 unfoldable pub namedBytes : Format → List ℕ → ℕ → List ℕ → List ℕ
-namedBytes f bm n bs = cond (names bm (f .number)) (fieldBytes f n (take (size (f .class) n) bs)) []
+namedBytes f bm n bs = cond (names bm (f .number)) (fieldBytes f (kept f n) (take (size (f .class) (kept f n)) bs)) []
 
 unfoldable pub fieldsBytes : List Format → List ℕ → List ℕ → List ℕ → List ℕ
 fieldsBytes [] bm cs bs = []

@@ -37,8 +37,8 @@ returns c = rw (c .before .before .before .before .before .parse .ensures, c .be
 enum-told : tie.Need-enum-told
 enum-told c = search needs
 
-named-requires : tie.Need-named-requires
-named-requires c κs = search needs
+is-judged-requires : tie.Need-is-judged-requires
+is-judged-requires c κs = search needs
 
 indicator-in-requires : tie.Need-indicator-in-requires
 indicator-in-requires c κs = search needs
@@ -58,7 +58,7 @@ returns-2 c =
 returns-3 : tie.Need-returns-3
 returns-3 c =
     rw (c .before .before .before .before .before .before .before .parse .ensures, c .before .before .before .enum-told .given .1)
-    (ap (λ (r : Reading). r .outcome) (sym (accepted-plain _ (sym (c .before .named .ensures) ∙ c .if1 .left))))
+    (ap (λ (r : Reading). r .outcome) (sym (accepted-plain _ (sym (c .before .is-judged .ensures) ∙ c .if1 .left))))
 
 pub outcome-of-spec : {M : Type 1} → statement M
 outcome-of-spec =
@@ -71,7 +71,7 @@ outcome-of-spec =
     enum-known-o
     returns
     enum-told
-    named-requires
+    is-judged-requires
     indicator-in-requires
     judged-requires
     returns-2

@@ -42,8 +42,8 @@ enum-told c = search needs
 indicator-in-requires : tie.Need-indicator-in-requires
 indicator-in-requires c κs = search needs
 
-named-requires : tie.Need-named-requires
-named-requires c κs = search needs
+is-judged-requires : tie.Need-is-judged-requires
+is-judged-requires c κs = search needs
 
 judged-requires : tie.Need-judged-requires
 judged-requires c κs = search needs
@@ -62,7 +62,7 @@ returns-3 c =
       c .before .before .before .before .before .before .before .before .parse .ensures,
       c .before .before .before .before .enum-told .given .1,
       ← c .before .before .before .indicator-in .ensures,
-    ) (sym (accepted-plain _ (sym (c .before .named .ensures) ∙ c .if1 .left)))
+    ) (sym (accepted-plain _ (sym (c .before .is-judged .ensures) ∙ c .if1 .left)))
 
 pub read-spec : {M : Type 1} → statement M
 read-spec =
@@ -77,7 +77,7 @@ read-spec =
     returns
     enum-told
     indicator-in-requires
-    named-requires
+    is-judged-requires
     judged-requires
     returns-2
     returns-3)

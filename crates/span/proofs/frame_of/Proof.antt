@@ -1,5 +1,5 @@
 -- `span::frame_of` meets its contract.
-use mathlib.Core.Path.{_≡_, sym, _∙_}
+use mathlib.Core.Path.{sym, _∙_}
 use borrow.Author.Needs.{needs}
 use Rattle.span.proofs.Frame.{frame-absent}
 use Rattle.span.proofs.frame_of.Statement.{statement}
@@ -29,7 +29,7 @@ prefixed-at-requires-2 c κs = search needs
 returns : tie.Need-returns
 returns c =
     let at-enum-told = c .before .before .enum-told in
-    c .sized-at .ensures ∙ rw (c .before .wide .ensures) (sym (frame-absent _ _ (at-enum-told .given .1)))
+    c .sized-at .ensures ∙ rw (c .before .wide .ensures .0) (sym (frame-absent _ _ (at-enum-told .given .1)))
 
 returns-2 : tie.Need-returns-2
 returns-2 c = search needs

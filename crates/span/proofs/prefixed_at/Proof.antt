@@ -52,7 +52,7 @@ returns-2 c =
     let at-is-packed = c .before .before .before .before .before .is-packed in
     let at-if2 = c .before .before .before .before .if2 in
     let at-count-in = c .before .before .count-in in
-    rw (← at-skip-of .ensures, le-ltb _ _ (at-if1 .left), sym (at-is-packed .ensures) ∙ at-if2 .taken, ← at-count-in .ensures)
+    rw (← at-skip-of .ensures, le-ltb _ _ (at-if1 .left), sym (at-is-packed .ensures) ∙ at-if2 .taken, ← at-count-in .ensures .0)
     (c .sized-at .ensures ∙ rw tail-part)
 
 returns-3 : tie.Need-returns-3

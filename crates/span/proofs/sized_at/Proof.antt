@@ -51,9 +51,12 @@ returns-2 c =
       c .skip-of .ensures,
     )
 
+passed-at-requires : tie.Need-passed-at-requires
+passed-at-requires c κs = search needs
+
 returns-3 : tie.Need-returns-3
 unfolding sizedAt
-returns-3 c = rw (sym (c .before .is-allowed .ensures) ∙ c .if1 .left)
+returns-3 c = rw (sym (c .before .before .is-allowed .ensures) ∙ c .before .if1 .left) (c .passed-at .ensures)
 
 pub sized-at-spec : {M : Type 1} → statement M
 sized-at-spec =
@@ -65,4 +68,5 @@ sized-at-spec =
     returns
     skip-of-requires
     returns-2
+    passed-at-requires
     returns-3)
