@@ -6,3 +6,4 @@ pub mod Messages
 pub mod Readable
 pub mod Order
 pub mod WriteOrder
+pub mod Keys

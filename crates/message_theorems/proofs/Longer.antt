@@ -11,9 +11,9 @@ use lib.Seq.{take-append-le, drop-append-le}
 use borrow.Author.Tests.{le-ltb, ltb-false, ne-eqb}
 use Rattle.digits.specs.Digits.{isPacked}
 use Rattle.field.specs.Bitmap.{names}
-use Rattle.field.specs.Contents.{size, room, skip, allowed}
+use Rattle.field.specs.Contents.{size, room, skip, allowed, late}
 use Rattle.field.specs.declared.Format.{Format}
-use Rattle.span.specs.Span.{countIn, contentsAt, spanAt, span}
+use Rattle.span.specs.Span.{countIn, passedAt, contentsAt, spanAt, span}
 use Rattle.span.specs.declared.Span.{Span}
 use Rattle.span.specs.declared.Span.the-variants.{Held, Refused}
 use Rattle.span.proofs.Held.{refused-held, span-fits}
@@ -22,12 +22,23 @@ use Rattle.reading.specs.Reading.{Fields, bad, good, prepend, afterSpan, readFi
 use Rattle.message_theorems.proofs.Fields.{prepend-good}
 
 -- what is found at the front of s stands whatever follows s, but for 3
+passed-stands : (f : Format) (n : ℕ) (s t : List ℕ) → (passedAt f n s ≡ Refused 3 → ⊥) → passedAt f n (s ++ t) ≡ passedAt f n s
+unfolding passedAt
+passed-stands f n s t h = go (late f) refl (ltb (length s) n) refl
+  where
+    go : (a : Bool) → late f ≡ a → (b : Bool) → ltb (length s) n ≡ b → passedAt f n (s ++ t) ≡ passedAt f n s
+    go false e b g = rw e
+    go true e true g = absurd (h (rw (e, g)))
+    go true e false g =
+        let l : n ≤ length s = ltb-false (length s) n g in
+        rw (e, g, le-ltb (length (s ++ t)) n (rw length-append (omega arith)))
+
 contents-stand : (f : Format) (n : ℕ) (s t : List ℕ) → (contentsAt f n s ≡ Refused 3 → ⊥) → contentsAt f n (s ++ t) ≡ contentsAt f n s
 unfolding contentsAt
 contents-stand f n s t h = go (allowed f n) refl (ltb (length s) (size (f .class) n)) refl
   where
     go : (a : Bool) → allowed f n ≡ a → (b : Bool) → ltb (length s) (size (f .class) n) ≡ b → contentsAt f n (s ++ t) ≡ contentsAt f n s
-    go false e b g = rw e
+    go false e b g = rw e (passed-stands f n s t (λ q. h (rw e q)))
     go true e true g = absurd (h (rw (e, g)))
     go true e false g =
         let l : size (f .class) n ≤ length s = ltb-false (length s) (size (f .class) n) g in

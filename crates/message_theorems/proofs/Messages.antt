@@ -1,30 +1,36 @@
 -- The theorems on whole messages.
-use mathlib.Core.Path.{_≡_, refl, ap, sym}
+use mathlib.Core.Path.{_≡_, refl, ap, sym, _∙_}
 use mathlib.Core.List.{List, [], _∷_, _++_}
-use mathlib.Core.Bool.{Bool, true, false, cond}
+use mathlib.Core.Bool.{Bool, true, false, cond, not, _&&_, _||_, and-true, and-false, and-eq-true-iff}
 use Prim.Native.Nat.{ℕ, _+_, _*_, _/_, _%_, _≤_}
 use native.Mathlib.Nat.{not-suc-le-zero}
 use native.Mathlib.Omega.{arith}
-use lib.Dec.{ltb, eqb}
+use native.Mathlib.Decide.{ℕ-discrete}
+use lib.Dec.{leb, ltb, eqb}
 use lib.ListN.{length, getD, take, drop, length-append, take-append-drop}
 use lib.Seq.{take-at, drop-at}
-use borrow.Author.Tests.{le-ltb, ltb-false, eqb-true}
-use Rattle.field.specs.Table.{among, indicators, formats}
-use Rattle.field.specs.Bitmap.{listed}
-use Rattle.message.specs.Message.{Shaped, largest}
+use borrow.Author.Tests.{le-ltb, ltb-false, eqb-true, eq-eqb, ne-eqb}
+use Rattle.field.specs.Table.{among, indicators, keyMaterial, formats}
+use Rattle.field.specs.Bitmap.{names, listed}
+use Rattle.field.specs.Contents.{keyLengths, allowed, late}
+use Rattle.field.specs.Contents as field
+use Rattle.field.specs.declared.Format.{Format}
+use Rattle.field.proofs.Formats.{every}
+use Rattle.message.specs.Message.{Shaped, fieldIn, fieldOf, largest}
 use Rattle.message.specs.Late.{lateFault, SameNamed}
 use Rattle.message.specs.declared.Message.{Message}
 use Rattle.reading.specs.Reading.{Fields, bad, good, readFields, refused, accepted, assembled, indicatorIn, bitmapOf, readMessage}
 use Rattle.reading.specs.declared.Reading.{Reading}
 use Rattle.reading.specs.declared.ReadOutcome.the-variants.{Read, Refused as Not}
 use Rattle.message.proofs.Places.{rooms-formats}
-use Rattle.message.proofs.Late.{late-named}
+use Rattle.message.proofs.Late.{late-named, late-kept}
 use Rattle.writing.specs.Writing.{fieldsFault, fieldsBytes, messageBytes, messageFault, written, writeMessage}
 use Rattle.writing.specs.declared.Writing.the-variants.{Written, Refused}
 use Rattle.writing.proofs.Faults.{fault-inversion}
 use Rattle.writing.proofs.Putting.{message-fits}
 use Rattle.message_theorems.specs.RoundTrip.{Bytes, ReadsBack, WrittenReadsBack, ReadWritesBack, NeverLonger}
-use Rattle.message_theorems.proofs.Fields.{allWellFormed, keptCounts, keptContents, fields-back, kept-fields, Again, fields-again}
+use Rattle.message_theorems.proofs.Fields.{allWellFormed, keptCounts, keptContents, fields-back, rowKept, kept-fields, allLateKept, Again, fields-again}
+use Rattle.message_theorems.proofs.Numbers.{among-each}
 
 pub formats-well-formed : allWellFormed formats ≡ true
 unfolding formats
@@ -72,15 +78,85 @@ kept m =
 abbrev pub faultOf : Message → ℕ
 faultOf m = fieldsFault formats (m .bitmap) (m .counts) (m .contents)
 
+-- the lengths of key material are judged late, and no others
+abbrev lateIsKeys : Format → Bool
+lateIsKeys f = not (late f) || eqb (f .number) 62
+
+rows-kept : (fs : List Format) (cs : List ℕ) (n : ℕ) → every lateIsKeys fs ≡ true → (n ≡ 62 → ⊥) → rowKept fs cs n ≡ true
+rows-kept [] cs n h k = refl
+rows-kept (f ∷ fs) cs n h k =
+    let t = and-eq-true-iff (lateIsKeys f) (every lateIsKeys fs) .0 h in
+    go (ℕ-discrete (f .number) n) (late f) (t .0) (rows-kept fs (drop 1 cs) n (t .1) k)
+  where
+    go : Dec (f .number ≡ n) → (b : Bool) → (not b || eqb (f .number) 62) ≡ true → rowKept fs (drop 1 cs) n ≡ true
+        → cond (eqb (f .number) n) (not b || allowed f (getD cs 0 0)) (rowKept fs (drop 1 cs) n) ≡ true
+    go (yes q) true e ih = absurd (k (sym q ∙ eqb-true (f .number) 62 e))
+    go (yes q) false e ih = rw (eq-eqb (f .number) n q)
+    go (no q) b e ih = rw (ne-eqb (f .number) n q) ih
+
+formats-late : every lateIsKeys formats ≡ true
+unfolding formats
+formats-late = refl
+
+-- the lengths of field 62 are those of key material
+pub keys-allowed : (n : ℕ) → allowed (keyMaterial 62) n ≡ among n keyLengths
+unfolding allowed
+keys-allowed n = go (among n keyLengths) refl
+  where
+    go : (b : Bool) → among n keyLengths ≡ b → (leb 24 n && leb n 84 && b) ≡ b
+    go true e = rw (among-each (λ x. leb 24 x) n keyLengths refl e, among-each (λ x. leb x 84) n keyLengths refl e)
+    go false e = and-false (leb 24 n && leb n 84)
+
+pub keys-kept-alike : (n : ℕ) → among (field.kept (keyMaterial 62) n) keyLengths ≡ among n keyLengths
+keys-kept-alike n = rw (keys-allowed n) (go (among n keyLengths) refl)
+  where
+    go : (b : Bool) → among n keyLengths ≡ b → among (cond b n 0) keyLengths ≡ b
+    go true e = e
+    go false e = refl
+
+kept-keys : (m : Message) → names (m .bitmap) 62 ≡ true → among (fieldOf (kept m) 62 .count) keyLengths ≡ among (fieldOf m 62 .count) keyLengths
+unfolding kept fieldIn formats
+kept-keys m e = rw e (keys-kept-alike (fieldOf m 62 .count))
+
 -- it has what the bitmap names, so the late rules judge it alike
-kept-same : (m : Message) → Shaped m → faultOf m ≡ 0 → SameNamed (kept m) m
-unfolding kept
-kept-same m s z =
-    record {
-      indicator = refl;
-      bitmap = refl;
-      fields = kept-fields formats (m .bitmap) (m .counts) (m .contents) (omega (arith, rooms-formats, s .contents-length)) z;
-    }
+module _ (m : Message) (s : Shaped m) (z : faultOf m ≡ 0) where
+  kept-field : (n : ℕ) → names (m .bitmap) n ≡ true → rowKept formats (m .counts) n ≡ true → fieldOf (kept m) n ≡ fieldOf m n
+  unfolding kept
+  kept-field = kept-fields formats (m .bitmap) (m .counts) (m .contents) (omega (arith, rooms-formats, s .contents-length)) z
+
+  kept-same : SameNamed (kept m) m
+  unfolding kept
+  kept-same =
+      record {
+        indicator = refl;
+        bitmap = refl;
+        fields = λ n e k. kept-field n e (rows-kept formats (m .counts) n formats-late k);
+        keys = kept-keys m;
+      }
+
+-- what the late rules keep of the table is field 62
+keys-row : (m : Message) → rowKept formats (m .counts) 62 ≡ allowed (keyMaterial 62) (fieldOf m 62 .count)
+unfolding formats fieldIn
+keys-row m = refl
+
+lates-row : (m : Message)
+    → allLateKept formats (m .bitmap) (m .counts) ≡ (not (names (m .bitmap) 62) || allowed (keyMaterial 62) (fieldOf m 62 .count))
+unfolding formats fieldIn
+lates-row m = rw and-true
+
+-- in a message that breaks no late rule each row is kept
+pub row-kept : (m : Message) → lateFault m ≡ 0 → (n : ℕ) → names (m .bitmap) n ≡ true → rowKept formats (m .counts) n ≡ true
+row-kept m l n e = go (ℕ-discrete n 62)
+  where
+    go : Dec (n ≡ 62) → rowKept formats (m .counts) n ≡ true
+    go (yes q) =
+        let i : names (m .bitmap) 62 ≡ true = rw (← q) e in
+        let k : among (fieldOf m 62 .count) keyLengths ≡ true = rw i at (late-kept m l .keys) in
+        rw (q, keys-row m, keys-allowed (fieldOf m 62 .count)) k
+    go (no q) = rows-kept formats (m .counts) n formats-late q
+
+late-all-kept : (m : Message) → lateFault m ≡ 0 → allLateKept formats (m .bitmap) (m .counts) ≡ true
+late-all-kept m l = lates-row m ∙ rw (keys-allowed (fieldOf m 62 .count)) (late-kept m l .keys)
 
 pub kept-late : (m : Message) → Shaped m → faultOf m ≡ 0 → lateFault (kept m) ≡ lateFault m
 kept-late m s z = late-named (kept m) m (kept-same m s z)
@@ -114,16 +190,22 @@ module _ (m : Message) (s : Shaped m) where
       let w = fault-inversion m z in
       rw (bytes-head, w .indicator-listed, w .fields-listed, fields-kept (w .no-fault), kept-late m s (w .no-fault), w .late)
 
-kept-reads : (m : Message) → Shaped m → faultOf m ≡ 0 → ReadsBack m (record { outcome = Read; message = kept m })
-kept-reads m s z =
+kept-reads : (m : Message) → Shaped m → faultOf m ≡ 0 → lateFault m ≡ 0 → ReadsBack m (record { outcome = Read; message = kept m })
+kept-reads m s z l =
     let k = kept-same m s z in
-    record { outcome = refl; indicator = k .indicator; bitmap = k .bitmap; fields = k .fields }
+    record {
+      outcome = refl;
+      indicator = k .indicator;
+      bitmap = k .bitmap;
+      fields = λ n e. kept-field m s z n e (row-kept m l n e);
+    }
 
 pub written-reads-back : WrittenReadsBack
 written-reads-back m o k s q =
     let w = is-written m o k q in
     let t : take k ((writeMessage m o) .buffer) ≡ messageBytes m = rw (w .buffer) (take-at (messageBytes m) (drop k o) k (sym (w .count))) in
-    rw (t, bytes-read m s (w .no-fault)) (kept-reads m s (fault-inversion m (w .no-fault) .no-fault))
+    let v = fault-inversion m (w .no-fault) in
+    rw (t, bytes-read m s (w .no-fault)) (kept-reads m s (v .no-fault) (v .late))
 
 pub never-longer : NeverLonger
 never-longer m o k s q = let w = is-written m o k q in rw (w .count) (message-fits m s (w .no-fault))
@@ -207,7 +289,7 @@ unfolding messageBytes
 bytes-again s b r =
     let h : (getD s 0 0 * 256 + getD s 1 0) / 256 ≡ getD s 0 0 = omega (arith, b 0, b 1) in
     let l : (getD s 0 0 * 256 + getD s 1 0) % 256 ≡ getD s 1 0 = omega (arith, b 0, b 1) in
-    rw (h, l, r .again .bytes) (split-ten s (r .long))
+    rw (h, l, r .again .bytes (late-all-kept (messageFrom (indicatorIn s) (bitmapOf s) (r .counts) (r .contents)) (r .late))) (split-ten s (r .long))
 
 pub read-writes-back : ReadWritesBack
 unfolding writeMessage messageFault

@@ -11,12 +11,12 @@ use borrow.Author.Tests.{eqb-false, ne-eqb}
 use Rattle.digits.specs.Digits.{isPacked}
 use Rattle.field.specs.Table.{among}
 use Rattle.field.specs.Bitmap.{names}
-use Rattle.field.specs.Contents.{size, room, skip, allowed, allPrintable, fault}
+use Rattle.field.specs.Contents.{size, room, skip, allowed, late, stands, kept, allPrintable, fault}
 use Rattle.field.specs.declared.Class.{Class}
 use Rattle.field.specs.declared.Class.the-variants.{Digits, Printable, Any}
 use Rattle.field.specs.declared.Format.{Format}
 use Rattle.field.proofs.Formats.{every}
-use Rattle.span.specs.Span.{countIn, contentsAt, spanAt, span}
+use Rattle.span.specs.Span.{countIn, passedAt, contentsAt, spanAt, span}
 use Rattle.span.specs.declared.Span.{Span}
 use Rattle.span.specs.declared.Span.the-variants.{Held, Refused}
 use Rattle.message.specs.Build.{padded}
@@ -67,7 +67,7 @@ contents-fault Any n b = refl
 field-judged : (f : Format) (bm : List ℕ) (n : ℕ) (bs : List ℕ) → faultJudged (fieldFault f bm n bs) ≡ true
 unfolding fieldFault
 field-judged f bm n bs =
-    chosen-number faultJudged (names bm (f .number)) _ 0 (chosen-number faultJudged (allowed f n) _ 7 (contents-fault (f .class) n (take (size (f .class) n) bs)) refl) refl
+    chosen-number faultJudged (names bm (f .number)) _ 0 (chosen-number faultJudged (stands f n) _ 7 (contents-fault (f .class) (kept f n) (take (size (f .class) (kept f n)) bs)) refl) refl
 
 pub fault-judged : (fs : List Format) (bm cs bs : List ℕ) → faultJudged (fieldsFault fs bm cs bs) ≡ true
 unfolding fieldsFault
@@ -84,14 +84,18 @@ refused-fault x n p z h = go (eqb x 0) refl
     go false e =
         among-each (λ y. spanJudged (Refused y)) x (6 ∷ 7 ∷ 8 ∷ []) refl (among-others x (6 ∷ 7 ∷ 8 ∷ []) h (eqb-false x 0 e))
 
+passed-judged : (f : Format) (n : ℕ) (s : List ℕ) → spanJudged (passedAt f n s) ≡ true
+unfolding passedAt
+passed-judged f n s = chosen-span (late f) _ (Refused 7) (chosen-span (ltb (length s) n) (Refused 3) _ refl refl) refl
+
 contents-judged : (f : Format) (n : ℕ) (s : List ℕ) → spanJudged (contentsAt f n s) ≡ true
 unfolding contentsAt
 contents-judged f n s =
-    chosen-span (allowed f n) _ (Refused 7)
+    chosen-span (allowed f n) _ (passedAt f n s)
     (chosen-span (ltb (length s) (size (f .class) n)) (Refused 3) _ refl
     (refused-fault (fault (f .class) n (take (size (f .class) n) s)) n (skip (f .prefix)) (size (f .class) n)
     (contents-fault (f .class) n (take (size (f .class) n) s))))
-    refl
+    (passed-judged f n s)
 
 span-judged : (f : Format) (bm s : List ℕ) → spanJudged (span f bm s) ≡ true
 unfolding span spanAt

@@ -49,13 +49,19 @@ type-before-bitmap =
 refused-equal : {a b : ℕ} → Refused a ≡ Refused b → a ≡ b
 refused-equal q = cc
 
--- the rule on a message as a whole is 23
-accepted-late : (m : Message) (n : ℕ) → (accepted m) .outcome ≡ Refused n → n ≡ 23
+-- the rules on a message as a whole are 23 and 24
+abbrev isLate : ℕ → Bool
+isLate n = among n (23 ∷ 24 ∷ [])
+
+late-high : (n : ℕ) → isLate n ≡ true → n ≤ 9 → ⊥
+late-high n h l = omega (arith, leb-true 23 n (among-each (λ x. leb 23 x) n (23 ∷ 24 ∷ []) refl h))
+
+accepted-late : (m : Message) (n : ℕ) → (accepted m) .outcome ≡ Refused n → isLate n ≡ true
 accepted-late m n = go (eqb (lateFault m) 0) refl
   where
-    go : (b : Bool) → eqb (lateFault m) 0 ≡ b → (cond b (record { outcome = Read; message = m }) (refused (lateFault m))) .outcome ≡ Refused n → n ≡ 23
+    go : (b : Bool) → eqb (lateFault m) 0 ≡ b → (cond b (record { outcome = Read; message = m }) (refused (lateFault m))) .outcome ≡ Refused n → isLate n ≡ true
     go true e q = absurd (not-read (sym q))
-    go false e q = sym (refused-equal q) ∙ late-number m (eqb-false (lateFault m) 0 e)
+    go false e q = rw (← refused-equal q) (late-number m (eqb-false (lateFault m) 0 e))
 
 -- a refusal's number
 abbrev isRule : ℕ → Bool
@@ -70,7 +76,7 @@ head-judged i bm x n = go (among i indicators) (listed bm) x
     go false b x h q = rw (← refused-equal q)
     go true false x h q = rw (← refused-equal q)
     go true true (bad e) h q = among-each isRule n (3 ∷ 6 ∷ 7 ∷ 8 ∷ 9 ∷ []) refl (rw (refused-equal q) at h)
-    go true true (good cs bs) h q = rw (accepted-late _ n q)
+    go true true (good cs bs) h q = among-each isRule n (23 ∷ 24 ∷ []) refl (accepted-late _ n q)
 
 -- a refusal stands where the fields' refusal does
 head-stands : (i : ℕ) (bm : List ℕ) (x y : Fields) (n : ℕ) → n ≤ 9 → (x ≡ bad n → y ≡ bad n)
@@ -83,7 +89,7 @@ head-stands i bm x y n l h = go (among i indicators) (listed bm) x h
     go false b x h q = q
     go true false x h q = q
     go true true (bad e) h q = rw (h (ap bad (refused-equal q)))
-    go true true (good cs bs) h q = absurd (omega (arith, accepted-late _ n q))
+    go true true (good cs bs) h q = absurd (late-high n (accepted-late _ n q) l)
 
 -- what a reading that no rule up to 9 refuses says of its fields
 record HeadGood (i : ℕ) (bm : List ℕ) (x : Fields) : Type 0 where
@@ -175,7 +181,7 @@ cut-is-three b k w h = go (decLt k 10)
         (λ x y bm s l. cut-after x y bm s l (getD b k 0) (drop (suc k) b)) (take k b) (omega (arith, lk)) (rw split w)
 
 pub form-after-end : FormAfterEnd
-form-after-end b x q = longer-is-nine b x [] (λ n h p. omega (arith, refused-equal (sym p ∙ q)))
+form-after-end b x n k q = longer-is-nine b x [] (λ i h p. late-high n k (omega (arith, refused-equal (sym p ∙ q))))
 
 pub read-judged-by : ReadJudgedBy
 read-judged-by b n q = go (decLt (length b) 10)

@@ -13,7 +13,7 @@ use Rattle.digits.specs.Digits.{isPacked}
 use Rattle.digits.proofs.Lists.{all-at}
 use Rattle.field.specs.Table.{among, fixed, formats, numbers}
 use Rattle.field.specs.Bitmap.{bit, names, listedAt, listed}
-use Rattle.field.specs.Contents.{size, room, allowed, allPrintable, fault}
+use Rattle.field.specs.Contents.{size, room, allowed, late, allPrintable, fault}
 use Rattle.field.specs.declared.Class.{Class}
 use Rattle.field.specs.declared.Class.the-variants.{Digits, Printable}
 use Rattle.field.specs.declared.Format.{Format}
@@ -21,41 +21,43 @@ use Rattle.field.proofs.Contents.{allowed-bounds, digits-packed}
 use Rattle.field.proofs.Formats.{length-formats}
 use Rattle.field.proofs.Masks.{bit-past}
 use Rattle.span.proofs.Held.{size-bound}
-use Rattle.elements.specs.Elements.{elementsInForm}
 use Rattle.message.specs.Message.{Shaped, Field, fieldIn, fieldOf}
 use Rattle.message.specs.Located.{located, formAt, formatOf}
 use Rattle.message.specs.Late.{lateFault}
 use Rattle.message.specs.declared.Message.{Message}
-use Rattle.message.proofs.Late.{late-broken}
+use Rattle.message.proofs.Late.{late-kept}
 use Rattle.message.proofs.Places.{roomsOf, rooms-formats}
 use Rattle.reading.specs.Reading.{readMessage}
 use Rattle.reading.specs.declared.ReadOutcome.the-variants.{Read}
 use Rattle.writing.specs.Writing.{fieldFault, fieldsFault}
 use Rattle.writing.proofs.Faults.{field-sound, fields-sound}
-use Rattle.message_theorems.proofs.Messages.{is-read}
+use Rattle.message_theorems.proofs.Fields.{rowKept, both-allow}
+use Rattle.message_theorems.proofs.Messages.{row-kept, is-read}
 use Rattle.message_theorems.specs.Readable.{Keeps, ReadIsListed, ReadKeepsFormats, ReadKeepsForm, ReadIsShaped}
 
 -- a table's fields with no fault: each that is named is as its format says
 fields-keep : (fs : List Format) (bm cs bs : List ℕ) → roomsOf fs ≤ length bs → fieldsFault fs bm cs bs ≡ 0
-    → (n row from : ℕ) → names bm n ≡ true → Keeps (formAt n (located fs n row from)) (fieldIn fs cs bs n)
+    → (n row from : ℕ) → names bm n ≡ true → rowKept fs cs n ≡ true → Keeps (formAt n (located fs n row from)) (fieldIn fs cs bs n)
 unfolding fieldIn located fieldsFault isPacked allowed
-fields-keep [] bm cs bs l z n row from e = record { allows = refl; size-is = refl; no-fault = refl }
-fields-keep (f ∷ fs) bm cs bs l z n row from e =
+fields-keep [] bm cs bs l z n row from e k = record { allows = refl; size-is = refl; no-fault = refl }
+fields-keep (f ∷ fs) bm cs bs l z n row from e k =
     let j = fields-sound f fs bm cs bs z in
     go (j .0) (fields-keep fs bm (drop 1 cs) (drop (room f) bs) (rw length-drop (omega arith)) (j .1) n (row + 1) (from + room f) e) (ℕ-discrete (f .number) n)
   where
     go : fieldFault f bm (getD cs 0 0) bs ≡ 0
-        → Keeps (formAt n (located fs n (row + 1) (from + room f))) (fieldIn fs (drop 1 cs) (drop (room f) bs) n) → Dec (f .number ≡ n)
+        → (rowKept fs (drop 1 cs) n ≡ true → Keeps (formAt n (located fs n (row + 1) (from + room f))) (fieldIn fs (drop 1 cs) (drop (room f) bs) n))
+        → Dec (f .number ≡ n)
         → Keeps (formAt n (located (f ∷ fs) n row from)) (fieldIn (f ∷ fs) cs bs n)
     go y ih (yes q) =
         let r = field-sound f bm (getD cs 0 0) bs (rw q e) y in
+        let a = both-allow (allowed f (getD cs 0 0)) (late f) (r .stands-there) (rw (eq-eqb (f .number) n q) at k) in
         rw (eq-eqb (f .number) n q)
         (record {
-          allows = r .allows;
-          size-is = length-take-le (size (f .class) (getD cs 0 0)) bs (omega (arith, size-bound f (getD cs 0 0) (r .allows)));
-          no-fault = r .no-fault;
+          allows = a;
+          size-is = length-take-le (size (f .class) (getD cs 0 0)) bs (omega (arith, size-bound f (getD cs 0 0) a));
+          no-fault = rw a at (r .no-fault);
         })
-    go y ih (no q) = rw (ne-eqb (f .number) n q) ih
+    go y ih (no q) = rw (ne-eqb (f .number) n q) (ih (rw (ne-eqb (f .number) n q) at k))
 
 -- a message that was read
 record Accepted (m : Message) : Type 0 where
@@ -87,17 +89,10 @@ pub read-keeps-formats : ReadKeepsFormats
 read-keeps-formats s q n e =
     let r = accepted s q in
     let m = (readMessage s) .message in
-    fields-keep formats (m .bitmap) (m .counts) (m .contents) (omega (arith, rooms-formats, r .shape .contents-length)) (r .no-fault) n 0 0 e
+    fields-keep formats (m .bitmap) (m .counts) (m .contents) (omega (arith, rooms-formats, r .shape .contents-length)) (r .no-fault) n 0 0 e (row-kept m (r .late) n e)
 
 pub read-keeps-form : ReadKeepsForm
-read-keeps-form s q e = go (elementsInForm (fieldOf m 55 .bytes)) refl
-  where
-    m : Message
-    m = (readMessage s) .message
-
-    go : (b : Bool) → elementsInForm (fieldOf m 55 .bytes) ≡ b → b ≡ true
-    go true f = refl
-    go false f = absurd (omega (arith, accepted s q .late, late-broken m e f))
+read-keeps-form s q e = rw e at (late-kept ((readMessage s) .message) (accepted s q .late) .chip)
 
 -- a field that is named has a bit of the bitmap
 pub bit-listed : (bm : List ℕ) → length bm ≡ 8 → listed bm ≡ true → (n : ℕ) → names bm n ≡ true → among n (numbers formats) ≡ true

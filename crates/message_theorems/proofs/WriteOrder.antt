@@ -12,9 +12,10 @@ use borrow.Author.Tests.{lt-ltb, le-ltb, eqb-true, eqb-false, ne-eqb}
 use Rattle.digits.specs.Digits.{isPacked}
 use Rattle.field.specs.Table.{among, indicators, formats}
 use Rattle.field.specs.Bitmap.{names, listed}
-use Rattle.field.specs.Contents.{size, room, skip, allowed, fault}
+use Rattle.field.specs.Contents.{size, room, skip, allowed, late, fault}
 use Rattle.field.specs.declared.Class.the-variants.{Any}
 use Rattle.field.specs.declared.Format.{Format}
+use Rattle.field.proofs.Formats.{every}
 use Rattle.span.specs.Span.{countIn, contentsAt, spanAt, span, fieldBytes}
 use Rattle.span.specs.declared.Span.the-variants.{Refused as Unheld}
 use Rattle.span.proofs.Held.{span-held, size-bound}
@@ -30,7 +31,7 @@ use Rattle.reading.specs.declared.ReadOutcome.the-variants.{Read, Refused as Un
 use Rattle.writing.specs.Writing.{fieldFault, fieldsFault, namedBytes, fieldsBytes, messageBytes, contentsFault, messageFault, written, writeMessage}
 use Rattle.writing.specs.declared.Writing.the-variants.{Written, Refused}
 use Rattle.message_theorems.specs.Order.{WriteRefused, SmallBufferIsOne, WriteTypeBeforeBitmap, writingRules, WriteJudgedBy, asRead, WriteJudgesAsRead}
-use Rattle.message_theorems.proofs.Fields.{allWellFormed, turn-back}
+use Rattle.message_theorems.proofs.Fields.{allWellFormed, none-in-form-at, turn-back}
 use Rattle.message_theorems.proofs.Messages.{refused-written, kept, faultOf, kept-late, formats-well-formed, afterHead, bytes-head, fields-kept}
 use Rattle.message_theorems.proofs.Numbers.{among-each, among-others, chosen-number, fault-judged}
 use Rattle.message_theorems.proofs.Order.{not-listed}
@@ -46,15 +47,15 @@ take-length f n b rest =
 
 -- the format of a field that may hold bytes of every value
 anyOf : Format → Format
-anyOf f = record { number = f .number; class = Any; prefix = f .prefix; low = f .low; high = f .high }
+anyOf f = record { number = f .number; class = Any; prefix = f .prefix; low = f .low; high = f .high; lengths = f .lengths }
 
 -- a length that is written is read, whatever the contents
-length-back : (f : Format) (n : ℕ) → wellFormed f ≡ true → allowed f n ≡ true
+pub length-back : (f : Format) (n : ℕ) → wellFormed f ≡ true → allowed f n ≡ true
     → (isPacked (2 * skip (f .prefix)) (fieldBytes f n []) ≡ true) × (countIn (f .prefix) (f .high) (fieldBytes f n []) ≡ n)
 unfolding anyOf allowed fieldBytes
 length-back f n w a =
     let b : List ℕ = replicate n 0 in
-    let h = span-held (anyOf f) (fieldBytes f n b ++ []) (span-back (anyOf f) n b [] w a (length-replicate n 0) refl) in
+    let h = span-held (anyOf f) (fieldBytes f n b ++ []) (span-back (anyOf f) n b [] w a (length-replicate n 0) refl) a in
     (rw (take-length f n b []) at (h .packed), rw (take-length f n b []) at (h .count))
 
 -- a field that is written with a fault in its contents is refused for it
@@ -90,9 +91,13 @@ faulty : (f : Format) (bm : List ℕ) (n : ℕ) (bs : List ℕ) → (fieldFault 
 unfolding fieldFault
 faulty f bm n bs h k = go (names bm (f .number)) refl (allowed f n) refl
   where
+    not-late : names bm (f .number) ≡ true → allowed f n ≡ false → (l : Bool) → late f ≡ l → Faulty f bm n bs
+    not-late p q true e = absurd (h (rw (p, q, e) (none-in-form-at (f .class) bs)))
+    not-late p q false e = absurd (k (rw (p, q, e)))
+
     go : (a : Bool) → names bm (f .number) ≡ a → (b : Bool) → allowed f n ≡ b → Faulty f bm n bs
     go true p true q = record { named = p; allows = q; is-fault = rw (p, q) }
-    go true p false q = absurd (k (rw (p, q)))
+    go true p false q = not-late p q (late f) refl
     go false p b q = absurd (h (rw p))
 
 turn-fault : (f : Format) (bm : List ℕ) (n : ℕ) (bs rest : List ℕ) (next : List ℕ → Fields) → wellFormed f ≡ true → room f ≤ length bs
@@ -103,7 +108,7 @@ turn-fault f bm n bs rest next w l h k =
     let z = size (f .class) n in
     let y = faulty f bm n bs h k in
     let lb : length (take z bs) ≡ z = length-take-le z bs (omega (arith, size-bound f n (y .allows))) in
-    rw (y .named, span-fault f n (take z bs) rest w (y .allows) lb (λ q. h (y .is-fault ∙ q)), y .is-fault)
+    rw (y .named, y .allows, span-fault f n (take z bs) rest w (y .allows) lb (λ q. h (y .is-fault ∙ q)), y .is-fault)
 
 -- fields that are written with a fault are refused for the first
 fields-fault-back : (fs : List Format) (bm cs bs : List ℕ) → allWellFormed fs ≡ true → roomsOf fs ≤ length bs
@@ -111,7 +116,7 @@ fields-fault-back : (fs : List Format) (bm cs bs : List ℕ) → allWellFormed f
 unfolding readFields fieldsBytes fieldsFault
 fields-fault-back [] bm cs bs w l h k = absurd (h refl)
 fields-fault-back (f ∷ fs) bm cs bs w l h k =
-    let wf = simp and-eq-true-iff at w in
+    let wf = and-eq-true-iff (wellFormed f) (allWellFormed fs) .0 w in
     go (eqb x 0) refl (wf .0) (fields-fault-back fs bm (drop 1 cs) (drop (room f) bs) (wf .1) (rw length-drop (omega arith)))
   where
     x : ℕ
@@ -133,12 +138,12 @@ fields-fault-back (f ∷ fs) bm cs bs w l h k =
         rw e (turn-fault f bm (getD cs 0 0) bs rest (readFields fs bm) v (omega arith) (eqb-false x 0 e) (λ q. k (rw e q)))
 
 -- what reading says of a first fault, 0 for none
-abbrev outcomeOf : ℕ → ReadOutcome
+abbrev pub outcomeOf : ℕ → ReadOutcome
 outcomeOf n = cond (eqb n 0) Read (Unread n)
 
 -- the first fault of a message, 0 for none, and the numbers that it is refused by
 abbrev isFault : ℕ → Bool
-isFault n = among n (0 ∷ 4 ∷ 5 ∷ 6 ∷ 7 ∷ 8 ∷ 23 ∷ [])
+isFault n = among n (0 ∷ 4 ∷ 5 ∷ 6 ∷ 7 ∷ 8 ∷ 23 ∷ 24 ∷ [])
 
 abbrev isRule : ℕ → Bool
 isRule n = among n writingRules
@@ -152,7 +157,7 @@ module _ (m : Message) (o : List ℕ) (l : largest ≤ length o) where
   unfolding writeMessage
   fault-refuses n e h = rw (le-ltb (length o) largest l, e, ne-eqb n 0 h)
 
-  as-read : asRead ((writeMessage m o) .outcome) ≡ outcomeOf (messageFault m)
+  pub as-read : asRead ((writeMessage m o) .outcome) ≡ outcomeOf (messageFault m)
   unfolding writeMessage
   as-read = rw (le-ltb (length o) largest l) (go (eqb (messageFault m) 0))
     where
@@ -218,26 +223,37 @@ late-judged-by m = go (ℕ-discrete (lateFault m) 0)
   where
     go : Dec (lateFault m ≡ 0) → isFault (lateFault m) ≡ true
     go (yes z) = rw z
-    go (no h) = rw (late-number m h)
+    go (no h) = among-each isFault (lateFault m) (23 ∷ 24 ∷ []) refl (late-number m h)
 
-message-judged : (m : Message) → isFault (messageFault m) ≡ true
+-- what holds of 4, of 5, of what fields are refused by and of what the late rules give holds of a message's first fault
+pub fault-each : (p : ℕ → Bool) (m : Message) → p 4 ≡ true → p 5 ≡ true → every p (0 ∷ 6 ∷ 7 ∷ 8 ∷ []) ≡ true → p (lateFault m) ≡ true
+    → p (messageFault m) ≡ true
 unfolding messageFault
-message-judged m =
-    chosen-number isFault (among (m .indicator) indicators) _ 4
-    (chosen-number isFault (listed (m .bitmap)) _ 5
-    (chosen-number isFault (eqb (faultOf m) 0) (lateFault m) (faultOf m) (late-judged-by m)
-    (among-each isFault (faultOf m) (0 ∷ 6 ∷ 7 ∷ 8 ∷ []) refl (fault-judged formats (m .bitmap) (m .counts) (m .contents)))) refl) refl
+fault-each p m four five fields l =
+    chosen-number p (among (m .indicator) indicators) _ 4
+    (chosen-number p (listed (m .bitmap)) _ 5
+    (chosen-number p (eqb (faultOf m) 0) (lateFault m) (faultOf m) l
+    (among-each p (faultOf m) (0 ∷ 6 ∷ 7 ∷ 8 ∷ []) fields (fault-judged formats (m .bitmap) (m .counts) (m .contents)))) five) four
 
-pub write-judged-by : WriteJudgedBy
+-- a refusal by another number than 1 is by the message's first fault
+pub first-fault : (m : Message) (o : List ℕ) (n : ℕ) → WriteRefused n m o → (n ≡ 1 → ⊥) → (messageFault m ≡ n) × (n ≡ 0 → ⊥)
 unfolding writeMessage
-write-judged-by m o n = go (ltb (length o) largest) (eqb (messageFault m) 0) refl
+first-fault m o n q h = go (ltb (length o) largest) (eqb (messageFault m) 0) refl q
   where
     go : (a b : Bool) → eqb (messageFault m) 0 ≡ b
         → (cond a (written (Refused 1) o) (cond b (written (Written (length (messageBytes m))) (messageBytes m ++ drop (length (messageBytes m)) o))
         (written (Refused (messageFault m)) o))) .outcome ≡ Refused n
-        → isRule n ≡ true
-    go true b e q = rw (← refused-equal q)
+        → (messageFault m ≡ n) × (n ≡ 0 → ⊥)
+    go true b e q = absurd (h (sym (refused-equal q)))
     go false true e q = absurd (refused-written (sym q))
-    go false false e q =
-        let k = among-others (messageFault m) (4 ∷ 5 ∷ 6 ∷ 7 ∷ 8 ∷ 23 ∷ []) (message-judged m) (eqb-false (messageFault m) 0 e) in
-        among-each isRule n (4 ∷ 5 ∷ 6 ∷ 7 ∷ 8 ∷ 23 ∷ []) refl (rw (refused-equal q) at k)
+    go false false e q = (refused-equal q, λ z. eqb-false (messageFault m) 0 e (refused-equal q ∙ z))
+
+pub write-judged-by : WriteJudgedBy
+write-judged-by m o n q = go (ℕ-discrete n 1)
+  where
+    go : Dec (n ≡ 1) → isRule n ≡ true
+    go (yes e) = rw e
+    go (no h) =
+        let r = first-fault m o n q h in
+        let others : List ℕ = 4 ∷ 5 ∷ 6 ∷ 7 ∷ 8 ∷ 23 ∷ 24 ∷ [] in
+        among-each isRule n others refl (among-others n others (rw (r .0) at (fault-each isFault m refl refl refl (late-judged-by m))) (r .1))

@@ -1,3 +1,4 @@
 pub mod RoundTrip
 pub mod Readable
 pub mod Order
+pub mod Keys

@@ -18,7 +18,7 @@ use Rattle.writing.specs.declared.Writing.the-variants as writing
 -- the fields that document 01 lists
 abbrev pub fieldNumbers : List ℕ
 fieldNumbers =
-    2 ∷ 3 ∷ 4 ∷ 11 ∷ 12 ∷ 13 ∷ 14 ∷ 15 ∷ 22 ∷ 25 ∷ 32 ∷ 37 ∷ 38 ∷ 39 ∷ 41 ∷ 42 ∷ 44 ∷ 48 ∷ 49 ∷ 55 ∷ 60 ∷ 61 ∷ 63 ∷ 64 ∷ []
+    2 ∷ 3 ∷ 4 ∷ 11 ∷ 12 ∷ 13 ∷ 14 ∷ 15 ∷ 22 ∷ 25 ∷ 32 ∷ 37 ∷ 38 ∷ 39 ∷ 41 ∷ 42 ∷ 44 ∷ 48 ∷ 49 ∷ 55 ∷ 60 ∷ 61 ∷ 62 ∷ 63 ∷ 64 ∷ []
 
 -- reading these bytes, or writing this message into this buffer, is refused by n
 abbrev pub ReadRefused : ℕ → List ℕ → Type 0
@@ -54,13 +54,13 @@ LongerIsNine = (b : List ℕ) (x : ℕ) (rest : List ℕ) → Whole b → ReadRe
 abbrev pub CutIsThree : Type 0
 CutIsThree = (b : List ℕ) (k : ℕ) → Whole b → k < length b → ReadRefused 3 (take k b)
 
--- document 02, request 1: 23 comes after 9, so that one byte more hides it
+-- document 02, requests 1 and 3: 23 and 24 come after 9, so that one byte more hides them
 abbrev pub FormAfterEnd : Type 0
-FormAfterEnd = (b : List ℕ) (x : ℕ) → ReadRefused 23 b → ReadRefused 9 (b ++ (x ∷ []))
+FormAfterEnd = (b : List ℕ) (x n : ℕ) → among n (23 ∷ 24 ∷ []) ≡ true → ReadRefused n b → ReadRefused 9 (b ++ (x ∷ []))
 
--- reading is judged by 3 to 9 and by 23
+-- reading is judged by 3 to 9, by 23 and by 24
 abbrev pub readingRules : List ℕ
-readingRules = 3 ∷ 4 ∷ 5 ∷ 6 ∷ 7 ∷ 8 ∷ 9 ∷ 23 ∷ []
+readingRules = 3 ∷ 4 ∷ 5 ∷ 6 ∷ 7 ∷ 8 ∷ 9 ∷ 23 ∷ 24 ∷ []
 
 abbrev pub ReadJudgedBy : Type 0
 ReadJudgedBy = (b : List ℕ) (n : ℕ) → ReadRefused n b → among n readingRules ≡ true
@@ -75,9 +75,9 @@ pub record WriteTypeBeforeBitmap : Type 0 where
   pub field-not-listed : (m : Message) (o : List ℕ) → Shaped m → largest ≤ length o → among (m .indicator) indicators ≡ true
       → (n : ℕ) → names (m .bitmap) n ≡ true → among n fieldNumbers ≡ false → WriteRefused 5 m o
 
--- writing is judged by 1, by 4 to 8 and by 23
+-- writing is judged by 1, by 4 to 8, by 23 and by 24
 abbrev pub writingRules : List ℕ
-writingRules = 1 ∷ 4 ∷ 5 ∷ 6 ∷ 7 ∷ 8 ∷ 23 ∷ []
+writingRules = 1 ∷ 4 ∷ 5 ∷ 6 ∷ 7 ∷ 8 ∷ 23 ∷ 24 ∷ []
 
 abbrev pub WriteJudgedBy : Type 0
 WriteJudgedBy = (m : Message) (o : List ℕ) (n : ℕ) → WriteRefused n m o → among n writingRules ≡ true

@@ -1,4 +1,4 @@
-// Cases of reading and writing that document 01 does not star. What this writes is compared with the file stdout.
+// Cases of reading and writing that the documents do not star. What this writes is compared with the file stdout.
 use field::Class;
 use libc::STDOUT_FILENO;
 use message::Contents;
@@ -27,8 +27,31 @@ const TWICE: [u8; 20] = [
     0x00,
 ];
 
+// A message of field 62 alone, with 24 bytes.
+const KEYS: [u8; 36] = [
+    0x08, 0x10, 0x00, 0x00, 0x00, 0x00, 0x00, 0x00, 0x00, 0x04, 0x00, 0x24, 0x00, 0x1F, 0x20, 0x7E, 0x7F, 0x80, 0x9A,
+    0xFF, 0x00, 0x1F, 0x20, 0x7E, 0x7F, 0x80, 0x9A, 0xFF, 0x00, 0x1F, 0x20, 0x7E, 0x7F, 0x80, 0x9A, 0xFF,
+];
+
+// One with 25 bytes.
+const LONG_KEYS: [u8; 37] = [
+    0x08, 0x10, 0x00, 0x00, 0x00, 0x00, 0x00, 0x00, 0x00, 0x04, 0x00, 0x25, 0x00, 0x1F, 0x20, 0x7E, 0x7F, 0x80, 0x9A,
+    0xFF, 0x00, 0x1F, 0x20, 0x7E, 0x7F, 0x80, 0x9A, 0xFF, 0x00, 0x1F, 0x20, 0x7E, 0x7F, 0x80, 0x9A, 0xFF, 0x00,
+];
+
+// Fields 55 and 62: an element of tag 9F00 without a length, and one byte.
+const CHIP_AND_KEYS: [u8; 17] = [
+    0x08, 0x10, 0x00, 0x00, 0x00, 0x00, 0x00, 0x00, 0x02, 0x04, 0x00, 0x02, 0x9F, 0x00, 0x00, 0x01, 0x00,
+];
+
+// The row of field 62 in the table.
+const KEYS_ROW: usize = 22;
+
+// The lengths of field 62, and those beside them.
+const NEAR_KEYS: [u8; 15] = [23, 24, 25, 39, 40, 41, 55, 56, 57, 59, 60, 61, 83, 84, 85];
+
 // The bitmap that names every field.
-const ALL_FIELDS: [u8; 8] = [0x70, 0x3E, 0x04, 0x81, 0x0E, 0xD1, 0x82, 0x1B];
+const ALL_FIELDS: [u8; 8] = [0x70, 0x3E, 0x04, 0x81, 0x0E, 0xD1, 0x82, 0x1F];
 
 fn say(text: &[u8]) {
     io::write_all(STDOUT_FILENO, text);
@@ -53,14 +76,16 @@ fn show_reading(s: &[u8]) {
     }
 }
 
+fn show_refusal(e: u8) {
+    say(b" r");
+    io::print_decimal(STDOUT_FILENO, wide(e));
+}
+
 // The length of what was written, or the refusal number after an r.
 fn show_writing(w: Writing) {
     match w {
         Writing::Written(n) => show_number(n as u64),
-        Writing::Refused(e) => {
-            say(b" r");
-            io::print_decimal(STDOUT_FILENO, wide(e));
-        }
+        Writing::Refused(e) => show_refusal(e),
     }
 }
 
@@ -152,14 +177,14 @@ fn filled(class: Class) -> Contents {
 
 // A message written, read again and written again.
 fn round_trip(m: Message) {
-    let mut first = [0xEEu8; 512];
+    let mut first = [0xEEu8; 600];
     let w = writing::write(m, &mut first);
     show_writing(w);
     if let Writing::Written(n) = w {
         if n <= Message::LARGEST {
             let r = reading::read(&first[..n]);
             let back = r.message;
-            let mut second = [0xEEu8; 512];
+            let mut second = [0xEEu8; 600];
             show_writing(writing::write(back, &mut second));
             if check::same(&first, &second) {
                 say(b" same");
@@ -187,6 +212,52 @@ fn field_lengths() {
         say(b"\n");
         k += 1;
     }
+}
+
+// Field 62 with each count of NEAR_KEYS.
+fn key_counts() {
+    say(b"keys");
+    let counts = NEAR_KEYS;
+    let mut i = 0;
+    while i < 15 {
+        round_trip(field_message(KEYS_ROW, counts[i]));
+        i += 1;
+    }
+    say(b"\n");
+}
+
+// A field 62 of n bytes that is read, or is refused by another number than 24.
+fn show_keys(n: usize) {
+    if n < 300 {
+        let mut s = [0u8; 312];
+        s[0] = 0x08;
+        s[1] = 0x10;
+        s[9] = 0x04;
+        s[10] = (n / 100) as u8;
+        s[11] = (n / 10 % 10 * 16 + n % 10) as u8;
+        let end = n + 12;
+        let r = reading::read(&s[..end]);
+        let o = r.outcome;
+        match o {
+            ReadOutcome::Read => show_number(n as u64),
+            ReadOutcome::Refused(e) => {
+                if e != 24 {
+                    show_refusal(e);
+                }
+            }
+        }
+    }
+}
+
+// Each length up to 299 in turn.
+fn key_lengths() {
+    say(b"lengths");
+    let mut n = 0;
+    while n < 300 {
+        show_keys(n);
+        n += 1;
+    }
+    say(b"\n");
 }
 
 // A message of all fields, each as long as it may be: packed digits 20, spaces, and one element in field 55.
@@ -242,7 +313,7 @@ fn written_faults() {
     say(b"written");
     let mut m = sale_message();
     round_trip(m);
-    let mut short = [0u8; 504];
+    let mut short = [0u8; 590];
     show_writing(writing::write(m, &mut short));
     m.contents[60] = 0x1F;
     round_trip(m);
@@ -258,13 +329,18 @@ fn written_faults() {
     say(b"\n");
 }
 
-fn main() {
+// The sale, cut off, damaged and too long.
+fn sale_copies() {
     let sale = SALE;
     cut_copies(&sale);
     damaged_copies(&sale, 0xFF);
     damaged_copies(&sale, 0x0A);
     damaged_copies(&sale, 0x99);
     long_copy(&sale);
+}
+
+// Field 55 alone, in form and not.
+fn chip_copies() {
     let chip = CHIP;
     cut_copies(&chip);
     damaged_copies(&chip, 0x00);
@@ -273,7 +349,32 @@ fn main() {
     let twice = TWICE;
     cut_copies(&twice);
     long_copy(&twice);
+}
+
+// Field 62 alone, of two lengths, and after a field 55 out of form.
+fn key_copies() {
+    let keys = KEYS;
+    cut_copies(&keys);
+    damaged_copies(&keys, 0x00);
+    damaged_copies(&keys, 0x99);
+    damaged_copies(&keys, 0x0A);
+    long_copy(&keys);
+    let long_keys = LONG_KEYS;
+    cut_copies(&long_keys);
+    long_copy(&long_keys);
+    let chip_and_keys = CHIP_AND_KEYS;
+    cut_copies(&chip_and_keys);
+    damaged_copies(&chip_and_keys, 0x00);
+    long_copy(&chip_and_keys);
+}
+
+fn main() {
+    sale_copies();
+    chip_copies();
+    key_copies();
     field_lengths();
+    key_counts();
+    key_lengths();
     largest_trip();
     written_faults();
 }
