@@ -1,6 +1,6 @@
 -- Document 01, "State and journal": the state, and how a call changes it.
 use mathlib.Core.List.{List, _++_}
-use mathlib.Core.Bool.{Bool, true, false, not}
+use mathlib.Core.Bool.{Bool, true, false, not, _||_}
 use Prim.Native.Nat.{ℕ, _+_, _≤_}
 use lib.Dec.{eqb}
 use lib.ListN.{length, take, drop, replicate}
@@ -88,38 +88,47 @@ abbrev pub approvalIn : Chip → Approval
 approvalIn c = record { date = c .date; authorisation = c .authorisation; reference = c .reference }
 
 -- a state from its members
-abbrev stateOf : Settings → Bool → Batch → Trace → ℕ → Counts → Totals → Chip → Phase → State
-stateOf x on batch next n c t chip p =
-    record { settings = x; «signed_on» = on; batch = batch; next = next; entries = n; counts = c; totals = t; chip = chip; phase = p }
+abbrev stateOf : Settings → Bool → Trace → Batch → Trace → ℕ → Counts → Totals → Chip → Phase → State
+stateOf x on signOn batch next n c t chip p =
+    record {
+      settings = x; «signed_on» = on; «sign_on» = signOn; batch = batch; next = next; entries = n; counts = c; totals = t; chip = chip;
+      phase = p }
+
+-- no sign-on is awaited
+abbrev pub noSignOn : Trace
+noSignOn = record { 0 = 0 }
 
 -- a fresh terminal is signed off, in batch 1, resting, journal empty, counts and totals 0, next trace 1
 abbrev pub fresh : Settings → State
-fresh x = stateOf x false (record { 0 = 1 }) (record { 0 = 1 }) 0 noCounts noTotals noChip Resting
+fresh x = stateOf x false noSignOn (record { 0 = 1 }) (record { 0 = 1 }) 0 noCounts noTotals noChip Resting
 
 -- the state with one member changed; the settings never change
 abbrev pub signed : Bool → State → State
-signed on s = stateOf (s .settings) on (s .batch) (s .next) (s .entries) (s .counts) (s .totals) (s .chip) (s .phase)
+signed on s = stateOf (s .settings) on (s .«sign_on») (s .batch) (s .next) (s .entries) (s .counts) (s .totals) (s .chip) (s .phase)
 
 abbrev pub inBatch : Batch → State → State
-inBatch batch s = stateOf (s .settings) (s .«signed_on») batch (s .next) (s .entries) (s .counts) (s .totals) (s .chip) (s .phase)
+inBatch batch s = stateOf (s .settings) (s .«signed_on») (s .«sign_on») batch (s .next) (s .entries) (s .counts) (s .totals) (s .chip) (s .phase)
+
+abbrev pub withSignOn : Trace → State → State
+withSignOn trace s = stateOf (s .settings) (s .«signed_on») trace (s .batch) (s .next) (s .entries) (s .counts) (s .totals) (s .chip) (s .phase)
 
 abbrev pub withNext : Trace → State → State
-withNext next s = stateOf (s .settings) (s .«signed_on») (s .batch) next (s .entries) (s .counts) (s .totals) (s .chip) (s .phase)
+withNext next s = stateOf (s .settings) (s .«signed_on») (s .«sign_on») (s .batch) next (s .entries) (s .counts) (s .totals) (s .chip) (s .phase)
 
 abbrev pub withEntries : ℕ → State → State
-withEntries n s = stateOf (s .settings) (s .«signed_on») (s .batch) (s .next) n (s .counts) (s .totals) (s .chip) (s .phase)
+withEntries n s = stateOf (s .settings) (s .«signed_on») (s .«sign_on») (s .batch) (s .next) n (s .counts) (s .totals) (s .chip) (s .phase)
 
 abbrev pub withCounts : Counts → State → State
-withCounts c s = stateOf (s .settings) (s .«signed_on») (s .batch) (s .next) (s .entries) c (s .totals) (s .chip) (s .phase)
+withCounts c s = stateOf (s .settings) (s .«signed_on») (s .«sign_on») (s .batch) (s .next) (s .entries) c (s .totals) (s .chip) (s .phase)
 
 abbrev pub withTotals : Totals → State → State
-withTotals t s = stateOf (s .settings) (s .«signed_on») (s .batch) (s .next) (s .entries) (s .counts) t (s .chip) (s .phase)
+withTotals t s = stateOf (s .settings) (s .«signed_on») (s .«sign_on») (s .batch) (s .next) (s .entries) (s .counts) t (s .chip) (s .phase)
 
 abbrev pub withChip : Chip → State → State
-withChip chip s = stateOf (s .settings) (s .«signed_on») (s .batch) (s .next) (s .entries) (s .counts) (s .totals) chip (s .phase)
+withChip chip s = stateOf (s .settings) (s .«signed_on») (s .«sign_on») (s .batch) (s .next) (s .entries) (s .counts) (s .totals) chip (s .phase)
 
 abbrev pub inPhase : Phase → State → State
-inPhase p s = stateOf (s .settings) (s .«signed_on») (s .batch) (s .next) (s .entries) (s .counts) (s .totals) (s .chip) p
+inPhase p s = stateOf (s .settings) (s .«signed_on») (s .«sign_on») (s .batch) (s .next) (s .entries) (s .counts) (s .totals) (s .chip) p
 
 -- the next trace is the one after that taken
 abbrev pub took : Trace → State → State
@@ -168,8 +177,12 @@ waits (Pending v) = false
 waits Settling = false
 waits Uploading = false
 
+-- document 02, request 3: the answer to a sign-on is awaited, whatever the phase, which stays as it is
+abbrev pub signsOn : State → Bool
+signsOn s = not (eqb (s .«sign_on» .0) 0)
+
 abbrev pub isWaiting : State → Bool
-isWaiting s = waits (s .phase)
+isWaiting s = waits (s .phase) || signsOn s
 
 -- a reversal is pending
 abbrev pub pends : Phase → Bool

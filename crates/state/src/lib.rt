@@ -5,7 +5,7 @@ use numbers::Trace;
 ghost use mathlib.Core.Path.{_≡_};
 ghost use Prim.Native.Nat.{_+_, _≤_};
 ghost use Rattle.numbers.specs.Limits.{mostRequests};
-ghost use Rattle.state.specs.State.{usual, noChip, asSent, approvedBy, approvalIn, noCounts, CountsSmall, plus, fresh, inPhase, withCounts, withChip, withTotals, withEntries, withNext, inBatch, signed, took, closed, rests, waits, pends, closes, uploads, isResting, isWaiting, isPending, isClosing, isUploading};
+ghost use Rattle.state.specs.State.{usual, noChip, asSent, approvedBy, approvalIn, noCounts, CountsSmall, plus, fresh, inPhase, withCounts, withChip, withTotals, withEntries, withSignOn, withNext, inBatch, signed, took, closed, rests, waits, pends, closes, uploads, isResting, signsOn, isWaiting, isPending, isClosing, isUploading};
 
 // A card number keyed at the desk: its digits as a number, and how many they are.
 pub struct Card {
@@ -89,9 +89,11 @@ pub struct Counts {
     pub unanswered: u32,
 }
 
+// The trace of the sign-on whose answer is awaited, or 0, stands beside the phase, which a sign-on leaves as it is.
 pub struct State {
     pub settings: Settings,
     pub signed_on: bool,
+    pub sign_on: Trace,
     pub batch: Batch,
     pub next: Trace,
     pub entries: u16,
@@ -222,7 +224,7 @@ impl Phase {
     }
 
     // Whether something is awaited.
-    fn waits(self) -> bool
+    pub fn waits(self) -> bool
         ensures { λ r. ⌜ r ≡ waits self ⌝ }
     {
         match self {
@@ -321,11 +323,13 @@ impl State {
     pub fn new(settings: Settings) -> Self
         ensures { λ r. ⌜ r ≡ fresh settings ⌝ }
     {
+        let sign_on = Trace(0);
         let batch = Batch(1);
         let next = Trace(1);
         State {
             settings: settings,
             signed_on: false,
+            sign_on: sign_on,
             batch: batch,
             next: next,
             entries: 0,
@@ -341,6 +345,7 @@ impl State {
         ensures { λ r. ⌜ r ≡ inPhase phase self ⌝ }
     {
         let settings = self.settings;
+        let sign_on = self.sign_on;
         let batch = self.batch;
         let next = self.next;
         let counts = self.counts;
@@ -349,6 +354,7 @@ impl State {
         State {
             settings: settings,
             signed_on: self.signed_on,
+            sign_on: sign_on,
             batch: batch,
             next: next,
             entries: self.entries,
@@ -388,6 +394,14 @@ impl State {
         ensures { λ r. ⌜ r ≡ withEntries entries self ⌝ }
     {
         self.entries = entries;
+        self
+    }
+
+    // The state with the trace of the sign-on that is awaited, 0 for none.
+    pub fn with_sign_on(mut self, trace: Trace) -> Self
+        ensures { λ r. ⌜ r ≡ withSignOn trace self ⌝ }
+    {
+        self.sign_on = trace;
         self
     }
 
@@ -440,7 +454,15 @@ impl State {
         ensures { λ r. ⌜ r ≡ isWaiting self ⌝ }
     {
         let phase = self.phase;
-        phase.waits()
+        phase.waits() | self.signs_on()
+    }
+
+    // Whether the answer to a sign-on is awaited.
+    pub fn signs_on(self) -> bool
+        ensures { λ r. ⌜ r ≡ signsOn self ⌝ }
+    {
+        let trace = self.sign_on;
+        trace.0 != 0
     }
 
     // Whether a reversal is pending.

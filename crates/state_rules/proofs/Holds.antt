@@ -1,14 +1,15 @@
 -- What follows from rule 2 for settings and state, and the way back: where it holds, the rule lets them pass.
-use mathlib.Core.Path.{_≡_, refl, sym}
+use mathlib.Core.Path.{_≡_, refl, sym, _∙_}
 use mathlib.Core.List.{List, [], _∷_}
-use mathlib.Core.Bool.{Bool, true, false, cond, not, _&&_, _||_, and-eq-true-iff, true≢false}
+use mathlib.Core.Bool.{Bool, true, false, cond, not, _&&_, _||_, and-false, and-eq-true-iff, true≢false}
 use Prim.Native.Nat.{_+_, _^_, _≤_, _<_}
 use native.Mathlib.Omega.{arith}
 use lib.Dec.{leb, ltb, eqb}
 use lib.ListN.{length}
 use borrow.Author.Tests.{leb-true, ltb-true, eqb-true, le-leb, lt-ltb, eq-eqb}
 use Rattle.numbers.specs.Limits.{largestAmount, lastNumber, mostRequests, mostEntries, mostSendings}
-use Rattle.numbers.specs.Numbers.{within}
+use Rattle.numbers.specs.Numbers.{within, isNumber}
+use Rattle.numbers.specs.declared.Trace.{Trace}
 use Rattle.numbers.proofs.Bounds.{within-bounds, within-yes}
 use Rattle.field.specs.Contents.{allPrintable}
 use Rattle.digits.specs.Digits.{isPacked}
@@ -25,8 +26,8 @@ use Rattle.state.specs.declared.Request.{Request}
 use Rattle.state.specs.declared.Reversal.{Reversal}
 use Rattle.state.specs.declared.Settings.{Settings}
 use Rattle.state.specs.declared.State.{State}
-use Rattle.state.specs.State.{noChip, chipBytes, hasChip, asSent, approvalIn, CountsBounded, amountIn, endedIn}
-use Rattle.state_rules.specs.StateRules.{settingsInForm, isCard, requestInForm, reversalInForm, phaseInForm, kindIn, requestAwaited, approvalInForm, consentKept, chipKept, stateInForm, waiting, balanced, totalsTrue, allOf, stateClauses, stateKept}
+use Rattle.state.specs.State.{noChip, chipBytes, hasChip, asSent, approvalIn, CountsBounded, amountIn, endedIn, waits}
+use Rattle.state_rules.specs.StateRules.{settingsInForm, isCard, requestInForm, reversalInForm, phaseInForm, kindIn, requestAwaited, approvalInForm, consentKept, chipKept, signOnKept, stateInForm, waiting, balanced, totalsTrue, allOf, stateClauses, stateKept}
 
 -- settings in their ranges
 pub record SettingsHold (x : Settings) : Type 0 where
@@ -210,6 +211,7 @@ pub record StateHolds (s : State) (t : Totals) : Type 0 where
   pub sent-most : s .counts .sent ≤ mostRequests
   pub phase-form : phaseInForm (s .phase) ≡ true
   pub chip : ChipHolds (s .phase) (s .chip)
+  pub sign-on : signOnKept (s .phase) (s .«sign_on») ≡ true
   pub few : s .entries ≤ s .settings .limit
   pub balance : s .counts .sent ≡ endedIn (s .counts) + waiting (s .phase)
   pub approvals : s .counts .approved ≡ s .entries
@@ -247,7 +249,8 @@ unfolding stateKept stateInForm balanced
 state-holds s t e =
     let a = each (stateClauses s t) e in
     let c = s .counts in
-    let o = and-eq-true-iff (within 1 (s .batch .0) lastNumber && within 1 (s .next .0) lastNumber && leb (c .sent) mostRequests && phaseInForm (s .phase)) (chipKept (s .phase) (s .chip)) .0 (a .1 .0) in
+    let j = and-eq-true-iff (within 1 (s .batch .0) lastNumber && within 1 (s .next .0) lastNumber && leb (c .sent) mostRequests && phaseInForm (s .phase) && chipKept (s .phase) (s .chip)) (signOnKept (s .phase) (s .«sign_on»)) .0 (a .1 .0) in
+    let o = and-eq-true-iff (within 1 (s .batch .0) lastNumber && within 1 (s .next .0) lastNumber && leb (c .sent) mostRequests && phaseInForm (s .phase)) (chipKept (s .phase) (s .chip)) .0 (j .0) in
     let p = and-eq-true-iff (within 1 (s .batch .0) lastNumber && within 1 (s .next .0) lastNumber && leb (c .sent) mostRequests) (phaseInForm (s .phase)) .0 (o .0) in
     let q = and-eq-true-iff (within 1 (s .batch .0) lastNumber && within 1 (s .next .0) lastNumber) (leb (c .sent) mostRequests) .0 (p .0) in
     let r = and-eq-true-iff (within 1 (s .batch .0) lastNumber) (within 1 (s .next .0) lastNumber) .0 (q .0) in
@@ -264,11 +267,25 @@ state-holds s t e =
       sent-most = leb-true (c .sent) mostRequests (q .1);
       phase-form = p .1;
       chip = chip-holds (s .phase) (s .chip) (o .1);
+      sign-on = j .1;
       few = leb-true (s .entries) (s .settings .limit) (a .1 .1 .0);
       balance = eqb-true (c .sent) whole (u .0);
       approvals = eqb-true (c .approved) (s .entries) (u .1);
       totals = totals-same (s .totals) t (a .1 .1 .1 .1 .0);
     }
+
+-- where no sign-on is awaited its clause holds in every phase; over a wait none is awaited
+pub no-sign-on : (p : Phase) (x : Trace) → x .0 ≡ 0 → signOnKept p x ≡ true
+unfolding signOnKept
+no-sign-on p x e = rw (eq-eqb (x .0) 0 e)
+
+pub none-over-wait : (p : Phase) (x : Trace) → waits p ≡ true → signOnKept p x ≡ true → x .0 ≡ 0
+unfolding signOnKept
+none-over-wait p x w e = go (eqb (x .0) 0) refl (rw w at e)
+  where
+    go : (t : Bool) → eqb (x .0) 0 ≡ t → (t || isNumber (x .0) && false) ≡ true → x .0 ≡ 0
+    go true q h = eqb-true (x .0) 0 q
+    go false q h = absurd (true≢false (sym h ∙ and-false (isNumber (x .0))))
 
 -- the counts are bounded by what has been sent, so each has room for one more
 pub room-for-one : (s : State) {t : Totals} → StateHolds s t → CountsBounded s
@@ -321,8 +338,9 @@ state-form-back s h =
       within-yes 1 (s .next .0) lastNumber (h .next-least) (h .next-most),
       le-leb (s .counts .sent) mostRequests (h .sent-most),
       h .phase-form,
+      chip-back (s .phase) (s .chip) (h .chip),
     )
-    (chip-back (s .phase) (s .chip) (h .chip))
+    (h .sign-on)
 
 pub state-back : (s : State) (t : Totals) → StateHolds s t → stateKept s t ≡ true
 unfolding stateKept balanced

@@ -8,12 +8,13 @@ use Rattle.digits.specs.Digits.{isPacked}
 use Rattle.elements.specs.Elements.{chipInForm}
 use Rattle.numbers.specs.Limits.{largestAmount, largestTotal, mostRequests, mostEntries, mostSendings}
 use Rattle.numbers.specs.Numbers.{within, isNumber, isAmount}
+use Rattle.numbers.specs.declared.Trace.{Trace}
 use Rattle.field.specs.Contents.{allPrintable}
 use Rattle.kinds.specs.Kinds.{isKind, sideOf, takesOriginal, isNeverReversed, sendsChip}
 use Rattle.kinds.specs.declared.Side.{Side}
 use Rattle.kinds.specs.declared.Side.the-variants.{Debit, Credit, Neither}
 use Rattle.kinds.specs.declared.Totals.{Totals}
-use Rattle.state.specs.State.{chipBytes, hasChip, approvalIn, endedIn}
+use Rattle.state.specs.State.{chipBytes, hasChip, approvalIn, endedIn, waits}
 use Rattle.state.specs.declared.Approval.{Approval}
 use Rattle.state.specs.declared.Card.{Card}
 use Rattle.state.specs.declared.Chip.{Chip}
@@ -113,6 +114,10 @@ consentKept p c = not (c .approved) || requestAwaited p && hasChip c && approval
 unfoldable pub chipKept : Phase → Chip → Bool
 chipKept p c = (not (hasChip c) || sendsChip (kindIn p) && chipInForm (chipBytes c)) && consentKept p c
 
+-- Document 02, request 3: a sign-on that is awaited has a trace, and the phase under it is no wait.
+unfoldable pub signOnKept : Phase → Trace → Bool
+signOnKept p x = eqb (x .0) 0 || isNumber (x .0) && not (waits p)
+
 -- rule 18: at most 900,000 card requests leave in a batch; by the balance no other count is larger
 unfoldable pub stateInForm : State → Bool
 stateInForm s =
@@ -121,6 +126,7 @@ stateInForm s =
     && leb (s .counts .sent) mostRequests
     && phaseInForm (s .phase)
     && chipKept (s .phase) (s .chip)
+    && signOnKept (s .phase) (s .«sign_on»)
 
 -- Waiting is 1 for a card request until its decision or, with a reversal, until its end.
 abbrev pub awaitedWaiting : Awaited → ℕ

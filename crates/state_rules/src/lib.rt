@@ -13,7 +13,7 @@ use state::Settings;
 use state::State;
 ghost use mathlib.Core.Path.{_≡_};
 ghost use Prim.Native.Nat.{_≤_};
-ghost use Rattle.state_rules.specs.StateRules.{settingsInForm, isCard, requestInForm, reversalInForm, awaitedInForm, phaseInForm, awaitedKind, kindIn, awaitsRequest, requestAwaited, approvalInForm, consentKept, chipKept, stateInForm, awaitedWaiting, waiting, balanced, totalsTrue, stateKept, exceeds, past, sumsKept};
+ghost use Rattle.state_rules.specs.StateRules.{settingsInForm, isCard, requestInForm, reversalInForm, awaitedInForm, phaseInForm, awaitedKind, kindIn, awaitsRequest, requestAwaited, approvalInForm, consentKept, chipKept, signOnKept, stateInForm, awaitedWaiting, waiting, balanced, totalsTrue, stateKept, exceeds, past, sumsKept};
 
 // The powers of ten from 10^13 to 10^19.
 const POWERS: [u64; 7] = [
@@ -160,6 +160,16 @@ fn state_in_form(s: State) -> bool
         & (counts.sent <= numbers::MOST_REQUESTS)
         & phase_in_form(phase)
         & chip_kept(phase, chip)
+        & sign_on_kept(s)
+}
+
+// Whether no sign-on is awaited, or one with a trace over a phase that is no wait.
+fn sign_on_kept(s: State) -> bool
+    ensures { λ r. ⌜ r ≡ signOnKept (s .phase) (s .«sign_on») ⌝ }
+{
+    let trace = s.sign_on;
+    let phase = s.phase;
+    (trace.0 == 0) | (numbers::is_number(trace.0) & !phase.waits())
 }
 
 // The kind of the request that is awaited or reversed, 0 where there is none.

@@ -16,14 +16,20 @@ phase-in-form-requires c κs = search needs
 chip-kept-requires : tie.Need-chip-kept-requires
 chip-kept-requires c κs = search needs
 
+sign-on-kept-requires : tie.Need-sign-on-kept-requires
+sign-on-kept-requires c κs = search needs
+
 returns : tie.Need-returns
 unfolding stateInForm
 returns c =
-    let at-is-number = c .before .before .before .before .is-number in
-    let at-phase-in-form = c .before .phase-in-form in
-    let at-is-number2 = c .before .before .before .is-number2 in
-    rw (c .chip-kept .ensures, at-phase-in-form .ensures, at-is-number2 .ensures, at-is-number .ensures)
+    rw (
+      c .sign-on-kept .ensures,
+      c .before .chip-kept .ensures,
+      c .before .before .phase-in-form .ensures,
+      c .before .before .before .before .is-number2 .ensures,
+      c .before .before .before .before .before .is-number .ensures,
+    )
 
 pub state-in-form-spec : {M : Type 1} → statement M
 state-in-form-spec =
-    tie.close (tie.spec is-number-requires is-number-requires-2 phase-in-form-requires chip-kept-requires returns)
+    tie.close (tie.spec is-number-requires is-number-requires-2 phase-in-form-requires chip-kept-requires sign-on-kept-requires returns)
