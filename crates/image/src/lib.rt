@@ -24,21 +24,21 @@ ghost use Rattle.image_definitions.specs.Layout.{widths, regionOffset, size, by
 ghost use Rattle.image_definitions.specs.Image.{reasonValue, requestValues, reversalValues, plainValues, awaitedValues, phaseValues, flagValue, memberValues, settingsValues, countsValues, totalsValues, chipValues, valuesOf, rowBytes, regionOf, image, merchantOf, settingsOf, countsOf, totalsIn, requestOf, reasonOf, reversalOf, phaseOf, chipIn, stateOf, refused, readImage};
 
 // The bytes of an image.
-pub const SIZE: usize = 403;
+pub const SIZE: usize = 407;
 
 // The version of the format.
-const VERSION: u64 = 3;
+const VERSION: u64 = 4;
 
-pub const ROWS: usize = 33;
+pub const ROWS: usize = 34;
 
 // Where the region stands, and its parts after field 55: date, authorisation, reference.
-const REGION: usize = 128;
+const REGION: usize = 132;
 
-const DATE: usize = 383;
+const DATE: usize = 387;
 
-const AUTHORISATION: usize = 385;
+const AUTHORISATION: usize = 389;
 
-const REFERENCE: usize = 391;
+const REFERENCE: usize = 395;
 
 // The bytes of each number, in the image's order.
 const WIDTHS: [usize; ROWS] = [
@@ -75,6 +75,7 @@ const WIDTHS: [usize; ROWS] = [
     4, // trace of a settlement or an upload's end, place of an item
     1, // length of the chip's field 55
     1, // approved
+    4, // trace of the sign-on that is awaited
 ];
 
 // The image of a state.
@@ -147,10 +148,10 @@ fn with_region(c: Chip, b: [u8; SIZE]) -> [u8; SIZE]
     let date = c.date;
     let authorisation = c.authorisation;
     let reference = c.reference;
-    let to383 = put(&field55, REGION, b);
-    let to385 = put(&date, DATE, to383);
-    let to391 = put(&authorisation, AUTHORISATION, to385);
-    put(&reference, REFERENCE, to391)
+    let to387 = put(&field55, REGION, b);
+    let to389 = put(&date, DATE, to387);
+    let to395 = put(&authorisation, AUTHORISATION, to389);
+    put(&reference, REFERENCE, to395)
 }
 
 // The bytes with others from a place on.
@@ -235,6 +236,7 @@ pub fn values_of(s: State) -> [u64; ROWS]
     let totals = s.totals;
     let chip = s.chip;
     let phase = s.phase;
+    let sign_on = s.sign_on;
     let x = settings_values(settings);
     let m = member_values(s);
     let c = counts_values(counts);
@@ -275,6 +277,7 @@ pub fn values_of(s: State) -> [u64; ROWS]
         p[9],
         k[0],
         k[1],
+        sign_on.0 as u64,
     ]
 }
 
@@ -417,11 +420,13 @@ fn state_of(v: [u64; ROWS], region: &[u8]) -> State
     let totals = totals_in(&v[17..21]);
     let phase = phase_of(&v[21..31]);
     let chip = chip_in(&v[31..33], region);
+    let sign_on = Trace(low32(v[33]));
     let batch = Batch(low32(v[8]));
     let next = Trace(low32(v[9]));
     State {
         settings: settings,
         signed_on: v[7] == 1,
+        sign_on: sign_on,
         batch: batch,
         next: next,
         entries: low16(v[10]),

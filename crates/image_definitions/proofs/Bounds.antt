@@ -73,6 +73,7 @@ unfolding widths stateOf
 sized-state v r below s =
     record {
       settings = sized-settings (rowsFrom 1 6 v) (rw (rows-at 1 6 v 2 (omega arith)) (below 3));
+      sign-on = omega arith;
       batch = omega arith;
       next = omega arith;
       entries = omega arith;

@@ -2,12 +2,12 @@
 use mathlib.Core.Path.{_≡_, refl, ap, _∙_}
 use mathlib.Core.List.{List, [], _∷_, _++_, append-nil}
 use mathlib.Core.Bool.{Bool, true, false}
-use Prim.Native.Nat.{ℕ, _^_, _<_}
+use Prim.Native.Nat.{ℕ, _+_, _^_, _<_}
 use native.Mathlib.Nat.{mod-eq-of-lt}
 use native.Mathlib.Omega.{arith}
 use lib.Dec.{lit<}
 use lib.ListN.{length, getD, take, drop, replicate, take-append-drop, length-append, length-drop}
-use lib.Seq.{take-all, take-at, drop-at}
+use lib.Seq.{take-all, take-at, drop-at, getD-append-add}
 use borrow.Rule.Slice.PartMut.{putMid}
 use Rattle.field.specs.Bitmap.{wordOf}
 use Rattle.kinds.specs.declared.Totals.{Totals}
@@ -20,11 +20,10 @@ use Rattle.state.specs.declared.Phase.{Phase}
 use Rattle.state.specs.declared.Phase.the-variants.{Resting, Waiting, Pending, Settling, Uploading}
 use Rattle.state.specs.declared.Settings.{Settings}
 use Rattle.state.specs.declared.Counts.{Counts}
-use Rattle.state.specs.declared.Chip.{Chip}
 use Rattle.state.specs.declared.State.{State}
 use Rattle.image_definitions.specs.Layout.{widths, bytesOf}
 use Rattle.image_definitions.specs.Image.{version, reasonValue, requestValues, reversalValues, plainValues, phaseValues, flagValue, memberValues, settingsValues, countsValues, totalsValues, chipValues, valuesOf, regionOf, merchantOf, rowsFrom, settingsOf, countsOf, totalsIn, requestOf, reasonOf, reversalOf, phaseOf, stateOf}
-use Rattle.image_definitions.specs.Sized.{Bytes, SizedSettings, SizedCounts, SizedTotals, SizedChip, SizedRequest, SizedReversal, SizedPhase, Sized}
+use Rattle.image_definitions.specs.Sized.{Bytes, SizedSettings, SizedCounts, SizedTotals, SizedRequest, SizedReversal, SizedPhase, Sized}
 use Rattle.image_definitions.proofs.Laid.{Fits, fits-append, length-bytesOf, bytes-word, word-below, drop-bytes}
 use Rattle.image_definitions.proofs.Region.{flag-back, chip-back}
 
@@ -95,10 +94,15 @@ length-phase (Pending v) = refl
 length-phase Settling = refl
 length-phase Uploading = refl
 
+-- what stands after the numbers of a phase
+after-phase : (p : Phase) (l : List ℕ) (i : ℕ) → getD (phaseValues p ++ l) (10 + i) 0 ≡ getD l i 0
+after-phase p l i = rw (length-phase p) at (getD-append-add (phaseValues p) l i 0)
+
 -- the numbers and the region of a state say that state
 pub state-back : (s : State) → Sized s → stateOf (valuesOf s) (regionOf (s .chip)) ≡ s
 unfolding stateOf valuesOf
 state-back s z =
+    let k = chipValues (s .chip) ++ (s .«sign_on» .0 ∷ []) in
     rw (
       settings-back (s .settings) (z .settings),
       flag-back (s .«signed_on»),
@@ -107,9 +111,11 @@ state-back s z =
       mod-eq-of-lt (z .entries),
       counts-back (s .counts) (z .counts),
       totals-back (s .totals) (z .totals),
-      drop-at (phaseValues (s .phase)) (chipValues (s .chip)) 10 (length-phase (s .phase)),
+      after-phase (s .phase) k 2,
+      mod-eq-of-lt (z .sign-on),
+      drop-at (phaseValues (s .phase)) k 10 (length-phase (s .phase)),
       chip-back (s .chip) (z .chip),
-      phase-back (s .phase) (chipValues (s .chip)) (z .phase),
+      phase-back (s .phase) k (z .phase),
     )
 
 -- the widths of the ten rows of the phase
@@ -168,9 +174,9 @@ totals-fit : (t : Totals) → SizedTotals t → Fits (rowsFrom 17 4 widths) (tot
 unfolding widths
 totals-fit t z = (z .debit, (z .debits, (z .credit, (z .credits, tt))))
 
-chip-fits : (c : Chip) → SizedChip c → Fits (rowsFrom 31 2 widths) (chipValues c)
+tail-fits : (s : State) → Sized s → Fits (rowsFrom 31 3 widths) (chipValues (s .chip) ++ (s .«sign_on» .0 ∷ []))
 unfolding widths
-chip-fits c z = (z .count, (flag-small (c .approved), tt))
+tail-fits s z = (z .chip .count, (flag-small (s .chip .approved), (z .sign-on, tt)))
 
 -- each number of a state fits its row
 pub values-fit : (s : State) → Sized s → Fits widths (valuesOf s)
@@ -181,12 +187,12 @@ values-fit s z =
     let c = countsValues (s .counts) in
     let t = totalsValues (s .totals) in
     let p = phaseValues (s .phase) in
-    let k = chipValues (s .chip) in
-    let from21 = fits-append phaseWidths p (rowsFrom 31 2 widths) k (phase-fits (s .phase) (z .phase)) (chip-fits (s .chip) (z .chip)) in
-    let from17 = fits-append (rowsFrom 17 4 widths) t (rowsFrom 21 12 widths) (p ++ k) (totals-fit (s .totals) (z .totals)) from21 in
-    let from11 = fits-append (rowsFrom 11 6 widths) c (rowsFrom 17 16 widths) (t ++ (p ++ k)) (counts-fit (s .counts) (z .counts)) from17 in
-    let from7 = fits-append (rowsFrom 7 4 widths) m (rowsFrom 11 22 widths) (c ++ (t ++ (p ++ k))) (members-fit s z) from11 in
-    (lit< tt, fits-append (rowsFrom 1 6 widths) x (rowsFrom 7 26 widths) (m ++ (c ++ (t ++ (p ++ k)))) (settings-fit (s .settings) (z .settings)) from7)
+    let k = chipValues (s .chip) ++ (s .«sign_on» .0 ∷ []) in
+    let from21 = fits-append phaseWidths p (rowsFrom 31 3 widths) k (phase-fits (s .phase) (z .phase)) (tail-fits s z) in
+    let from17 = fits-append (rowsFrom 17 4 widths) t (rowsFrom 21 13 widths) (p ++ k) (totals-fit (s .totals) (z .totals)) from21 in
+    let from11 = fits-append (rowsFrom 11 6 widths) c (rowsFrom 17 17 widths) (t ++ (p ++ k)) (counts-fit (s .counts) (z .counts)) from17 in
+    let from7 = fits-append (rowsFrom 7 4 widths) m (rowsFrom 11 23 widths) (c ++ (t ++ (p ++ k))) (members-fit s z) from11 in
+    (lit< tt, fits-append (rowsFrom 1 6 widths) x (rowsFrom 7 27 widths) (m ++ (c ++ (t ++ (p ++ k)))) (settings-fit (s .settings) (z .settings)) from7)
 
 -- the ten numbers of a phase, one by one
 phase-listed : (p : Phase) (rest : List ℕ) → getD (phaseValues p) 0 0 ∷ getD (phaseValues p) 1 0 ∷ getD (phaseValues p) 2 0 ∷ getD (phaseValues p) 3 0 ∷ getD (phaseValues p) 4 0 ∷ getD (phaseValues p) 5 0 ∷ getD (phaseValues p) 6 0 ∷ getD (phaseValues p) 7 0 ∷ getD (phaseValues p) 8 0 ∷ getD (phaseValues p) 9 0 ∷ rest ≡ phaseValues p ++ rest
@@ -209,10 +215,11 @@ pub values-listed : (s : State) {x m c t p k : List ℕ} → x ≡ settingsValue
     ∷ getD c 0 0 ∷ getD c 1 0 ∷ getD c 2 0 ∷ getD c 3 0 ∷ getD c 4 0 ∷ getD c 5 0
     ∷ getD t 0 0 ∷ getD t 1 0 ∷ getD t 2 0 ∷ getD t 3 0
     ∷ getD p 0 0 ∷ getD p 1 0 ∷ getD p 2 0 ∷ getD p 3 0 ∷ getD p 4 0 ∷ getD p 5 0 ∷ getD p 6 0 ∷ getD p 7 0 ∷ getD p 8 0 ∷ getD p 9 0
-    ∷ getD k 0 0 ∷ getD k 1 0 ∷ []
+    ∷ getD k 0 0 ∷ getD k 1 0
+    ∷ s .«sign_on» .0 ∷ []
     ≡ valuesOf s
 unfolding valuesOf
-values-listed s ex em ec et ep ek = rw (ex, em, ec, et, ep, ek, phase-listed (s .phase) (chipValues (s .chip)))
+values-listed s ex em ec et ep ek = rw (ex, em, ec, et, ep, ek, phase-listed (s .phase) (chipValues (s .chip) ++ (s .«sign_on» .0 ∷ [])))
 
 -- field 42, put as two numbers into 15 bytes
 pub merchant-room : (x : ℕ) {a : List ℕ} → a ≡ bytesOf 8 x → length (a ++ replicate 7 0) ≡ 15

@@ -25,7 +25,7 @@ use Rattle.image_definitions.specs.declared.Reading.{Reading}
 
 -- the version of the format
 abbrev pub version : ℕ
-version = 3
+version = 4
 
 abbrev pub reasonValue : Reason → ℕ
 reasonValue Silence = 0
@@ -86,7 +86,8 @@ valuesOf s =
     version
     ∷ (settingsValues (s .settings)
     ++ (memberValues s
-    ++ (countsValues (s .counts) ++ (totalsValues (s .totals) ++ (phaseValues (s .phase) ++ chipValues (s .chip))))))
+    ++ (countsValues (s .counts)
+    ++ (totalsValues (s .totals) ++ (phaseValues (s .phase) ++ (chipValues (s .chip) ++ (s .«sign_on» .0 ∷ [])))))))
 
 -- the bytes of the rows
 abbrev pub rowBytes : State → List ℕ
@@ -191,6 +192,7 @@ stateOf v r =
     record {
       settings = settingsOf (rowsFrom 1 6 v);
       «signed_on» = eqb (getD v 7 0) 1;
+      «sign_on» = record { 0 = bitsOf 32 v 33 };
       batch = record { 0 = bitsOf 32 v 8 };
       next = record { 0 = bitsOf 32 v 9 };
       entries = bitsOf 16 v 10;

@@ -26,19 +26,21 @@ widths =
     -- trace of a settlement or of an upload's end, place of an item
     ∷ 4
     -- chip: length of field 55, approved
-    ∷ 1 ∷ 1 ∷ []
+    ∷ 1 ∷ 1
+    -- trace of the sign-on that is awaited, 0 for none
+    ∷ 4 ∷ []
 
 -- how many they are
 abbrev pub rows : ℕ
-rows = 33
+rows = 34
 
 -- where the region of bytes stands: after the numbers
 abbrev pub regionOffset : ℕ
-regionOffset = 128
+regionOffset = 132
 
 -- the bytes of the image
 abbrev pub size : ℕ
-size = 403
+size = 407
 
 -- the last n bytes of x
 unfoldable pub bytesOf : ℕ → ℕ → List ℕ

@@ -81,6 +81,7 @@ SizedPhase Uploading = Unit {0}
 
 pub record Sized (s : State) : Type 0 where
   pub settings : SizedSettings (s .settings)
+  pub sign-on : s .«sign_on» .0 < 2 ^ 32
   pub batch : s .batch .0 < 2 ^ 32
   pub next : s .next .0 < 2 ^ 32
   pub entries : s .entries < 2 ^ 16

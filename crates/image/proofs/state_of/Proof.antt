@@ -77,8 +77,14 @@ array-read-low32-2 c = lit< tt
 low32-requires-2 : tie.Need-low32-requires-2
 low32-requires-2 c κs = tt
 
-array-read-t35 : tie.Need-array-read-t35
-array-read-t35 c = lit< tt
+array-read-low32-3 : tie.Need-array-read-low32-3
+array-read-low32-3 c = lit< tt
+
+low32-requires-3 : tie.Need-low32-requires-3
+low32-requires-3 c κs = tt
+
+array-read-t36 : tie.Need-array-read-t36
+array-read-t36 c = lit< tt
 
 array-read-low16 : tie.Need-array-read-low16
 array-read-low16 c = lit< tt
@@ -90,12 +96,14 @@ returns : tie.Need-returns
 unfolding stateOf
 returns c =
     let at-settings-of = c .before .before .before .before .before .before .before .before .before .before .before .before .before .before
-    .before .settings-of in
-    let at-counts-of = c .before .before .before .before .before .before .before .before .before .before .before .before .counts-of in
-    let at-totals-in = c .before .before .before .before .before .before .before .before .before .totals-in in
-    let at-phase-of = c .before .before .before .before .before .before .phase-of in
-    let at-chip-in = c .before .before .before .chip-in in
-    let at-low32 = c .before .before .low32 in
+    .before .before .settings-of in
+    let at-counts-of = c .before .before .before .before .before .before .before .before .before .before .before .before .before
+    .counts-of in
+    let at-totals-in = c .before .before .before .before .before .before .before .before .before .before .totals-in in
+    let at-phase-of = c .before .before .before .before .before .before .before .phase-of in
+    let at-chip-in = c .before .before .before .before .chip-in in
+    let at-low32 = c .before .before .before .low32 in
+    let at-low322 = c .before .before .low322 in
     rw (
       at-settings-of .ensures,
       at-counts-of .ensures,
@@ -103,7 +111,8 @@ returns c =
       at-phase-of .ensures,
       at-chip-in .ensures,
       at-low32 .ensures,
-      c .before .low322 .ensures,
+      at-low322 .ensures,
+      c .before .low323 .ensures,
       c .low16 .ensures,
     )
 
@@ -135,7 +144,9 @@ state-of-spec =
     low32-requires
     array-read-low32-2
     low32-requires-2
-    array-read-t35
+    array-read-low32-3
+    low32-requires-3
+    array-read-t36
     array-read-low16
     low16-requires
     returns)

@@ -1,5 +1,6 @@
 -- `image::values_of` meets its contract: the numbers are listed one by one.
 use lib.Dec.{lit<}
+use borrow.Author.Needs.{needs}
 use Rattle.image_definitions.proofs.Values.{values-listed}
 use Rattle.image.proofs.values_of.Statement.{statement}
 use Rattle.image.proofs.values_of.Tie as tie
@@ -22,108 +23,115 @@ phase-values-requires c κs = tt
 chip-values-requires : tie.Need-chip-values-requires
 chip-values-requires c κs = tt
 
-array-read-t19 : tie.Need-array-read-t19
-array-read-t19 c = lit< tt
+array-read-t20 : tie.Need-array-read-t20
+array-read-t20 c = lit< tt
 
-array-read-t22 : tie.Need-array-read-t22
-array-read-t22 c = lit< tt
+array-read-t23 : tie.Need-array-read-t23
+array-read-t23 c = lit< tt
 
-array-read-t25 : tie.Need-array-read-t25
-array-read-t25 c = lit< tt
+array-read-t26 : tie.Need-array-read-t26
+array-read-t26 c = lit< tt
 
-array-read-t28 : tie.Need-array-read-t28
-array-read-t28 c = lit< tt
+array-read-t29 : tie.Need-array-read-t29
+array-read-t29 c = lit< tt
 
-array-read-t31 : tie.Need-array-read-t31
-array-read-t31 c = lit< tt
+array-read-t32 : tie.Need-array-read-t32
+array-read-t32 c = lit< tt
 
-array-read-t34 : tie.Need-array-read-t34
-array-read-t34 c = lit< tt
+array-read-t35 : tie.Need-array-read-t35
+array-read-t35 c = lit< tt
 
-array-read-t37 : tie.Need-array-read-t37
-array-read-t37 c = lit< tt
+array-read-t38 : tie.Need-array-read-t38
+array-read-t38 c = lit< tt
 
-array-read-t40 : tie.Need-array-read-t40
-array-read-t40 c = lit< tt
+array-read-t41 : tie.Need-array-read-t41
+array-read-t41 c = lit< tt
 
-array-read-t43 : tie.Need-array-read-t43
-array-read-t43 c = lit< tt
+array-read-t44 : tie.Need-array-read-t44
+array-read-t44 c = lit< tt
 
-array-read-t46 : tie.Need-array-read-t46
-array-read-t46 c = lit< tt
+array-read-t47 : tie.Need-array-read-t47
+array-read-t47 c = lit< tt
 
-array-read-t49 : tie.Need-array-read-t49
-array-read-t49 c = lit< tt
+array-read-t50 : tie.Need-array-read-t50
+array-read-t50 c = lit< tt
 
-array-read-t52 : tie.Need-array-read-t52
-array-read-t52 c = lit< tt
+array-read-t53 : tie.Need-array-read-t53
+array-read-t53 c = lit< tt
 
-array-read-t55 : tie.Need-array-read-t55
-array-read-t55 c = lit< tt
+array-read-t56 : tie.Need-array-read-t56
+array-read-t56 c = lit< tt
 
-array-read-t58 : tie.Need-array-read-t58
-array-read-t58 c = lit< tt
+array-read-t59 : tie.Need-array-read-t59
+array-read-t59 c = lit< tt
 
-array-read-t61 : tie.Need-array-read-t61
-array-read-t61 c = lit< tt
+array-read-t62 : tie.Need-array-read-t62
+array-read-t62 c = lit< tt
 
-array-read-t64 : tie.Need-array-read-t64
-array-read-t64 c = lit< tt
+array-read-t65 : tie.Need-array-read-t65
+array-read-t65 c = lit< tt
 
-array-read-t67 : tie.Need-array-read-t67
-array-read-t67 c = lit< tt
+array-read-t68 : tie.Need-array-read-t68
+array-read-t68 c = lit< tt
 
-array-read-t70 : tie.Need-array-read-t70
-array-read-t70 c = lit< tt
+array-read-t71 : tie.Need-array-read-t71
+array-read-t71 c = lit< tt
 
-array-read-t73 : tie.Need-array-read-t73
-array-read-t73 c = lit< tt
+array-read-t74 : tie.Need-array-read-t74
+array-read-t74 c = lit< tt
 
-array-read-t76 : tie.Need-array-read-t76
-array-read-t76 c = lit< tt
+array-read-t77 : tie.Need-array-read-t77
+array-read-t77 c = lit< tt
 
-array-read-t79 : tie.Need-array-read-t79
-array-read-t79 c = lit< tt
+array-read-t80 : tie.Need-array-read-t80
+array-read-t80 c = lit< tt
 
-array-read-t82 : tie.Need-array-read-t82
-array-read-t82 c = lit< tt
+array-read-t83 : tie.Need-array-read-t83
+array-read-t83 c = lit< tt
 
-array-read-t85 : tie.Need-array-read-t85
-array-read-t85 c = lit< tt
+array-read-t86 : tie.Need-array-read-t86
+array-read-t86 c = lit< tt
 
-array-read-t88 : tie.Need-array-read-t88
-array-read-t88 c = lit< tt
+array-read-t89 : tie.Need-array-read-t89
+array-read-t89 c = lit< tt
 
-array-read-t91 : tie.Need-array-read-t91
-array-read-t91 c = lit< tt
+array-read-t92 : tie.Need-array-read-t92
+array-read-t92 c = lit< tt
 
-array-read-t94 : tie.Need-array-read-t94
-array-read-t94 c = lit< tt
+array-read-t95 : tie.Need-array-read-t95
+array-read-t95 c = lit< tt
 
-array-read-t97 : tie.Need-array-read-t97
-array-read-t97 c = lit< tt
+array-read-t98 : tie.Need-array-read-t98
+array-read-t98 c = lit< tt
 
-array-read-t100 : tie.Need-array-read-t100
-array-read-t100 c = lit< tt
+array-read-t101 : tie.Need-array-read-t101
+array-read-t101 c = lit< tt
 
-array-read-t103 : tie.Need-array-read-t103
-array-read-t103 c = lit< tt
+array-read-t104 : tie.Need-array-read-t104
+array-read-t104 c = lit< tt
 
-array-read-t106 : tie.Need-array-read-t106
-array-read-t106 c = lit< tt
+array-read-t107 : tie.Need-array-read-t107
+array-read-t107 c = lit< tt
 
-array-read-t109 : tie.Need-array-read-t109
-array-read-t109 c = lit< tt
+array-read-t110 : tie.Need-array-read-t110
+array-read-t110 c = lit< tt
 
-array-read-t112 : tie.Need-array-read-t112
-array-read-t112 c = lit< tt
+array-read-t113 : tie.Need-array-read-t113
+array-read-t113 c = lit< tt
+
+cast-t114 : tie.Need-cast-t114
+cast-t114 c = search needs
 
 returns : tie.Need-returns
 returns c =
-    values-listed (c .before .before .before .before .before .before .before .before .before .before .args .s)
-    (c .before .before .before .before .before .settings-values .ensures) (c .before .before .before .before .member-values .ensures)
-    (c .before .before .before .counts-values .ensures) (c .before .before .totals-values .ensures) (c .before .phase-values .ensures)
-    (c .chip-values .ensures)
+    let at-args = c .before .before .before .before .before .before .before .before .before .before .before .before .args in
+    let at-settings-values = c .before .before .before .before .before .before .settings-values in
+    let at-member-values = c .before .before .before .before .before .member-values in
+    let at-counts-values = c .before .before .before .before .counts-values in
+    let at-totals-values = c .before .before .before .totals-values in
+    let at-phase-values = c .before .before .phase-values in
+    values-listed (at-args .s) (at-settings-values .ensures) (at-member-values .ensures) (at-counts-values .ensures)
+    (at-totals-values .ensures) (at-phase-values .ensures) (c .before .chip-values .ensures)
 
 pub values-of-spec : {M : Type 1} → statement M
 values-of-spec =
@@ -135,36 +143,37 @@ values-of-spec =
     totals-values-requires
     phase-values-requires
     chip-values-requires
-    array-read-t19
-    array-read-t22
-    array-read-t25
-    array-read-t28
-    array-read-t31
-    array-read-t34
-    array-read-t37
-    array-read-t40
-    array-read-t43
-    array-read-t46
-    array-read-t49
-    array-read-t52
-    array-read-t55
-    array-read-t58
-    array-read-t61
-    array-read-t64
-    array-read-t67
-    array-read-t70
-    array-read-t73
-    array-read-t76
-    array-read-t79
-    array-read-t82
-    array-read-t85
-    array-read-t88
-    array-read-t91
-    array-read-t94
-    array-read-t97
-    array-read-t100
-    array-read-t103
-    array-read-t106
-    array-read-t109
-    array-read-t112
+    array-read-t20
+    array-read-t23
+    array-read-t26
+    array-read-t29
+    array-read-t32
+    array-read-t35
+    array-read-t38
+    array-read-t41
+    array-read-t44
+    array-read-t47
+    array-read-t50
+    array-read-t53
+    array-read-t56
+    array-read-t59
+    array-read-t62
+    array-read-t65
+    array-read-t68
+    array-read-t71
+    array-read-t74
+    array-read-t77
+    array-read-t80
+    array-read-t83
+    array-read-t86
+    array-read-t89
+    array-read-t92
+    array-read-t95
+    array-read-t98
+    array-read-t101
+    array-read-t104
+    array-read-t107
+    array-read-t110
+    array-read-t113
+    cast-t114
     returns)
