@@ -1,6 +1,6 @@
 -- Document 01, "Calls": what an answer must hold to be one, and what it says.
 use mathlib.Core.List.{[], _∷_}
-use mathlib.Core.Bool.{Bool, false, not, _&&_, _||_}
+use mathlib.Core.Bool.{Bool, false, cond, not, _&&_, _||_}
 use Prim.Native.Nat.{ℕ, _+_}
 use lib.Dec.{leb, eqb}
 use Rattle.digits.specs.Digits.{pack}
@@ -10,6 +10,7 @@ use Rattle.digits.specs.declared.Number.the-variants.{Is, Not}
 use Rattle.field.specs.Bitmap.{names}
 use Rattle.message.specs.declared.Message.{Message}
 use Rattle.parts.specs.Parts.{matches, partOf}
+use Rattle.numbers.specs.Numbers.{isNumber}
 use Rattle.numbers.specs.declared.Trace.{Trace}
 use Rattle.numbers.specs.declared.Batch.{Batch}
 use Rattle.parts.specs.declared.Part.the-variants as part
@@ -35,14 +36,17 @@ abbrev pub isValueWithin : ℕ → ℕ → Number → Bool
 isValueWithin low high (Is x) = leb low x && leb x high
 isValueWithin low high Not = false
 
--- matches if its type is the awaited one plus 10, and 11, 41, 42 and 60.2 equal those sent
-unfoldable pub matchesSent : Settings → Batch → ℕ → Trace → Message → Bool
-matchesSent x batch indicator trace m =
+-- its type is the awaited one plus 10, and 11, 41 and 42 equal those sent
+unfoldable pub repeats : Settings → ℕ → Trace → Message → Bool
+repeats x indicator trace m =
     eqb (m .indicator) (indicator + 0x10)
     && matches m 11 (pack (digitsOf 6 (trace .0)))
     && matches m 41 (x .terminal)
     && matches m 42 (x .merchant)
-    && isValue (batch .0) (partOf m part.Batch)
+
+-- matches if its type is the awaited one plus 10, and 11, 41, 42 and 60.2 equal those sent
+unfoldable pub matchesSent : Settings → Batch → ℕ → Trace → Message → Bool
+matchesSent x batch indicator trace m = repeats x indicator trace m && isValue (batch .0) (partOf m part.Batch)
 
 -- field 39 is this code; 00 approves
 abbrev pub hasCode : ℕ → ℕ → Message → Bool
@@ -67,6 +71,22 @@ holdsNamed (awaited.End x) m = names (m .bitmap) 39
 -- rule 22: the answer matches and lacks no named field
 unfoldable pub isAnswer : Settings → Batch → Trace → Awaited → Message → Bool
 isAnswer x batch trace a m = matchesSent x batch (indicatorSent a) trace m && holdsNamed a m
+
+-- document 02, request 3: the batch number that an answer brings, 60.2; 0 where it brings none from 1 to 999999
+abbrev pub broughtBy : Number → ℕ
+broughtBy (Is x) = cond (isNumber x) x 0
+broughtBy Not = 0
+
+unfoldable pub batchIn : Message → Batch
+batchIn m = record { 0 = broughtBy (partOf m part.Batch) }
+
+-- a sign-on's 00 also brings a batch number other than 000000, and key material
+unfoldable pub signOnHolds : Message → Bool
+signOnHolds m = not (approves m) || isNumber (batchIn m .0) && names (m .bitmap) 62
+
+-- rule 22 for a sign-on: its answer matches without 60.2, and must hold 39
+unfoldable pub isSignOnAnswer : Settings → Trace → Message → Bool
+isSignOnAnswer x trace m = repeats x 0x0800 trace m && names (m .bitmap) 39 && signOnHolds m
 
 -- the MAC; without field 64 it is bad
 unfoldable pub goodMac : Bool → Message → Bool

@@ -15,7 +15,7 @@ ghost use Rattle.digits.specs.Digits.{pack};
 ghost use Rattle.digits.specs.Numbers.{digitsOf};
 ghost use Rattle.message.specs.Message.{whole};
 ghost use Rattle.parts.specs.Parts.{matches};
-ghost use Rattle.answer_match.specs.Match.{indicatorSent, isValue, isValueWithin, matchesSent, hasCode, approves, approvalHolds, holdsNamed, isAnswer, goodMac, endsReversal, closesBatch};
+ghost use Rattle.answer_match.specs.Match.{indicatorSent, isValue, isValueWithin, repeats, matchesSent, hasCode, approves, approvalHolds, holdsNamed, isAnswer, broughtBy, batchIn, signOnHolds, isSignOnAnswer, goodMac, endsReversal, closesBatch};
 
 // Whether field 39 is 00.
 pub fn approves(m: Message) -> bool
@@ -31,6 +31,23 @@ pub fn is_answer(x: Settings, batch: Batch, trace: Trace, a: Awaited, m: Message
     let h = message::head_of(m);
     matches_sent(x, batch, indicator_sent(a), trace, h, &m.contents)
         & holds_named(a, h, &m.contents)
+}
+
+// Rule 22: whether a message answers a sign-on, which was sent with this trace.
+pub fn is_sign_on_answer(x: Settings, trace: Trace, m: Message) -> bool
+    ensures { λ r. ⌜ r ≡ isSignOnAnswer x trace m ⌝ }
+{
+    let h = message::head_of(m);
+    let bitmap = h.bitmap;
+    repeats(x, 0x0800, trace, h, &m.contents) & field::named(&bitmap, 39) & sign_on_holds(m)
+}
+
+// The batch number that an answer brings, 0 where it brings none from 1 to 999999.
+pub fn batch_in(m: Message) -> Batch
+    ensures { λ r. ⌜ r ≡ batchIn m ⌝ }
+{
+    let h = message::head_of(m);
+    Batch(brought_by(parts::part_of(h, &m.contents, Part::Batch)))
 }
 
 // Whether the MAC is good.
@@ -98,6 +115,19 @@ fn holds_number(h: Head, contents: &Contents, n: u8, x: u64, room: &mut [u8]) ->
     parts::field_matches(h, contents, n, room)
 }
 
+fn repeats(x: Settings, indicator: u16, trace: Trace, h: Head, contents: &Contents) -> bool
+    requires { ⌜ indicator ≤ 0x0800 ⌝ }
+    ensures { λ r. ⌜ r ≡ repeats x indicator trace (whole h (now (contents .entry))) ⌝ }
+{
+    let terminal = x.terminal;
+    let merchant = x.merchant;
+    let mut digits = [0u8; 3];
+    (h.indicator == indicator + 0x10)
+        & holds_number(h, contents, 11, trace.0 as u64, &mut digits)
+        & parts::field_matches(h, contents, 41, &terminal)
+        & parts::field_matches(h, contents, 42, &merchant)
+}
+
 fn matches_sent(
     x: Settings,
     batch: Batch,
@@ -109,14 +139,30 @@ fn matches_sent(
     requires { ⌜ indicator ≤ 0x0500 ⌝ }
     ensures { λ r. ⌜ r ≡ matchesSent x batch indicator trace (whole h (now (contents .entry))) ⌝ }
 {
-    let terminal = x.terminal;
-    let merchant = x.merchant;
-    let mut digits = [0u8; 3];
-    (h.indicator == indicator + 0x10)
-        & holds_number(h, contents, 11, trace.0 as u64, &mut digits)
-        & parts::field_matches(h, contents, 41, &terminal)
-        & parts::field_matches(h, contents, 42, &merchant)
+    repeats(x, indicator, trace, h, contents)
         & is_value(batch.0 as u64, parts::part_of(h, contents, Part::Batch))
+}
+
+fn brought_by(x: Number) -> u32
+    ensures { λ r. ⌜ r ≡ broughtBy x ⌝ }
+{
+    match x {
+        Number::Is(n) => {
+            if numbers::is_within(1, n, numbers::LAST_NUMBER as u64) {
+                return n as u32;
+            }
+            0
+        }
+        Number::Not => 0,
+    }
+}
+
+fn sign_on_holds(m: Message) -> bool
+    ensures { λ r. ⌜ r ≡ signOnHolds m ⌝ }
+{
+    let bitmap = m.bitmap;
+    let batch = batch_in(m);
+    !approves(m) | (numbers::is_number(batch.0) & field::named(&bitmap, 62))
 }
 
 fn has_code(a: u8, b: u8, h: Head, contents: &Contents) -> bool

@@ -1,10 +1,10 @@
--- What leaves: the fields of a settlement, of an upload item and of the upload's end are held.
+-- What leaves: the fields of a sign-on, of a settlement, of an upload item and of the upload's end are held.
 use mathlib.Core.Bool.{true}
 use mathlib.Core.List.{[], _∷_}
 use mathlib.Core.Path.{_≡_, refl}
-use Prim.Native.Nat.{_≤_}
+use Prim.Native.Nat.{ℕ, _≤_}
 use lib.ListN.{length}
-use Rattle.batch_messages.specs.BatchMessages.{field48, settlementFields, itemFields, endFields}
+use Rattle.batch_messages.specs.BatchMessages.{field48, settlementFields, itemFields, managementFields, endFields, signOnFields}
 use Rattle.compose.proofs.Items.{number-held}
 use Rattle.compose.proofs.Laid.{laid-held}
 use Rattle.compose.specs.Compose.{mayHold, allHeld}
@@ -77,14 +77,25 @@ module _ (x : Settings) (batch : Batch) (h : SettingsHeld x) where
         field60-held (e .kind) batch 201,
       )
 
-  pub end-held : (trace : Trace) → allHeld (endFields x batch trace) ≡ true
-  end-held trace =
+  management-held : (code : ℕ) (trace : Trace) → allHeld (managementFields code x batch trace) ≡ true
+  management-held code trace =
       rw (
         trace-held (trace .0),
         terminal-held (x .terminal) (h .terminal-length) (h .terminal-printable),
         merchant-held (x .merchant) (h .merchant-length) (h .merchant-printable),
-        field60-held 0 batch 202,
+        field60-held 0 batch code,
       )
+
+  pub end-held : (trace : Trace) → allHeld (endFields x batch trace) ≡ true
+  end-held = management-held 202
+
+  pub sign-on-held : (trace : Trace) → allHeld (signOnFields x batch trace) ≡ true
+  sign-on-held = management-held 3
+
+-- the type of a sign-on is listed
+pub sign-on-listed : among 0x0800 indicators ≡ true
+unfolding indicators
+sign-on-listed = refl
 
 -- their type is listed
 pub upload-listed : among 0x0320 indicators ≡ true

@@ -1,4 +1,4 @@
--- Document 01, "Calls": settlement, upload item and the upload's end.
+-- Document 01, "Calls": settlement, upload item and the upload's end. Document 02, request 3: sign-on.
 use mathlib.Core.List.{List, [], _∷_}
 use Prim.Native.Nat.{ℕ}
 use Rattle.approval.specs.Cards.{cardOf}
@@ -50,14 +50,25 @@ itemFields x batch e =
 unfoldable pub itemMessage : Settings → Batch → Entry → Message
 itemMessage x batch e = messageOf 0x0320 (itemFields x batch e)
 
--- last goes 0320 (11, 41, 42, 60 = 00, batch, 202)
-abbrev pub endFields : Settings → Batch → Trace → List Item
-endFields x batch trace =
+-- a message that says no more than its management code: 11, 41, 42, 60 = 00, batch, code
+abbrev pub managementFields : ℕ → Settings → Batch → Trace → List Item
+managementFields code x batch trace =
     digits 11 (digitsOf 6 (trace .0))
     ∷ bytes 41 (x .terminal)
     ∷ bytes 42 (x .merchant)
-    ∷ digits 60 (field60 0 batch 202)
+    ∷ digits 60 (field60 0 batch code)
     ∷ []
+
+-- last goes 0320 (11, 41, 42, 60 = 00, batch, 202)
+abbrev pub endFields : Settings → Batch → Trace → List Item
+endFields = managementFields 202
 
 unfoldable pub endMessage : Settings → Batch → Trace → Message
 endMessage x batch trace = messageOf 0x0320 (endFields x batch trace)
+
+-- document 02, request 3: sign on sends 0800 (11, 41, 42, 60 = 00, batch, 003)
+abbrev pub signOnFields : Settings → Batch → Trace → List Item
+signOnFields = managementFields 3
+
+unfoldable pub signOnMessage : Settings → Batch → Trace → Message
+signOnMessage x batch trace = messageOf 0x0800 (signOnFields x batch trace)

@@ -1,4 +1,4 @@
-// The messages of a batch: settlement, upload item and the upload's end (document 01, "Messages").
+// The messages of a batch: sign-on, settlement, upload item and the upload's end (document 01, "Messages"; document 02, request 3).
 use entry::Entry;
 use kinds::Totals;
 use message::Contents;
@@ -13,7 +13,7 @@ ghost use mathlib.Core.List.{[]};
 ghost use Rattle.message.specs.Message.{whole};
 ghost use Rattle.message.specs.Build.{digits, messageOf};
 ghost use Rattle.compose.specs.Compose.{withItem, withAll};
-ghost use Rattle.batch_messages.specs.BatchMessages.{field48, settlementFields, itemFields, endFields};
+ghost use Rattle.batch_messages.specs.BatchMessages.{field48, settlementFields, itemFields, managementFields, endFields, signOnFields};
 
 // A settlement request.
 pub fn settlement_message(x: Settings, batch: Batch, trace: Trace, t: Totals) -> Message
@@ -62,13 +62,28 @@ pub fn item_message(x: Settings, batch: Batch, e: Entry) -> Message
 pub fn end_message(x: Settings, batch: Batch, trace: Trace) -> Message
     ensures { λ r. ⌜ r ≡ withAll (endFields x batch trace) (messageOf 0x0320 []) ⌝ }
 {
+    management_message(0x0320, 202, x, batch, trace)
+}
+
+// A sign-on request.
+pub fn sign_on_message(x: Settings, batch: Batch, trace: Trace) -> Message
+    ensures { λ r. ⌜ r ≡ withAll (signOnFields x batch trace) (messageOf 0x0800 []) ⌝ }
+{
+    management_message(0x0800, 3, x, batch, trace)
+}
+
+// A message of a type that says no more than its management code.
+fn management_message(indicator: u16, code: u64, x: Settings, batch: Batch, trace: Trace) -> Message
+    ensures { λ r. ⌜ r ≡ withAll (managementFields code x batch trace) (messageOf indicator []) ⌝ }
+{
     let terminal = x.terminal;
     let merchant = x.merchant;
     let mut contents = [0u8; message::ROOM];
-    let h11 = compose::with_number(compose::typed(0x0320), 11, 6, trace.0 as u64, &mut contents);
+    let h = compose::typed(indicator);
+    let h11 = compose::with_number(h, 11, 6, trace.0 as u64, &mut contents);
     let h41 = compose::with_bytes(h11, 41, &terminal, &mut contents);
     let h42 = compose::with_bytes(h41, 42, &merchant, &mut contents);
-    let h60 = outgoing::with_field60(h42, 0, batch, 202, &mut contents);
+    let h60 = outgoing::with_field60(h42, 0, batch, code, &mut contents);
     message::joined(h60, contents)
 }
 

@@ -1,7 +1,7 @@
--- `batch_messages::end_message` meets its contract.
+-- `batch_messages::management_message` meets its contract.
 use borrow.Author.Needs.{needs}
-use Rattle.batch_messages.proofs.end_message.Statement.{statement}
-use Rattle.batch_messages.proofs.end_message.Tie as tie
+use Rattle.batch_messages.proofs.management_message.Statement.{statement}
+use Rattle.batch_messages.proofs.management_message.Tie as tie
 
 typed-requires : tie.Need-typed-requires
 typed-requires c κs = search needs
@@ -20,7 +20,7 @@ with-bytes-requires c κs = search needs
 
 slice-aggregate-with-bytes-2 : tie.Need-slice-aggregate-with-bytes-2
 slice-aggregate-with-bytes-2 c =
-    let g = c .before .before .before .before .before .before .before .before .before .before .good .0 in
+    let g = c .before .before .before .before .before .before .before .before .before .before .good in
     search needs
 
 with-bytes-requires-2 : tie.Need-with-bytes-requires-2
@@ -34,21 +34,17 @@ joined-requires c κs = tt
 
 returns : tie.Need-returns
 returns c =
-    let at-typed = c .before .before .before .before .before .before .before .before .before .before .before .before .typed in
-    let at-with-number = c .before .before .before .before .before .before .before .before .before .with-number in
-    let at-with-bytes = c .before .before .before .before .before .before .with-bytes in
-    let at-with-bytes2 = c .before .before .before .with-bytes2 in
     rw (
       c .joined .ensures,
       c .before .with-field60 .ensures,
-      at-with-bytes2 .ensures,
-      at-with-bytes .ensures,
-      at-with-number .ensures,
-      at-typed .ensures,
+      c .before .before .before .with-bytes2 .ensures,
+      c .before .before .before .before .before .before .with-bytes .ensures,
+      c .before .before .before .before .before .before .before .before .before .with-number .ensures,
+      c .before .before .before .before .before .before .before .before .before .before .before .before .typed .ensures,
     )
 
-pub end-message-spec : {M : Type 1} → statement M
-end-message-spec =
+pub management-message-spec : {M : Type 1} → statement M
+management-message-spec =
     tie.close
     (tie.spec
     typed-requires
