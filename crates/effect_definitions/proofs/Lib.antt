@@ -1,2 +1,3 @@
 -- Laws of what a call changes.
 pub mod Theorems
+pub mod SignOn

@@ -15,7 +15,7 @@ use Rattle.kinds.specs.Kinds.{isNeverReversed, isDebit, isCredit, sideOf}
 use Rattle.kinds.specs.Totals.{booked}
 use Rattle.kinds.specs.declared.Totals.{Totals}
 use Rattle.kinds.proofs.Booked.{booked-debit, booked-credit, booked-neither}
-use Rattle.state.specs.State.{isWaiting, closed, inPhase}
+use Rattle.state.specs.State.{waits, closed, inPhase}
 use Rattle.state.specs.declared.Phase.the-variants.{Uploading}
 use Rattle.state.specs.declared.State.{State}
 use Rattle.state.specs.declared.Awaited.the-variants as awaited
@@ -45,7 +45,7 @@ pub settlement-takes-trace : SettlementTakesTrace
 settlement-takes-trace s x = refl
 
 -- whichever of two states it is, nothing is awaited
-either : (b : Bool) (x y : State) → isWaiting x ≡ false → isWaiting y ≡ false → isWaiting (cond b x y) ≡ false
+either : (b : Bool) (x y : State) → waits (x .phase) ≡ false → waits (y .phase) ≡ false → waits (cond b x y .phase) ≡ false
 either true x y p q = p
 either false x y p q = q
 

@@ -12,7 +12,7 @@ use Rattle.journal.specs.declared.Found.{Found}
 use Rattle.journal.specs.declared.Found.the-variants.{At, Nowhere}
 use Rattle.kinds.specs.Kinds.{takesOriginal}
 use Rattle.message.specs.declared.Message.{Message}
-use Rattle.state.specs.State.{hasChip, approvedBy, approvalIn, inPhase, withChip}
+use Rattle.state.specs.State.{hasChip, approvedBy, approvalIn, inPhase, withChip, signsOn}
 use Rattle.state.specs.declared.Awaited.{Awaited}
 use Rattle.state.specs.declared.Count.the-variants.{Declined}
 use Rattle.state.specs.declared.Phase.{Phase}
@@ -21,7 +21,7 @@ use Rattle.state.specs.declared.Reason.the-variants.{BadMac}
 use Rattle.state.specs.declared.Request.{Request}
 use Rattle.state.specs.declared.State.{State}
 use Rattle.state.specs.declared.Awaited.the-variants as awaited
-use Rattle.effect_definitions.specs.StateEffects.{ended, pendingOrUnanswered, silenceOf, failed, oneMore, onReversal, onSettlement, onEnd}
+use Rattle.effect_definitions.specs.StateEffects.{signOnEnded, onSignOn, ended, pendingOrUnanswered, silenceOf, failed, oneMore, onReversal, onSettlement, onEnd}
 
 -- state and journal after a change
 pub record Changed : Type 0 where
@@ -54,6 +54,10 @@ silentIn (Waiting a) s j = silent a s j
 silentIn (Pending v) s j = changed s j
 silentIn Settling s j = changed s j
 silentIn Uploading s j = changed s j
+
+-- no answer to what is awaited, be it a sign-on, which then ends
+unfoldable pub unanswered : State → List ℕ → Changed
+unanswered s j = cond (signsOn s) (changed (signOnEnded s) j) (silentIn (s .phase) s j)
 
 -- a 21 or 23 marks its original voided, an 11 marks nothing
 abbrev pub voidedAt : Found → List ℕ → List ℕ
@@ -106,6 +110,18 @@ answered good a (awaited.Reversal v) s j = changed (onReversal good a v s) j
 answered good a (awaited.Settlement x) s j = changed (onSettlement a s) j
 answered good a (awaited.Item i) s j = changed (inPhase Uploading s) (onItem a i j)
 answered good a (awaited.End x) s j = changed (onEnd a s) j
+
+-- an answer in a phase; what is not awaited is not answered
+abbrev pub answeredIn : Phase → Bool → Message → State → List ℕ → Changed
+answeredIn Resting good a s j = changed s j
+answeredIn (Waiting w) good a s j = answered good a w s j
+answeredIn (Pending v) good a s j = changed s j
+answeredIn Settling good a s j = changed s j
+answeredIn Uploading good a s j = changed s j
+
+-- an answer to what is awaited, be it a sign-on
+unfoldable pub heard : Bool → Message → State → List ℕ → Changed
+heard good a s j = cond (signsOn s) (changed (onSignOn a s) j) (answeredIn (s .phase) good a s j)
 
 -- byte 3 grows by 1 as each resend leaves; an entry of mark 0 is sent the first time
 unfoldable pub resent : ℕ → Entry → List ℕ → List ℕ

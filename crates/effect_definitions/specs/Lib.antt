@@ -1,3 +1,4 @@
 pub mod StateEffects
 pub mod JournalEffects
 pub mod Theorems
+pub mod SignOn

@@ -2,13 +2,13 @@
 use mathlib.Core.Bool.{Bool, cond, _&&_, true}
 use Prim.Native.Nat.{ℕ, _+_}
 use lib.Dec.{eqb, leb}
-use Rattle.answer_match.specs.Match.{approves, endsReversal, closesBatch}
+use Rattle.answer_match.specs.Match.{approves, batchIn, endsReversal, closesBatch}
 use Rattle.kinds.specs.Kinds.{isNeverReversed}
 use Rattle.kinds.specs.Totals.{booked}
 use Rattle.message.specs.declared.Message.{Message}
 use Rattle.numbers.specs.declared.Batch.{Batch}
 use Rattle.numbers.specs.declared.Trace.{Trace}
-use Rattle.state.specs.State.{noChip, asSent, inPhase, counted, withChip, withTotals, withEntries, signed, closed, took, isResting, inBatch}
+use Rattle.state.specs.State.{noSignOn, noChip, asSent, inPhase, counted, withChip, withTotals, withEntries, withSignOn, signed, closed, took, isResting, inBatch}
 use Rattle.state.specs.declared.Chip.{Chip}
 use Rattle.state.specs.declared.Count.{Count}
 use Rattle.state.specs.declared.Count.the-variants.{Approved, Reversed, GivenUp, Unanswered, Sent}
@@ -24,9 +24,21 @@ use Rattle.state.specs.declared.Awaited.the-variants as awaited
 unfoldable pub adopts : State → Bool
 adopts s = eqb (s .counts .sent) 0 && isResting s
 
+-- document 02, request 3: a sign-on takes a new trace, and leaves the phase
+abbrev pub asksSignOn : State → Trace → State
+asksSignOn s trace = withSignOn trace (took trace s)
+
+-- however it ends, nothing else changes
+abbrev pub signOnEnded : State → State
+signOnEnded s = withSignOn noSignOn s
+
 -- signed on, in this batch
 abbrev pub on : Batch → State → State
 on batch s = signed true (inBatch batch s)
+
+-- only 00 signs on, and no other answer signs off
+unfoldable pub onSignOn : Message → State → State
+onSignOn a s = cond (approves a) (on (cond (adopts s) (batchIn a) (s .batch)) (signOnEnded s)) (signOnEnded s)
 
 -- the state once the request has left with a trace, and with a chip or none
 abbrev pub requested : State → Chip → Request → State

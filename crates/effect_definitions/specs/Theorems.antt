@@ -13,7 +13,7 @@ use Rattle.kinds.specs.declared.Totals.{Totals}
 use Rattle.answer_match.specs.Match.{approves, goodMac, closesBatch}
 use Rattle.entry.specs.Entry.{entrySize}
 use Rattle.entry.specs.declared.Entry.{Entry}
-use Rattle.state.specs.State.{chipBytes, hasChip, isWaiting}
+use Rattle.state.specs.State.{chipBytes, hasChip, waits}
 use Rattle.state.specs.declared.Awaited.{Awaited}
 use Rattle.state.specs.declared.Awaited.the-variants as awaited
 use Rattle.state.specs.declared.Chip.{Chip}
@@ -50,7 +50,7 @@ SettlementTakesTrace = (s : State) (x : Trace) → settles s x .next .0 ≡ foll
 
 -- silence ends every wait, and leaves a pending reversal pending
 abbrev pub SilenceEndsWait : Type 0
-SilenceEndsWait = (a : Awaited) (s : State) (j : List ℕ) → isWaiting (silentIn (Waiting a) s j .state) ≡ false
+SilenceEndsWait = (a : Awaited) (s : State) (j : List ℕ) → waits (silentIn (Waiting a) s j .state .phase) ≡ false
 
 abbrev pub PendingStays : Type 0
 PendingStays = (v : Reversal) (s : State) (j : List ℕ) → s .phase ≡ Pending v → silentIn (Pending v) s j .state .phase ≡ Pending v

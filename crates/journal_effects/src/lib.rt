@@ -12,10 +12,10 @@ ghost use mathlib.Core.Path.{_≡_};
 ghost use Prim.Native.Nat.{_+_, _<_};
 ghost use Rattle.journal.specs.Journal.{entriesOf, entryAt};
 ghost use Rattle.state.specs.State.{CountsBounded, awaitedAmount, amountIn, Bookable};
-ghost use Rattle.effect_definitions.specs.JournalEffects.{changed, silentMark, marked, silent, silentIn, voidedAt, originalVoided, approved, granted, onRequest, agreed, agreedIn, onItem, answered, resent};
+ghost use Rattle.effect_definitions.specs.JournalEffects.{changed, silentMark, marked, silent, silentIn, unanswered, voidedAt, originalVoided, approved, granted, onRequest, agreed, agreedIn, onItem, answered, resent};
 
 // What silence leaves of what is awaited.
-pub fn silent(s: State, a: Awaited, journal: &mut [u8]) -> State
+fn silent(s: State, a: Awaited, journal: &mut [u8]) -> State
     ensures { λ r. ⌜ (CountsBounded s → changed r (now (journal .exit)) ≡ silent a s (now (journal .entry))) ⌝ }
 {
     let settings = s.settings;
@@ -42,6 +42,16 @@ pub fn silent_in(s: State, journal: &mut [u8]) -> State
         return s;
     };
     silent(s, a, journal)
+}
+
+// No answer to what is awaited, be it a sign-on.
+pub fn unanswered(s: State, journal: &mut [u8]) -> State
+    ensures { λ r. ⌜ (CountsBounded s → changed r (now (journal .exit)) ≡ unanswered s (now (journal .entry))) ⌝ }
+{
+    if s.signs_on() {
+        return state_effects::sign_on_ended(s);
+    }
+    silent_in(s, journal)
 }
 
 // What an answer leaves of what is awaited.

@@ -14,10 +14,10 @@ ghost use mathlib.Core.Path.{_≡_};
 ghost use Prim.Native.Nat.{_+_, _<_, _≤_};
 ghost use Rattle.numbers.specs.Limits.{mostEntries, mostSendings};
 ghost use Rattle.state.specs.State.{CountsSmall, CountsBounded, Bookable};
-ghost use Rattle.effect_definitions.specs.StateEffects.{adopts, on, requested, ended, pendingOrUnanswered, silenceOf, failed, oneMore, onReversal, onSettlement, onEnd, again, settles, ending};
+ghost use Rattle.effect_definitions.specs.StateEffects.{adopts, asksSignOn, signOnEnded, on, onSignOn, requested, ended, pendingOrUnanswered, silenceOf, failed, oneMore, onReversal, onSettlement, onEnd, again, settles, ending};
 
 // Whether signing on adopts the batch number: no card request has left in this batch, and the terminal rests.
-pub fn adopts(s: State) -> bool
+fn adopts(s: State) -> bool
     ensures { λ r. ⌜ r ≡ adopts s ⌝ }
 {
     let counts = s.counts;
@@ -25,10 +25,39 @@ pub fn adopts(s: State) -> bool
 }
 
 // The state signed on in a batch.
-pub fn on(s: State, batch: Batch) -> State
+fn on(s: State, batch: Batch) -> State
     ensures { λ r. ⌜ r ≡ on batch s ⌝ }
 {
     s.in_batch(batch).signed(true)
+}
+
+// The state in which the answer to a sign-on is awaited.
+pub fn asks_sign_on(s: State, trace: Trace) -> State
+    ensures { λ r. ⌜ r ≡ asksSignOn s trace ⌝ }
+{
+    s.took(trace).with_sign_on(trace)
+}
+
+// The state once a sign-on has ended.
+pub fn sign_on_ended(s: State) -> State
+    ensures { λ r. ⌜ r ≡ signOnEnded s ⌝ }
+{
+    let none = Trace(0);
+    s.with_sign_on(none)
+}
+
+// An answer to a sign-on.
+pub fn on_sign_on(s: State, m: Message) -> State
+    ensures { λ r. ⌜ r ≡ onSignOn m s ⌝ }
+{
+    let ended = sign_on_ended(s);
+    if !answer_match::approves(m) {
+        return ended;
+    }
+    if adopts(s) {
+        return on(ended, answer_match::batch_in(m));
+    }
+    on(ended, s.batch)
 }
 
 // The state in which the request is awaited.
