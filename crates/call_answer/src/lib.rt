@@ -13,7 +13,7 @@ ghost use Rattle.journal.specs.Journal.{entriesOf};
 ghost use Rattle.state.specs.Calls.{lend, resultOf};
 ghost use Rattle.state.specs.State.{amountIn, Bookable};
 ghost use Rattle.call_definitions.specs.Answer.{noAnswer, powerReturned, traceSent, answerIn, answer};
-ghost use Rattle.call_answer.specs.Bounds.{Gives, readingNumber};
+ghost use Rattle.call_answer.specs.Bounds.{Gives, readingNumber, signOnAnswer};
 
 // The line has fallen silent.
 pub fn no_answer(s: State, journal: &mut [u8], message: &mut [u8]) -> Called
@@ -23,11 +23,10 @@ pub fn no_answer(s: State, journal: &mut [u8], message: &mut [u8]) -> Called
     if number != 0 {
         return Called::refused(s, number);
     }
-    let phase = s.phase;
-    let Phase::Waiting(a) = phase else {
+    if !s.is_waiting() {
         return Called::refused(s, 14);
-    };
-    Called::quiet(journal_effects::silent(s, a, journal))
+    }
+    Called::quiet(journal_effects::unanswered(s, journal))
 }
 
 // Power has returned.
@@ -38,7 +37,7 @@ pub fn power_returned(s: State, journal: &mut [u8], message: &mut [u8]) -> Calle
     if number != 0 {
         return Called::refused(s, number);
     }
-    Called::quiet(journal_effects::silent_in(s, journal).signed(false))
+    Called::quiet(journal_effects::unanswered(s, journal).signed(false))
 }
 
 // The centre's bytes, and the key pad's word on the MAC.
@@ -89,18 +88,33 @@ fn answer_in(s: State, m: Message, good: bool, journal: &mut [u8]) -> Called
     requires { ⌜ Bookable (amountIn (s .phase)) s ⌝ }
     ensures { λ r. ⌜ Gives r (now (journal .entry)) (now (journal .exit)) (answerIn good m s) ⌝ }
 {
-    let phase = s.phase;
-    let Phase::Waiting(a) = phase else {
-        return Called::refused(s, 14);
-    };
     let chip = s.chip;
     if chip.approved {
         return Called::refused(s, 14);
     }
+    if s.signs_on() {
+        return sign_on_answer(s, m);
+    }
+    let phase = s.phase;
+    let Phase::Waiting(a) = phase else {
+        return Called::refused(s, 14);
+    };
     let settings = s.settings;
     let trace = trace_sent(a, s.entries, journal);
     if answer_match::is_answer(settings, batch_sent(s), trace, a, m) {
         return Called::quiet(journal_effects::answered(s, a, m, good, journal));
+    }
+    Called::refused(s, 22)
+}
+
+// A message that was read, where the answer to a sign-on is awaited.
+fn sign_on_answer(s: State, m: Message) -> Called
+    ensures { λ r. ⌜ r ≡ signOnAnswer m s ⌝ }
+{
+    let settings = s.settings;
+    let trace = s.sign_on;
+    if answer_match::is_sign_on_answer(settings, trace, m) {
+        return Called::quiet(state_effects::on_sign_on(s, m));
     }
     Called::refused(s, 22)
 }

@@ -2,14 +2,13 @@
 use mathlib.Core.List.{List, [], _∷_}
 use mathlib.Core.Bool.{Bool}
 use Prim.Native.Nat.{ℕ}
-use Rattle.numbers.specs.declared.Batch.{Batch}
 use Rattle.state.specs.declared.State.{State}
 use Rattle.state.specs.Calls.{Lent, Result}
-use Rattle.call_definitions.specs.SignOn.{signedOn}
+use Rattle.call_definitions.specs.SignOn.{signOn}
 use Rattle.call_definitions.specs.Start.{start}
 use Rattle.desk.specs.declared.Desk.{Desk}
 use Rattle.calls.specs.declared.Call.{Call}
-use Rattle.calls.specs.declared.Call.the-variants.{SignedOn, Start, Answer, NoAnswer, PowerReturned, CardAgrees, CardDeclines, SendReversal, Settle, SendNextUpload}
+use Rattle.calls.specs.declared.Call.the-variants.{SignOn, Start, Answer, NoAnswer, PowerReturned, CardAgrees, CardDeclines, SendReversal, Settle, SendNextUpload}
 use Rattle.call_definitions.specs.SendReversal.{sendReversal}
 use Rattle.call_definitions.specs.Settle.{settle}
 use Rattle.call_definitions.specs.SendNextUpload.{sendNextUpload}
@@ -17,7 +16,7 @@ use Rattle.call_definitions.specs.Answer.{answer, noAnswer, powerReturne
 
 -- a call, with what is handed in besides state and buffers
 pub data Event : Type 0 where
-  signed-on : Batch → Event
+  sign-on : Event
   starts : Desk → List ℕ → Event
   answers : List ℕ → Bool → Event
   no-answer : Event
@@ -30,7 +29,7 @@ pub data Event : Type 0 where
 
 -- the event that a call's name stands for, with what the desk keyed and the bytes of its field 55 or of an answer
 abbrev pub eventOf : Call → Desk → List ℕ → Event
-eventOf (SignedOn batch) desk bytes = signed-on batch
+eventOf SignOn desk bytes = sign-on
 eventOf Start desk bytes = starts desk bytes
 eventOf (Answer good) desk bytes = answers bytes good
 eventOf NoAnswer desk bytes = no-answer
@@ -43,7 +42,7 @@ eventOf SendNextUpload desk bytes = send-next-upload
 
 -- what a call gives
 abbrev pub call : Event → State → Lent → Result
-call (signed-on batch) s lent = signedOn batch s lent
+call sign-on s lent = signOn s lent
 call (starts d b) s lent = start d b s lent
 call (answers b good) s lent = answer b good s lent
 call no-answer s lent = noAnswer s lent

@@ -26,6 +26,7 @@ use Rattle.effect_definitions.specs.JournalEffects.{originalVoided}
 use Rattle.call_definitions.specs.Answer.{answer, powerReturned, awaitsCard, cardAgrees}
 use Rattle.call_definitions.specs.Events.{call, eventOf}
 use Rattle.call_definitions.specs.SendReversal.{sendReversal, sendReversalRules}
+use Rattle.call_definitions.specs.SignOn.{signOn, signOnRules}
 use Rattle.call_definitions.specs.Start.{start, startRules, entryOf, originalOf}
 
 -- the entries of the journal that is lent
@@ -75,6 +76,16 @@ abbrev pub StartTakesTrace : Type 0
 StartTakesTrace = (d : Desk) (b : List ℕ) (s : State) (lent : Lent)
     → firstBroken (startRules d b s (entriesIn s lent) (entryOf (originalOf d (entriesIn s lent)) (entriesIn s lent)) lent) ≡ 0
     → start d b s lent .state .next .0 ≡ following (taken (entriesIn s lent) (s .next .0))
+
+-- document 02, request 3: so does a sign-on, and its answer is awaited by that trace
+abbrev pub SignOnTakesTrace : Type 0
+SignOnTakesTrace = (s : State) (lent : Lent) → firstBroken (signOnRules s lent) ≡ 0
+    → (signOn s lent .state .next .0 ≡ following (taken (entriesIn s lent) (s .next .0)))
+    × (signOn s lent .state .«sign_on» .0 ≡ taken (entriesIn s lent) (s .next .0))
+
+-- only 1, 2 and 11 refuse it: it passes in every phase that is no wait, signed on or off
+abbrev pub SignOnPasses : Type 0
+SignOnPasses = (s : State) (lent : Lent) → firstBroken (rules12 s lent) ≡ 0 → isWaiting s ≡ false → firstBroken (signOnRules s lent) ≡ 0
 
 -- the reversal that leaves is that of the pending request, sent once more
 abbrev pub ReversalOfRequest : Type 0

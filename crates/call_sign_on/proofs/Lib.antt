@@ -1,1 +1,2 @@
-pub mod Tests
+pub mod Refusals
+pub mod Results

@@ -1,9 +1,8 @@
 // The calls on a terminal as values.
-use numbers::Batch;
 
 // A call; what the desk keyed at a start, and the bytes of its field 55 or of an answer, stand beside it.
 pub enum Call {
-    SignedOn(Batch),
+    SignOn,
     Start,
     Answer(bool),
     NoAnswer,

@@ -3,7 +3,6 @@ use calls::Call;
 use desk::Desk;
 use entry::Entry;
 use message::Message;
-use numbers::Batch;
 use state::Called;
 use state::Outcome;
 use state::Settings;
@@ -12,7 +11,7 @@ ghost use mathlib.Core.Path.{_≡_};
 ghost use Rattle.state.specs.State.{fresh};
 ghost use Rattle.state.specs.Calls.{lend};
 ghost use Rattle.terminal.specs.Terminal.{limits, stepResult, stepOf};
-ghost use Rattle.call_definitions.specs.Events.{call, eventOf, signed-on, starts, answers, no-answer, power-returned, card-agrees, card-declines, send-reversal, settles, send-next-upload};
+ghost use Rattle.call_definitions.specs.Events.{call, eventOf, sign-on, starts, answers, no-answer, power-returned, card-agrees, card-declines, send-reversal, settles, send-next-upload};
 
 pub struct Terminal {
     pub state: State,
@@ -67,12 +66,12 @@ impl Terminal {
         }
     }
 
-    // The outer program has signed on, and the centre has told the batch number.
-    pub fn signed_on(self, batch: Batch, journal: &mut [u8], message: &mut [u8]) -> Step
-        ensures { λ r. ⌜ stepResult r (lend (now (journal .exit)) (now (message .exit))) ≡ call (signed-on batch) (self .state) (lend (now (journal .entry)) (now (message .entry))) ⌝ }
+    // Asks the centre for a sign-on.
+    pub fn sign_on(self, journal: &mut [u8], message: &mut [u8]) -> Step
+        ensures { λ r. ⌜ stepResult r (lend (now (journal .exit)) (now (message .exit))) ≡ call sign-on (self .state) (lend (now (journal .entry)) (now (message .entry))) ⌝ }
     {
         let state = self.state;
-        step_of(call_sign_on::signed_on(state, batch, journal, message))
+        step_of(call_sign_on::sign_on(state, journal, message))
     }
 
     // A card request leaves.
@@ -159,7 +158,7 @@ impl Terminal {
         ensures { λ r. ⌜ stepResult r (lend (now (journal .exit)) (now (message .exit))) ≡ call (eventOf c desk (now (bytes .entry))) (self .state) (lend (now (journal .entry)) (now (message .entry))) ⌝ }
     {
         match c {
-            Call::SignedOn(batch) => self.signed_on(batch, journal, message),
+            Call::SignOn => self.sign_on(journal, message),
             Call::Start => self.start(desk, bytes, journal, message),
             Call::Answer(good) => self.answer(bytes, good, journal, message),
             Call::NoAnswer => self.no_answer(journal, message),

@@ -1,7 +1,6 @@
 -- `call_answer::no_answer` meets its contract.
 use mathlib.Core.List.{[]}
 use borrow.Author.Needs.{needs}
-use Rattle.state.proofs.Phases.{not-waiting}
 use Rattle.call_definitions.proofs.Quietly.{roomy}
 use Rattle.call_answer.proofs.Steps.{no-answer-first-refusal, no-answer-unawaited, no-answer-changes}
 use Rattle.call_answer.proofs.no_answer.Statement.{statement}
@@ -24,8 +23,8 @@ returns c =
     let at-first-refusal = c .before .before .first-refusal in
     no-answer-first-refusal _ _ _ (at-first-refusal .ensures) _ (c .before .if1 .taken) (c .refused .ensures)
 
-enum-known-phase : tie.Need-enum-known-phase
-enum-known-phase c = search needs
+is-waiting-requires : tie.Need-is-waiting-requires
+is-waiting-requires c κs = search needs
 
 refused-requires-2 : tie.Need-refused-requires-2
 refused-requires-2 c κs = search needs
@@ -38,14 +37,14 @@ same-length-4 c = search needs
 
 returns-2 : tie.Need-returns-2
 returns-2 c =
-    let at-args = c .before .before .before .before .before .before .before .before .args in
-    let at-first-refusal = c .before .before .before .first-refusal in
-    let at-if1 = c .before .before .if1 in
-    no-answer-unawaited (at-args .s) _ _ (at-first-refusal .ensures) _ (at-if1 .left)
-    (not-waiting (at-args .s .phase) (c .before .match .keys2)) (c .refused2 .ensures)
+    let at-first-refusal = c .before .before .before .before .first-refusal in
+    let at-if1 = c .before .before .before .if1 in
+    let at-is-waiting = c .before .before .is-waiting in
+    no-answer-unawaited _ _ _ (at-first-refusal .ensures) _ (at-if1 .left) _
+    (at-is-waiting .ensures) (c .before .if2 .taken) (c .refused2 .ensures)
 
-silent-requires : tie.Need-silent-requires
-silent-requires c κs = search needs
+unanswered-requires : tie.Need-unanswered-requires
+unanswered-requires c κs = search needs
 
 quiet-requires : tie.Need-quiet-requires
 quiet-requires c κs = search needs
@@ -58,12 +57,13 @@ same-length-6 c = search needs
 
 returns-3 : tie.Need-returns-3
 returns-3 c =
-    let at-first-refusal = c .before .before .before .before .before .before .before .before .before .first-refusal in
-    let at-if1 = c .before .before .before .before .before .before .before .before .if1 in
-    let at-phase = c .before .before .before .before .before .before .phase in
-    let at-silent = c .before .before .before .silent in
-    no-answer-changes _ _ _ (at-first-refusal .ensures) _ _ _ _ (at-if1 .left) (at-phase .given .1) (at-silent .ensures (roomy _ _ [] _ (at-first-refusal .ensures) (at-if1 .left) .counts))
-    (c .quiet .ensures)
+    let at-first-refusal = c .before .before .before .before .before .before .before .before .first-refusal in
+    let at-if1 = c .before .before .before .before .before .before .before .if1 in
+    let at-is-waiting = c .before .before .before .before .before .before .is-waiting in
+    let at-if2 = c .before .before .before .before .before .if2 in
+    let at-unanswered = c .before .before .before .unanswered in
+    no-answer-changes _ _ _ (at-first-refusal .ensures) _ (at-if1 .left) _ (at-is-waiting .ensures) _ _ (at-if2 .left)
+    (at-unanswered .ensures (roomy _ _ [] _ (at-first-refusal .ensures) (at-if1 .left) .counts)) (c .quiet .ensures)
 
 pub no-answer-spec : {M : Type 1} → statement M
 no-answer-spec =
@@ -74,12 +74,12 @@ no-answer-spec =
     same-length
     same-length-2
     returns
-    enum-known-phase
+    is-waiting-requires
     refused-requires-2
     same-length-3
     same-length-4
     returns-2
-    silent-requires
+    unanswered-requires
     quiet-requires
     same-length-5
     same-length-6

@@ -23,8 +23,8 @@ returns c =
     let at-first-refusal = c .before .before .first-refusal in
     power-first-refusal _ _ _ (at-first-refusal .ensures) _ (c .before .if1 .taken) (c .refused .ensures)
 
-silent-in-requires : tie.Need-silent-in-requires
-silent-in-requires c κs = search needs
+unanswered-requires : tie.Need-unanswered-requires
+unanswered-requires c κs = search needs
 
 signed-requires : tie.Need-signed-requires
 signed-requires c κs = search needs
@@ -42,9 +42,9 @@ returns-2 : tie.Need-returns-2
 returns-2 c =
     let at-first-refusal = c .before .before .before .before .before .before .before .first-refusal in
     let at-if1 = c .before .before .before .before .before .before .if1 in
-    let at-silent-in = c .before .before .before .before .silent-in in
+    let at-unanswered = c .before .before .before .before .unanswered in
     power-changes _ _ _ (at-first-refusal .ensures) _ _ _ _ (at-if1 .left)
-    (at-silent-in .ensures (roomy _ _ [] _ (at-first-refusal .ensures) (at-if1 .left) .counts)) (c .before .signed .ensures)
+    (at-unanswered .ensures (roomy _ _ [] _ (at-first-refusal .ensures) (at-if1 .left) .counts)) (c .before .signed .ensures)
     (c .quiet .ensures)
 
 pub power-returned-spec : {M : Type 1} → statement M
@@ -56,7 +56,7 @@ power-returned-spec =
     same-length
     same-length-2
     returns
-    silent-in-requires
+    unanswered-requires
     signed-requires
     quiet-requires
     same-length-3

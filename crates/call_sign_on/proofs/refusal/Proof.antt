@@ -1,6 +1,6 @@
 -- `call_sign_on::refusal` meets its contract.
 use borrow.Author.Needs.{needs}
-use Rattle.call_sign_on.proofs.Tests.{stops, waits, out-of-range, none}
+use Rattle.call_sign_on.proofs.Refusals.{stops, waits, none}
 use Rattle.call_sign_on.proofs.refusal.Statement.{statement}
 use Rattle.call_sign_on.proofs.refusal.Tie as tie
 
@@ -10,50 +10,24 @@ first-refusal-requires c κs = search needs
 returns : tie.Need-returns
 returns c =
     let at-args = c .before .before .before .before .args in
-    stops (at-args .batch) (at-args .s) _ _ (c .before .first-refusal .ensures) (c .if1 .taken)
+    stops (at-args .s) _ _ (c .before .first-refusal .ensures) (c .if1 .taken)
 
 is-waiting-requires : tie.Need-is-waiting-requires
 is-waiting-requires c κs = search needs
 
-is-number-requires : tie.Need-is-number-requires
-is-number-requires c κs = search needs
-
 returns-2 : tie.Need-returns-2
 returns-2 c =
-    let at-args = c .before .before .before .before .before .before .before .args in
-    let at-first-refusal = c .before .before .before .before .first-refusal in
-    let at-if1 = c .before .before .before .if1 in
-    let at-is-waiting = c .before .before .is-waiting in
-    waits (at-args .batch) (at-args .s) _ _ (at-first-refusal .ensures) _ (at-if1 .left) (at-is-waiting .ensures) (c .if2 .taken)
+    let at-args = c .before .before .before .before .before .before .args in
+    let at-first-refusal = c .before .before .before .first-refusal in
+    let at-if1 = c .before .before .if1 in
+    waits (at-args .s) _ _ (at-first-refusal .ensures) (at-if1 .left) _ (c .before .is-waiting .ensures) (c .if2 .taken)
 
 returns-3 : tie.Need-returns-3
 returns-3 c =
-    let at-args = c .before .before .before .before .before .before .before .before .args in
-    let at-first-refusal = c .before .before .before .before .before .first-refusal in
-    let at-if1 = c .before .before .before .before .if1 in
-    let at-is-waiting = c .before .before .before .is-waiting in
-    let at-is-number = c .before .before .is-number in
-    out-of-range (at-args .batch) (at-args .s) _ _ (at-first-refusal .ensures) _ _ (at-if1 .left) (at-is-waiting .ensures)
-    (c .before .if2 .left) (at-is-number .ensures) (c .if3 .taken)
-
-returns-4 : tie.Need-returns-4
-returns-4 c =
-    let at-args = c .before .before .before .before .before .before .before .before .args in
-    let at-first-refusal = c .before .before .before .before .before .first-refusal in
-    let at-if1 = c .before .before .before .before .if1 in
-    let at-is-waiting = c .before .before .before .is-waiting in
-    let at-is-number = c .before .before .is-number in
-    none (at-args .batch) (at-args .s) _ _ (at-first-refusal .ensures) _ _ (at-if1 .left) (at-is-waiting .ensures) (c .before .if2 .left)
-    (at-is-number .ensures) (c .if3 .left)
+    let at-args = c .before .before .before .before .before .before .args in
+    let at-first-refusal = c .before .before .before .first-refusal in
+    let at-if1 = c .before .before .if1 in
+    none (at-args .s) _ _ (at-first-refusal .ensures) (at-if1 .left) _ (c .before .is-waiting .ensures) (c .if2 .left)
 
 pub refusal-spec : {M : Type 1} → statement M
-refusal-spec =
-    tie.close
-    (tie.spec
-    first-refusal-requires
-    returns
-    is-waiting-requires
-    is-number-requires
-    returns-2
-    returns-3
-    returns-4)
+refusal-spec = tie.close (tie.spec first-refusal-requires returns is-waiting-requires returns-2 returns-3)
