@@ -1,8 +1,8 @@
--- Fields 32, 44 and 63 of an answer change nothing: each word that a call uses of an answer says the same of two answers that
+-- Fields 32, 44 and 63 of an answer change nothing, nor do the bytes of 62: each word that a call uses of an answer says the same of two answers that
 -- are alike in all other fields.
 use mathlib.Core.Path.{_≡_, refl}
 use mathlib.Core.List.{List}
-use mathlib.Core.Bool.{Bool, false}
+use mathlib.Core.Bool.{Bool, false, true≢false}
 use Prim.Native.Nat.{ℕ}
 use Rattle.message.specs.declared.Message.{Message}
 use Rattle.reading.specs.Reading.{readMessage}
@@ -17,34 +17,34 @@ use Rattle.state.specs.declared.Phase.the-variants.{Resting, Waiting, Pending, 
 use Rattle.state.specs.declared.Settings.{Settings}
 use Rattle.state.specs.declared.State.{State}
 use Rattle.state.specs.Calls.{Lent}
-use Rattle.answer_match.specs.Match.{matchesSent, hasCode, approvalHolds, holdsNamed, isAnswer, goodMac, endsReversal, closesBatch}
+use Rattle.answer_match.specs.Match.{repeats, matchesSent, batchIn, signOnHolds, isSignOnAnswer, hasCode, approvalHolds, holdsNamed, isAnswer, goodMac, endsReversal, closesBatch}
 use Rattle.approval.specs.Approval.{fieldOr, approvalOf}
-use Rattle.effect_definitions.specs.JournalEffects.{granted, onRequest, onItem, answered}
-use Rattle.effect_definitions.specs.StateEffects.{onReversal, onSettlement, onEnd}
-use Rattle.call_definitions.specs.Answer.{answersIn, answeredIn, answerIn, answer}
-use Rattle.call_theorems.specs.UnusedFields.{unused, AlikeButUnused, UnusedFieldsChangeNothing}
+use Rattle.effect_definitions.specs.JournalEffects.{granted, onRequest, onItem, answered, answeredIn, heard}
+use Rattle.effect_definitions.specs.StateEffects.{onReversal, onSettlement, onEnd, onSignOn}
+use Rattle.call_definitions.specs.Answer.{answersIn, answerIn, answer}
+use Rattle.call_theorems.specs.UnusedFields.{unused, unread, AlikeButUnused, UnusedFieldsChangeNothing, KeysChangeNothing}
 
 module _ (a b : Message) (h : AlikeButUnused a b) where
   -- the words for a field
-  matches-same : (n : ℕ) → unused n ≡ false → (x : List ℕ) → matches a n x ≡ matches b n x
+  matches-same : (n : ℕ) → unused n ≡ false → unread n ≡ false → (x : List ℕ) → matches a n x ≡ matches b n x
   unfolding matches
-  matches-same n u x = rw (h .named n u, h .fields n u)
+  matches-same n u v x = rw (h .named n u, h .fields n v)
 
-  copies-same : (n k : ℕ) → unused n ≡ false → copies a n k ≡ copies b n k
+  copies-same : (n k : ℕ) → unused n ≡ false → unread n ≡ false → copies a n k ≡ copies b n k
   unfolding copies
-  copies-same n k u = rw (h .named n u, h .fields n u)
+  copies-same n k u v = rw (h .named n u, h .fields n v)
 
-  number-same : (n i k : ℕ) → unused n ≡ false → numberIn a n i k ≡ numberIn b n i k
+  number-same : (n i k : ℕ) → unused n ≡ false → unread n ≡ false → numberIn a n i k ≡ numberIn b n i k
   unfolding numberIn
-  number-same n i k u = rw (h .named n u, h .fields n u)
+  number-same n i k u v = rw (h .named n u, h .fields n v)
 
-  field-same : (n k : ℕ) (x : List ℕ) → unused n ≡ false → fieldOr n k x a ≡ fieldOr n k x b
+  field-same : (n k : ℕ) (x : List ℕ) → unused n ≡ false → unread n ≡ false → fieldOr n k x a ≡ fieldOr n k x b
   unfolding fieldOr
-  field-same n k x u = rw (copies-same n k u, h .fields n u)
+  field-same n k x u v = rw (copies-same n k u v, h .fields n v)
 
   -- what the answer says
   code-same : (x y : ℕ) → hasCode x y a ≡ hasCode x y b
-  code-same x y = matches-same 39 refl _
+  code-same x y = matches-same 39 refl refl _
 
   mac-same : (good : Bool) → goodMac good a ≡ goodMac good b
   unfolding goodMac
@@ -56,26 +56,37 @@ module _ (a b : Message) (h : AlikeButUnused a b) where
 
   closes-same : closesBatch a ≡ closesBatch b
   unfolding closesBatch
-  closes-same = rw (number-same 48 30 1 refl)
+  closes-same = rw (number-same 48 30 1 refl refl)
 
   says-same : approvalOf a ≡ approvalOf b
   unfolding approvalOf
-  says-same = rw (field-same 13 2 _ refl, field-same 38 6 _ refl, field-same 37 12 _ refl)
+  says-same = rw (field-same 13 2 _ refl refl, field-same 38 6 _ refl refl, field-same 37 12 _ refl refl)
 
   -- whether it is the answer
+  repeats-same : (x : Settings) (n : ℕ) (trace : Trace) → repeats x n trace a ≡ repeats x n trace b
+  unfolding repeats
+  repeats-same x n trace = rw (matches-same 11 refl refl _, matches-same 41 refl refl _, matches-same 42 refl refl _, h .indicator)
+
   sent-same : (x : Settings) (batch : Batch) (n : ℕ) (trace : Trace) → matchesSent x batch n trace a ≡ matchesSent x batch n trace b
   unfolding matchesSent
-  sent-same x batch n trace =
-      rw (matches-same 11 refl _, matches-same 41 refl _, matches-same 42 refl _, number-same 60 2 6 refl, h .indicator)
+  sent-same x batch n trace = rw (repeats-same x n trace, number-same 60 2 6 refl refl)
+
+  batch-same : batchIn a ≡ batchIn b
+  unfolding batchIn
+  batch-same = rw (number-same 60 2 6 refl refl)
+
+  sign-on-same : (x : Settings) (trace : Trace) → isSignOnAnswer x trace a ≡ isSignOnAnswer x trace b
+  unfolding isSignOnAnswer signOnHolds
+  sign-on-same x trace = rw (repeats-same x 0x0800 trace, h .named 39 refl, code-same 0x30 0x30, batch-same, h .named 62 refl)
 
   approval-same : (n : ℕ) → approvalHolds n a ≡ approvalHolds n b
   unfolding approvalHolds
-  approval-same n = rw (code-same 0x30 0x30, matches-same 4 refl _, h .named 13 refl, h .named 37 refl)
+  approval-same n = rw (code-same 0x30 0x30, matches-same 4 refl refl _, h .named 13 refl, h .named 37 refl)
 
   holds-same : (w : Awaited) → holdsNamed w a ≡ holdsNamed w b
   holds-same (awaited.Request q) = rw (h .named 39 refl, approval-same (q .amount))
   holds-same (awaited.Reversal v) = h .named 39 refl
-  holds-same (awaited.Settlement x) = rw (number-same 48 30 1 refl)
+  holds-same (awaited.Settlement x) = rw (number-same 48 30 1 refl refl)
   holds-same (awaited.Item i) = h .named 39 refl
   holds-same (awaited.End x) = h .named 39 refl
 
@@ -106,9 +117,27 @@ module _ (a b : Message) (h : AlikeButUnused a b) where
   in-phase-same Settling good s j = refl
   in-phase-same Uploading good s j = refl
 
+  signed-on-same : (s : State) → onSignOn a s ≡ onSignOn b s
+  unfolding onSignOn
+  signed-on-same s = rw (code-same 0x30 0x30, batch-same)
+
+  heard-same : (good : Bool) (s : State) (j : List ℕ) → heard good a s j ≡ heard good b s j
+  unfolding heard
+  heard-same good s j = rw (signed-on-same s, in-phase-same (s .phase) good s j)
+
   answer-same : (good : Bool) (s : State) (lent : Lent) → answerIn good a s lent ≡ answerIn good b s lent
-  answer-same good s lent = rw (answers-same (s .phase) _ s, in-phase-same (s .phase) good s (lent .journal))
+  answer-same good s lent =
+      rw (sign-on-same (s .settings) (s .«sign_on»), answers-same (s .phase) _ s, heard-same good s (lent .journal))
 
 pub unused-fields-change-nothing : UnusedFieldsChangeNothing
 unfolding answer
 unused-fields-change-nothing a b good s lent p q h = rw (p, q, answer-same (readMessage a .message) (readMessage b .message) h good s lent)
+
+-- a field that is read is not 62
+not-keys : (n : ℕ) → unread n ≡ false → n ≡ 62 → ⊥
+not-keys n h e = true≢false (rw e at h)
+
+pub keys-change-nothing : KeysChangeNothing
+keys-change-nothing a b good s lent p q h =
+    unused-fields-change-nothing a b good s lent p q
+    (record { indicator = h .indicator; named = λ n u. rw (h .bitmap); fields = λ n v. h .fields n (not-keys n v) })

@@ -28,7 +28,7 @@ use Rattle.state.specs.State.{hasChip, approvalIn, inPhase}
 use Rattle.state.specs.Calls.{Lent, withJournal}
 use Rattle.rules.specs.Rules.{originalUnvoided, requestKept}
 use Rattle.state_rules.specs.StateRules.{requestInForm, requestAwaited, approvalInForm, past}
-use Rattle.state_rules.proofs.Holds.{request-holds, ApprovalHolds, approval-holds, ChipHolds, no-chip}
+use Rattle.state_rules.proofs.Holds.{request-holds, ApprovalHolds, approval-holds, ChipHolds, no-chip, no-sign-on, none-over-wait}
 use Rattle.rules.proofs.InOrder.{InOrder, Fit}
 use Rattle.approval.specs.Approval.{approvedEntry}
 use Rattle.approval.proofs.Approval.{shaped, in-form}
@@ -83,6 +83,7 @@ more-order q s es fs h l p d c kind amount t =
             sent-most = h .state .sent-most;
             phase-form = refl;
             chip = no-chip Resting;
+            sign-on = no-sign-on Resting (s .«sign_on») (none-over-wait (Waiting (awaited.Request q)) (s .«sign_on») refl (h .state .sign-on));
             few = omega arith;
             balance = omega (arith, h .state .balance);
             approvals = omega (arith, h .state .approvals);

@@ -1,7 +1,7 @@
 -- What the outcome of each call says.
 use mathlib.Core.Path.{_≡_, refl}
 use mathlib.Core.List.{List}
-use mathlib.Core.Bool.{Bool, false, cond, not}
+use mathlib.Core.Bool.{Bool, false, not}
 use Prim.Native.Nat.{ℕ}
 use borrow.Author.Tests.{not-false}
 use Rattle.message.specs.declared.Message.{Message}
@@ -10,7 +10,6 @@ use Rattle.reading.specs.declared.ReadOutcome.{ReadOutcome as Judgement}
 use Rattle.reading.specs.declared.ReadOutcome.the-variants.{Read, Refused as Unread}
 use Rattle.writing.specs.Writing.{messageBytes}
 use Rattle.numbers.specs.declared.Trace.{Trace}
-use Rattle.numbers.specs.declared.Batch.{Batch}
 use Rattle.journal.specs.Journal.{entriesOf, entryAt, nextDue, taken}
 use Rattle.journal.specs.declared.Found.{Found}
 use Rattle.journal.specs.declared.Found.the-variants.{At, Nowhere}
@@ -18,28 +17,28 @@ use Rattle.state.specs.declared.Phase.{Phase}
 use Rattle.state.specs.declared.Phase.the-variants.{Resting, Waiting, Pending, Settling, Uploading}
 use Rattle.state.specs.declared.State.{State}
 use Rattle.checks.specs.Checks.{firstBroken}
-use Rattle.state.specs.Calls.{Lent, judged, quiet}
+use Rattle.state.specs.Calls.{Lent, judged}
 use Rattle.checks.proofs.Choices.{passed}
 use Rattle.rules.specs.Rules.{tooShort, keepsRule2, rules12, due}
 use Rattle.rules.proofs.InOrder.{Fit}
 use Rattle.outgoing.specs.Outgoing.{requestMessage, reversalMessage}
-use Rattle.call_definitions.specs.SignOn.{signedOnRules, signedOn}
-use Rattle.effect_definitions.specs.StateEffects.{adopts, on, again}
+use Rattle.call_definitions.specs.SignOn.{signOnRules, signOn}
+use Rattle.effect_definitions.specs.StateEffects.{again}
 use Rattle.call_definitions.proofs.Refusals.{unbroken}
 use Rattle.call_definitions.specs.Start.{originalOf, entryOf, namedBy, startRules, start}
 use Rattle.desk.specs.DeskRules.{chipFrom, requestOf}
 use Rattle.desk.specs.declared.Desk.{Desk}
 use Rattle.call_definitions.specs.SendReversal.{sendFrom, sendReversalRules, sendReversal}
 use Rattle.call_definitions.specs.Settle.{settleRules, settle}
-use Rattle.batch_messages.specs.BatchMessages.{settlementMessage, itemMessage, endMessage}
+use Rattle.batch_messages.specs.BatchMessages.{signOnMessage, settlementMessage, itemMessage, endMessage}
 use Rattle.call_definitions.specs.SendNextUpload.{sendsNext, uploadFrom, sendNextUploadRules, sendNextUpload}
-use Rattle.call_definitions.specs.Answer.{quietly, noAnswerRules, noAnswer, withoutPower, powerReturned, cardRules, cardAgrees, cardDeclines, answeredIn, answerRules, readIn, answer}
-use Rattle.effect_definitions.specs.JournalEffects.{Changed, silentIn, agreedIn}
+use Rattle.call_definitions.specs.Answer.{quietly, noAnswerRules, noAnswer, withoutPower, powerReturned, cardRules, cardAgrees, cardDeclines, answerRules, readIn, answer}
+use Rattle.effect_definitions.specs.JournalEffects.{Changed, silentIn, agreedIn, unanswered, heard}
 use Rattle.call_theorems.proofs.Back.{ready-fits}
-use Rattle.call_definitions.specs.Events.{Event, signed-on, starts, answers, no-answer, power-returned, card-agrees, card-declines, send-reversal, settles, send-next-upload, call}
+use Rattle.call_definitions.specs.Events.{Event, sign-on, starts, answers, no-answer, power-returned, card-agrees, card-declines, send-reversal, settles, send-next-upload, call}
 use Rattle.call_definitions.specs.Shapes.{SettingsShaped, EventShaped}
 use Rattle.call_theorems.proofs.Told.{Told, told-refused, told-quiet, told-sent, told-judged}
-use Rattle.call_theorems.proofs.Leaving.{started-reads, pending-reads, settlement-reads, item-reads, end-reads}
+use Rattle.call_theorems.proofs.Leaving.{sign-on-reads, started-reads, pending-reads, settlement-reads, item-reads, end-reads}
 
 -- the settings and what is handed in are shaped
 abbrev pub Shapes : Event → State → Type 0
@@ -47,23 +46,18 @@ Shapes e s = SettingsShaped (s .settings) × EventShaped e
 
 -- the calls that send nothing
 module _ (Shaped : Type 0) (s : State) (lent : Lent) where
-  signed-on-told : (batch : Batch) → Told Shaped s lent (signedOn batch s lent)
-  unfolding signedOn
-  signed-on-told batch =
-      told-judged (firstBroken (signedOnRules batch s lent)) (quiet (on (cond (adopts s) batch (s .batch)) s) lent) (λ z. told-quiet)
-
   -- silence, the power, and the card's word
   quietly-told : (n : ℕ) (c : Changed) → Told Shaped s lent (judged n s lent (quietly c lent))
   quietly-told n c = told-judged n (quietly c lent) (λ z. told-quiet)
 
   no-answer-told : Told Shaped s lent (noAnswer s lent)
   unfolding noAnswer
-  no-answer-told = quietly-told (firstBroken (noAnswerRules s lent)) (silentIn (s .phase) s (lent .journal))
+  no-answer-told = quietly-told (firstBroken (noAnswerRules s lent)) (unanswered s (lent .journal))
 
   power-returned-told : Told Shaped s lent (powerReturned s lent)
   unfolding powerReturned
   power-returned-told =
-      told-judged (firstBroken (rules12 s lent)) (withoutPower (silentIn (s .phase) s (lent .journal)) lent) (λ z. told-quiet)
+      told-judged (firstBroken (rules12 s lent)) (withoutPower (unanswered s (lent .journal)) lent) (λ z. told-quiet)
 
   card-agrees-told : Told Shaped s lent (cardAgrees s lent)
   unfolding cardAgrees
@@ -75,7 +69,7 @@ module _ (Shaped : Type 0) (s : State) (lent : Lent) where
 
   -- an answer
   read-in : (o : Judgement) (good : Bool) (a : Message) → Told Shaped s lent (readIn o good a s lent)
-  read-in Read good a = quietly-told (firstBroken (answerRules a s (lent .journal))) (answeredIn (s .phase) good a s (lent .journal))
+  read-in Read good a = quietly-told (firstBroken (answerRules a s (lent .journal))) (heard good a s (lent .journal))
   read-in (Unread n) good a = told-refused
 
   answer-told : (b : List ℕ) (good : Bool) → Told Shaped s lent (answer b good s lent)
@@ -87,6 +81,15 @@ module _ (Shaped : Type 0) (s : State) (lent : Lent) where
 -- rules 1 and 2 have passed
 fits : (s : State) (lent : Lent) → tooShort s lent ≡ false → not (keepsRule2 s (entriesOf (s .entries) (lent .journal))) ≡ false → Fit s lent
 fits s lent a b = ready-fits s lent (record { long = a; order = not-false (keepsRule2 s (entriesOf (s .entries) (lent .journal))) b })
+
+sign-on-told : (s : State) (lent : Lent) → Told (Shapes sign-on s) s lent (signOn s lent)
+unfolding signOn
+sign-on-told s lent =
+    let rs = signOnRules s lent in
+    let trace : Trace = record { 0 = taken (entriesOf (s .entries) (lent .journal)) (s .next .0) } in
+    told-judged (firstBroken rs) _
+    (λ z. told-sent (messageBytes (signOnMessage (s .settings) (s .batch) trace))
+    (λ x. sign-on-reads s lent (fits s lent (passed 1 rs refl z) (passed 2 rs refl z)) (x .0) trace))
 
 start-told : (d : Desk) (b : List ℕ) (s : State) (lent : Lent) → Told (Shapes (starts d b) s) s lent (start d b s lent)
 unfolding start
@@ -148,7 +151,7 @@ send-next-upload-told s lent =
     (λ z. upload-from s lent (fits s lent (passed 1 rs refl z) (passed 2 rs refl z)) (s .phase))
 
 pub call-told : (e : Event) (s : State) (lent : Lent) → Told (Shapes e s) s lent (call e s lent)
-call-told (signed-on batch) s lent = signed-on-told _ s lent batch
+call-told sign-on s lent = sign-on-told s lent
 call-told (starts d b) s lent = start-told d b s lent
 call-told (answers b good) s lent = answer-told _ s lent b good
 call-told no-answer s lent = no-answer-told _ s lent

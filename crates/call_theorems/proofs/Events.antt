@@ -15,6 +15,7 @@ use Rattle.message_theorems.proofs.Readable.{date-packed, reference-printable, 
 use Rattle.parts.specs.Parts.{matches}
 use Rattle.numbers.specs.declared.Trace.{Trace}
 use Rattle.numbers.specs.declared.Batch.{Batch}
+use Rattle.entry.specs.declared.Entry.{Entry}
 use Rattle.journal.specs.Journal.{entriesOf}
 use Rattle.state.specs.declared.Request.{Request}
 use Rattle.state.specs.declared.Reason.the-variants.{BadMac}
@@ -26,22 +27,24 @@ use Rattle.state.specs.declared.Phase.the-variants.{Resting, Waiting, Pending, 
 use Rattle.state.specs.declared.Settings.{Settings}
 use Rattle.state.specs.declared.State.{State}
 use Rattle.state.specs.declared.Count.the-variants.{Declined, Reversed}
-use Rattle.state.specs.State.{hasChip, approvedBy, approvalIn, inPhase, withChip, closed}
+use Rattle.state.specs.State.{hasChip, approvedBy, approvalIn, inPhase, withChip, closed, signsOn}
 use Rattle.state.specs.Calls.{Lent, withJournal}
 use Rattle.checks.proofs.Choices.{passed}
 use Rattle.checks.specs.Checks.{firstBroken}
 use Rattle.rules.specs.Rules.{rules12}
 use Rattle.rules.proofs.InOrder.{Fit}
 use Rattle.state_rules.proofs.Holds.{ApprovalHolds}
-use Rattle.answer_match.specs.Match.{isAnswer, matchesSent, holdsNamed, indicatorSent, approves, approvalHolds, goodMac, endsReversal, closesBatch}
+use Rattle.answer_match.specs.Match.{isAnswer, isSignOnAnswer, matchesSent, holdsNamed, indicatorSent, approves, approvalHolds, goodMac, endsReversal, closesBatch}
 use Rattle.approval.specs.Approval.{approvalOf, approvedEntry}
 use Rattle.approval.proofs.Approval.{answer-holds}
-use Rattle.call_definitions.specs.Answer.{noAnswerRules, noAnswer, withoutPower, powerReturned, awaitsCard, cardRules, cardAgrees, cardDeclines, answersIn, answeredIn, answerRules, answerIn, readIn, answer}
-use Rattle.effect_definitions.specs.JournalEffects.{Changed, changed, silent, silentIn, approved, granted, onRequest, agreed, agreedIn, answered}
-use Rattle.effect_definitions.specs.StateEffects.{ended, pendingOrUnanswered, silenceOf, failed, onReversal, onSettlement, onEnd}
+use Rattle.effect_definitions.proofs.SignOn.{unanswered-as}
+use Rattle.call_definitions.specs.Answer.{noAnswerRules, noAnswer, withoutPower, powerReturned, awaitsCard, cardRules, cardAgrees, cardDeclines, answersIn, answersNow, answerRules, answerIn, readIn, answer}
+use Rattle.effect_definitions.specs.JournalEffects.{Changed, changed, silent, silentIn, unanswered, approved, granted, onRequest, agreed, agreedIn, answered, answeredIn, heard}
+use Rattle.effect_definitions.specs.StateEffects.{onSignOn, ended, pendingOrUnanswered, silenceOf, failed, onReversal, onSettlement, onEnd}
 use Rattle.call_theorems.proofs.Refusing.{Fits, judged-fits}
 use Rattle.call_theorems.proofs.Phases.{pending-or-unanswered-fit, declined-fit, consent-fit, failed-fit, reversed-fit, settling-fit, uploading-fit, ending-fit, closed-fit, off-fit}
 use Rattle.call_theorems.proofs.Items.{silent-item, answered-item}
+use Rattle.call_theorems.proofs.Signing.{ended-fit, answered-sign-on}
 use Rattle.call_theorems.proofs.Approving.{consent-holds, approved-fit}
 
 -- rules 1 and 2 pass after a change
@@ -64,16 +67,19 @@ silent-in (Pending v) s lent h = h
 silent-in Settling s lent h = h
 silent-in Uploading s lent h = h
 
+unanswered-fits : (s : State) (lent : Lent) → Fit s lent → FitsAfter (unanswered s (lent .journal)) lent
+unanswered-fits s lent h = unanswered-as (λ c. FitsAfter c lent) s (lent .journal) (λ e. ended-fit s lent h) (λ e. silent-in (s .phase) s lent h)
+
 pub no-answer-fits : (s : State) (lent : Lent) → Fit s lent → Fits (noAnswer s lent)
 unfolding noAnswer
-no-answer-fits s lent h = judged-fits (firstBroken (noAnswerRules s lent)) s lent _ h (λ z. silent-in (s .phase) s lent h)
+no-answer-fits s lent h = judged-fits (firstBroken (noAnswerRules s lent)) s lent _ h (λ z. unanswered-fits s lent h)
 
 pub power-returned-fits : (s : State) (lent : Lent) → Fit s lent → Fits (powerReturned s lent)
 unfolding powerReturned
 power-returned-fits s lent h =
-    let c = silentIn (s .phase) s (lent .journal) in
+    let c = unanswered s (lent .journal) in
     judged-fits (firstBroken (rules12 s lent)) s lent (withoutPower c lent) h
-    (λ z. off-fit (c .state) (withJournal (c .journal) lent) (silent-in (s .phase) s lent h))
+    (λ z. off-fit (c .state) (withJournal (c .journal) lent) (unanswered-fits s lent h))
 
 pub card-declines-fits : (s : State) (lent : Lent) → Fit s lent → Fits (cardDeclines s lent)
 unfolding cardDeclines
@@ -164,7 +170,7 @@ module _ (a : Message) (good : Bool) (says : Approves a) (s : State) (lent : Len
   settlement-fits x h = go (closesBatch a)
     where
       go : (y : Bool) → Fit (cond y (closed s) (inPhase Uploading s)) lent
-      go true = closed-fit (inPhase (Waiting (awaited.Settlement x)) s) lent refl refl h
+      go true = closed-fit (inPhase (Waiting (awaited.Settlement x)) s) lent refl refl refl h
       go false = uploading-fit s lent x h
 
   end-fits : (x : Trace) → Fit (inPhase (Waiting (awaited.End x)) s) lent → Fit (onEnd a s) lent
@@ -172,7 +178,7 @@ module _ (a : Message) (good : Bool) (says : Approves a) (s : State) (lent : Len
   end-fits x h = go (approves a)
     where
       go : (y : Bool) → Fit (cond y (closed s) (inPhase Uploading s)) lent
-      go true = closed-fit (inPhase (Waiting (awaited.End x)) s) lent refl refl h
+      go true = closed-fit (inPhase (Waiting (awaited.End x)) s) lent refl refl refl h
       go false = ending-fit s lent x h
 
   answered-fits : (w : Awaited) → s .phase ≡ Waiting w → Fit (inPhase (Waiting w) s) lent → holdsNamed w a ≡ true
@@ -200,10 +206,24 @@ answered-in (Pending v) a good n s lent h e = h
 answered-in Settling a good n s lent h e = h
 answered-in Uploading a good n s lent h e = h
 
+-- what an answer leaves of what is awaited, be it a sign-on
+heard-fits : (a : Message) (good : Bool) → Approves a → (s : State) (lent : Lent) → Fit s lent
+    → not (answersNow (entriesOf (s .entries) (lent .journal)) s a) ≡ false → FitsAfter (heard good a s (lent .journal)) lent
+unfolding heard
+heard-fits a good n s lent h e = go (signsOn s) e
+  where
+    es : List Entry
+    es = entriesOf (s .entries) (lent .journal)
+
+    go : (b : Bool) → not (cond b (isSignOnAnswer (s .settings) (s .«sign_on») a) (answersIn (s .phase) es s a)) ≡ false
+        → FitsAfter (cond b (changed (onSignOn a s) (lent .journal)) (answeredIn (s .phase) good a s (lent .journal))) lent
+    go true e = answered-sign-on a s lent h (not-false _ e)
+    go false e = answered-in (s .phase) a good n s lent h e
+
 answer-in : (a : Message) (good : Bool) → Approves a → (s : State) (lent : Lent) → Fit s lent → Fits (answerIn good a s lent)
 answer-in a good n s lent h =
     let rs = answerRules a s (lent .journal) in
-    judged-fits (firstBroken rs) s lent _ h (λ z. answered-in (s .phase) a good n s lent h (passed 22 rs refl z))
+    judged-fits (firstBroken rs) s lent _ h (λ z. heard-fits a good n s lent h (passed 22 rs refl z))
 
 read-in : (o : Judgement) (a : Message) (good : Bool) → (o ≡ Read → Approves a) → (s : State) (lent : Lent) → Fit s lent
     → Fits (readIn o good a s lent)

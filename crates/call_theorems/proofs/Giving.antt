@@ -1,6 +1,6 @@
 -- L failed sendings give a reversal up.
 use mathlib.Core.Path.{_≡_, refl, ap, _∙_}
-use mathlib.Core.Bool.{true}
+use mathlib.Core.Bool.{true, false}
 use Prim.Native.Nat.{ℕ, zero, suc, _+_, _≤_, _<_}
 use native.Mathlib.Numerals.{add-one}
 use native.Mathlib.Omega.{arith}
@@ -8,6 +8,7 @@ use lib.ListN.{length}
 use Rattle.writing.specs.Writing.{messageBytes}
 use Rattle.state.specs.declared.Reversal.{Reversal}
 use Rattle.state.specs.declared.Phase.the-variants.{Resting, Pending}
+use Rattle.state.specs.State.{signsOn}
 use Rattle.state.specs.Calls.{Result}
 use Rattle.outgoing.specs.Outgoing.{reversalMessage}
 use Rattle.call_definitions.specs.SendReversal.{sendReversal}
@@ -28,8 +29,8 @@ abbrev next : Result → Result
 next x = silenced (sendReversal (x .state) (x .lent))
 
 none-failed : (v : Reversal) (r : Result) → Ready (r .state) (r .lent) → r .state .«signed_on» ≡ true
-    → r .state .phase ≡ Pending v → v .sendings ≡ 0 → Failed 0 v r r
-none-failed v r h o p z = record { pends = record { ready = h; on = o; phase = p ∙ rw (← z) }; most = refl; given = refl }
+    → r .state .phase ≡ Pending v → signsOn (r .state) ≡ false → v .sendings ≡ 0 → Failed 0 v r r
+none-failed v r h o p a z = record { pends = record { ready = h; on = o; phase = p ∙ rw (← z); alone = a }; most = refl; given = refl }
 
 one-failed : (k : ℕ) (v : Reversal) (r x : Result) → suc k < r .state .settings .sendings → Failed k v r x → Failed (suc k) v r (next x)
 one-failed k v r x l f =
@@ -40,6 +41,7 @@ one-failed k v r x l f =
             ready = stays-ready (sentTimes k v) (x .state) (x .lent) (f .pends);
             on = rw e (f .pends .on);
             phase = rw (e, add-one);
+            alone = rw e (f .pends .alone);
           };
       most = rw e (f .most);
       given = rw e (f .given);
@@ -64,9 +66,9 @@ ended zero v r e h f = absurd (omega arith)
 ended (suc k) v r e h f = last-failed k v r (failures k r) e (all-failed k v r f (omega arith))
 
 pub given-up : (r : Result) (v : Reversal) → Ready (r .state) (r .lent) → r .state .«signed_on» ≡ true
-    → r .state .phase ≡ Pending v → v .sendings ≡ 0 → GivenUp r v
-given-up r v h o p z =
-    let none = none-failed v r h o p z in
+    → r .state .phase ≡ Pending v → signsOn (r .state) ≡ false → v .sendings ≡ 0 → GivenUp r v
+given-up r v h o p a z =
+    let none = none-failed v r h o p a z in
     let fits = ready-fits (r .state) (r .lent) h in
     let last = ended (r .state .settings .sendings) v r refl (fits .order .state .settings .sendings-least) none in
     record {

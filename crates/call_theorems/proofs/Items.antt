@@ -23,7 +23,7 @@ use Rattle.state.specs.declared.State.{State}
 use Rattle.state.specs.State.{inPhase}
 use Rattle.state.specs.Calls.{Lent, withJournal}
 use Rattle.rules.specs.Rules.{due}
-use Rattle.state_rules.proofs.Holds.{chip-stays}
+use Rattle.state_rules.proofs.Holds.{chip-stays, no-sign-on, none-over-wait}
 use Rattle.rules.proofs.InOrder.{InOrder, Fit}
 use Rattle.effect_definitions.specs.JournalEffects.{silentMark, marked, onItem}
 use Rattle.answer_match.specs.Match.{approves}
@@ -81,6 +81,7 @@ marked-order s es i x h a b c =
             sent-most = h .state .sent-most;
             phase-form = refl;
             chip = chip-stays (Waiting (awaited.Item i)) Uploading (s .chip) refl refl (h .state .chip);
+            sign-on = no-sign-on Uploading (s .«sign_on») (none-over-wait (Waiting (awaited.Item i)) (s .«sign_on») refl (h .state .sign-on));
             few = h .state .few;
             balance = h .state .balance;
             approvals = h .state .approvals;

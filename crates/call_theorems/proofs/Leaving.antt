@@ -45,8 +45,8 @@ use Rattle.call_definitions.specs.Start.{originalOf, entryOf, namedBy}
 use Rattle.effect_definitions.specs.StateEffects.{again}
 use Rattle.desk.specs.DeskRules.{chipFrom, requestOf}
 use Rattle.desk.specs.declared.Desk.{Desk}
-use Rattle.batch_messages.specs.BatchMessages.{settlementFields, settlementMessage, itemFields, itemMessage, endFields, endMessage}
-use Rattle.batch_messages.proofs.Held.{settlement-held, settlement-listed, EntryHeld, item-held, end-held, upload-listed}
+use Rattle.batch_messages.specs.BatchMessages.{settlementFields, settlementMessage, itemFields, itemMessage, endFields, endMessage, signOnFields, signOnMessage}
+use Rattle.batch_messages.proofs.Held.{settlement-held, settlement-listed, EntryHeld, item-held, end-held, upload-listed, sign-on-held, sign-on-listed}
 use Rattle.call_definitions.specs.Shapes.{SettingsShaped}
 
 -- the bytes of a message of held fields read
@@ -138,6 +138,12 @@ module _ (s : State) (lent : Lent) (h : Fit s lent) (x : SettingsShaped (s .sett
       (entry-held e form (entry-shaped (s .entries) i (lent .journal)))) (h .message-room)
 
   -- the upload's end
+  pub sign-on-reads : (trace : Trace) → readMessage (messageBytes (signOnMessage (s .settings) (s .batch) trace)) .outcome ≡ Read
+  unfolding signOnMessage
+  sign-on-reads trace =
+      bytes-read 0x0800 (signOnFields (s .settings) (s .batch) trace) (lent .message) sign-on-listed
+      (sign-on-held (s .settings) (s .batch) (settings-held (s .settings) x (h .order .state .settings)) trace) (h .message-room)
+
   pub end-reads : (trace : Trace) → readMessage (messageBytes (endMessage (s .settings) (s .batch) trace)) .outcome ≡ Read
   unfolding endMessage
   end-reads trace =

@@ -7,7 +7,7 @@ pub lists-in-order : ListsInOrder
 unfolding checkOrder
 lists-in-order =
     record {
-      signed-on = λ batch s lent. refl;
+      sign-on = λ s lent. refl;
       start = λ d b s es e lent. refl;
       answer = λ a s j. refl;
       no-answer = λ s lent. refl;

@@ -18,6 +18,7 @@ use Rattle.numbers.specs.declared.Batch.{Batch}
 use Rattle.state.specs.declared.Reason.{Reason}
 use Rattle.state.specs.declared.Request.{Request}
 use Rattle.state.specs.declared.Reversal.{Reversal}
+use Rattle.state.specs.declared.Awaited.{Awaited}
 use Rattle.state.specs.declared.Awaited.the-variants as awaited
 use Rattle.state.specs.declared.Approval.{Approval}
 use Rattle.state.specs.declared.Chip.{Chip}
@@ -26,11 +27,11 @@ use Rattle.state.specs.declared.Phase.the-variants.{Resting, Waiting, Pending, 
 use Rattle.state.specs.declared.Counts.{Counts}
 use Rattle.state.specs.declared.State.{State}
 use Rattle.state.specs.declared.Count.the-variants.{Declined, Reversed, GivenUp, Unanswered}
-use Rattle.state.specs.State.{noChip, hasChip, asSent, approvedBy, endedIn, plus, inPhase, withChip, withCounts, withNext, inBatch, signed, closed}
+use Rattle.state.specs.State.{noChip, hasChip, asSent, approvedBy, endedIn, plus, inPhase, withChip, withCounts, withSignOn, withNext, inBatch, signed, closed, waits}
 use Rattle.state.specs.Calls.{Lent}
 use Rattle.rules.specs.Rules.{inUpload, awaitedItem, phaseKept, due}
-use Rattle.state_rules.specs.StateRules.{requestInForm, reversalInForm, phaseInForm, kindIn, requestAwaited, waiting}
-use Rattle.state_rules.proofs.Holds.{ApprovalHolds, approval-back, ChipHolds, no-chip, chip-reversed, chip-stays}
+use Rattle.state_rules.specs.StateRules.{requestInForm, reversalInForm, phaseInForm, kindIn, requestAwaited, signOnKept, waiting}
+use Rattle.state_rules.proofs.Holds.{ApprovalHolds, approval-back, ChipHolds, no-chip, chip-reversed, chip-stays, no-sign-on, none-over-wait}
 use Rattle.rules.proofs.InOrder.{JournalHolds, Fit}
 use Rattle.effect_definitions.specs.StateEffects.{ended, again, pendingOrUnanswered, failed}
 use Rattle.numbers.proofs.Bounds.{within-yes}
@@ -44,6 +45,11 @@ pub record Moves (p : Phase) (k : Chip) (c : Counts) (s : State) (es : List Entr
   pub balance : c .sent ≡ endedIn c + waiting p
   pub journal : JournalHolds (s .settings .sendings) (due p) (inUpload p) (awaitedItem p) es
   pub phase-kept : phaseKept (s .settings) (s .entries) es p ≡ true
+  pub alone : s .«sign_on» .0 ≡ 0
+
+-- over a wait no sign-on is awaited
+pub over-wait : (s : State) (lent : Lent) (a : Awaited) → Fit (inPhase (Waiting a) s) lent → s .«sign_on» .0 ≡ 0
+over-wait s lent a h = none-over-wait (Waiting a) (s .«sign_on») refl (h .order .state .sign-on)
 
 pub moved : (p : Phase) (k : Chip) (c : Counts) (s : State) (lent : Lent) → Fit s lent → Moves p k c s (entriesOf (s .entries) (lent .journal))
     → Fit (inPhase p (withChip k (withCounts c s))) lent
@@ -64,6 +70,7 @@ moved p k c s lent f w =
                   sent-most = omega arith;
                   phase-form = w .phase-form;
                   chip = w .chip;
+                  sign-on = no-sign-on p (s .«sign_on») (w .alone);
                   few = h .few;
                   balance = w .balance;
                   approvals = w .approved-same ∙ h .approvals;
@@ -108,6 +115,7 @@ module _ (s : State) (lent : Lent) where
             journal = h .order .journal;
             balance = omega arith;
             phase-kept = refl;
+            alone = over-wait s lent (awaited.Request q) h;
           })
       go false e =
           moved (Pending (record { request = q; reason = r; sendings = 0 })) (asSent (s .chip)) (s .counts) (inPhase (Waiting (awaited.Request q)) s) lent h
@@ -119,6 +127,7 @@ module _ (s : State) (lent : Lent) where
             journal = h .order .journal;
             balance = h .order .state .balance;
             phase-kept = lt-ltb 0 (s .settings .sendings) (h .order .state .settings .sendings-least);
+            alone = over-wait s lent (awaited.Request q) h;
           })
 
   pub declined-fit : (q : Request) → Fit (inPhase (Waiting (awaited.Request q)) s) lent → Fit (ended Declined s) lent
@@ -132,6 +141,7 @@ module _ (s : State) (lent : Lent) where
         journal = h .order .journal;
         balance = omega arith;
         phase-kept = refl;
+        alone = over-wait s lent (awaited.Request q) h;
       })
 
   -- a good 00 to a request with a chip: the card's word is awaited
@@ -147,6 +157,7 @@ module _ (s : State) (lent : Lent) where
         journal = h .order .journal;
         balance = h .order .state .balance;
         phase-kept = h .order .phase-kept;
+        alone = over-wait s lent (awaited.Request q) h;
       })
 
   -- a reversal's sending failed
@@ -166,6 +177,7 @@ module _ (s : State) (lent : Lent) where
             journal = h .order .journal;
             balance = omega arith;
             phase-kept = refl;
+            alone = over-wait s lent (awaited.Reversal v) h;
           })
       go false e =
           moved (Pending v) (s .chip) (s .counts) (inPhase (Waiting (awaited.Reversal v)) s) lent h
@@ -177,6 +189,7 @@ module _ (s : State) (lent : Lent) where
             journal = h .order .journal;
             balance = h .order .state .balance;
             phase-kept = lt-ltb (v .sendings) (s .settings .sendings) (leb-false _ _ e);
+            alone = over-wait s lent (awaited.Reversal v) h;
           })
 
   pub reversed-fit : (v : Reversal) → Fit (inPhase (Waiting (awaited.Reversal v)) s) lent → Fit (ended Reversed s) lent
@@ -190,11 +203,12 @@ module _ (s : State) (lent : Lent) where
         journal = h .order .journal;
         balance = omega arith;
         phase-kept = refl;
+        alone = over-wait s lent (awaited.Reversal v) h;
       })
 
   -- a pending reversal leaves again
-  pub again-fit : (v : Reversal) → Fit (inPhase (Pending v) s) lent → Fit (inPhase (Waiting (awaited.Reversal (again v))) s) lent
-  again-fit v h =
+  pub again-fit : (v : Reversal) → s .«sign_on» .0 ≡ 0 → Fit (inPhase (Pending v) s) lent → Fit (inPhase (Waiting (awaited.Reversal (again v))) s) lent
+  again-fit v z h =
       let l : v .sendings < s .settings .sendings = ltb-true (v .sendings) (s .settings .sendings) (h .order .phase-kept) in
       moved (Waiting (awaited.Reversal (again v))) (s .chip) (s .counts) (inPhase (Pending v) s) lent h
       (record {
@@ -205,6 +219,7 @@ module _ (s : State) (lent : Lent) where
         journal = h .order .journal;
         balance = h .order .state .balance;
         phase-kept = within-yes 1 (v .sendings + 1) (s .settings .sendings) (omega arith) (omega arith);
+        alone = z;
       })
 
   -- a settlement unanswered, or answered by an upload; the upload's end, not closed
@@ -219,6 +234,7 @@ module _ (s : State) (lent : Lent) where
         journal = h .order .journal;
         balance = h .order .state .balance;
         phase-kept = refl;
+        alone = over-wait s lent (awaited.Settlement x) h;
       })
 
   pub uploading-fit : (x : Trace) → Fit (inPhase (Waiting (awaited.Settlement x)) s) lent → Fit (inPhase Uploading s) lent
@@ -244,6 +260,7 @@ module _ (s : State) (lent : Lent) where
             };
         balance = h .order .state .balance;
         phase-kept = refl;
+        alone = over-wait s lent (awaited.Settlement x) h;
       })
 
   pub ending-fit : (x : Trace) → Fit (inPhase (Waiting (awaited.End x)) s) lent → Fit (inPhase Uploading s) lent
@@ -257,12 +274,13 @@ module _ (s : State) (lent : Lent) where
         journal = h .order .journal;
         balance = h .order .state .balance;
         phase-kept = refl;
+        alone = over-wait s lent (awaited.End x) h;
       })
 
   -- a closed batch
-  pub closed-fit : kindIn (s .phase) ≡ 0 → requestAwaited (s .phase) ≡ false → Fit s lent → Fit (closed s) lent
+  pub closed-fit : kindIn (s .phase) ≡ 0 → requestAwaited (s .phase) ≡ false → waits (s .phase) ≡ true → Fit s lent → Fit (closed s) lent
   unfolding sumsOf
-  closed-fit k w h =
+  closed-fit k w u h =
       let f = following-range (s .batch .0) in
       record {
         message-room = h .message-room;
@@ -279,6 +297,7 @@ module _ (s : State) (lent : Lent) where
                     sent-most = omega arith;
                     phase-form = refl;
                     chip = chip-stays (s .phase) Resting (s .chip) k w (h .order .state .chip);
+                    sign-on = no-sign-on Resting (s .«sign_on») (none-over-wait (s .phase) (s .«sign_on») u (h .order .state .sign-on));
                     few = omega arith;
                     balance = refl;
                     approvals = refl;
@@ -318,6 +337,37 @@ module _ (s : State) (lent : Lent) where
                     sent-most = h .sent-most;
                     phase-form = h .phase-form;
                     chip = h .chip;
+                    sign-on = h .sign-on;
+                    few = h .few;
+                    balance = h .balance;
+                    approvals = h .approvals;
+                    totals = h .totals;
+                  };
+              journal = f .order .journal;
+              phase-kept = f .order .phase-kept;
+            };
+      }
+
+  -- a sign-on is awaited, or ends
+  pub sign-on-fit : (x : Trace) → signOnKept (s .phase) x ≡ true → Fit s lent → Fit (withSignOn x s) lent
+  sign-on-fit x k f =
+      let h = f .order .state in
+      record {
+        message-room = f .message-room;
+        journal-room = f .journal-room;
+        order =
+            record {
+              state =
+                  record {
+                    settings = h .settings;
+                    batch-least = h .batch-least;
+                    batch-most = h .batch-most;
+                    next-least = h .next-least;
+                    next-most = h .next-most;
+                    sent-most = h .sent-most;
+                    phase-form = h .phase-form;
+                    chip = h .chip;
+                    sign-on = k;
                     few = h .few;
                     balance = h .balance;
                     approvals = h .approvals;
@@ -348,6 +398,7 @@ module _ (s : State) (lent : Lent) where
                     sent-most = h .sent-most;
                     phase-form = h .phase-form;
                     chip = h .chip;
+                    sign-on = h .sign-on;
                     few = h .few;
                     balance = h .balance;
                     approvals = h .approvals;

@@ -34,7 +34,7 @@ use Rattle.checks.proofs.Choices.{passed}
 use Rattle.rules.specs.Rules.{unvoidedAt, originalUnvoided, requestKept}
 use Rattle.state_rules.specs.StateRules.{isCard, requestInForm, past}
 use Rattle.rules.proofs.InOrder.{Fit}
-use Rattle.state_rules.proofs.Holds.{RequestHolds, card-holds, request-back, ChipHolds, no-chip}
+use Rattle.state_rules.proofs.Holds.{RequestHolds, card-holds, request-back, ChipHolds, no-chip, no-sign-on}
 use Rattle.outgoing.specs.Outgoing.{requestMessage}
 use Rattle.call_definitions.proofs.Refusals.{unbroken}
 use Rattle.call_definitions.proofs.Held.{found-for, entry-in-form}
@@ -43,14 +43,15 @@ use Rattle.desk.specs.DeskRules.{sendsField55, chipFrom, chipRules, deskInForm,
 use Rattle.desk.proofs.Chips.{chip-passed, chip-bytes}
 use Rattle.effect_definitions.specs.StateEffects.{requested}
 use Rattle.desk.specs.declared.Desk.{Desk}
+use Rattle.call_definitions.proofs.Quietly.{idle}
 use Rattle.call_theorems.proofs.Refusing.{Fits, judged-fits, sent-fits}
 
 -- a request leaves a resting terminal
-requested-fit : (c : Chip) (q : Request) (s : State) (lent : Lent) → Fit (inPhase Resting s) lent → requestInForm q ≡ true
+requested-fit : (c : Chip) (q : Request) (s : State) (lent : Lent) → s .«sign_on» .0 ≡ 0 → Fit (inPhase Resting s) lent → requestInForm q ≡ true
     → ChipHolds (Waiting (awaited.Request q)) c
     → requestKept (s .settings .limit) (s .entries) (entriesOf (s .entries) (lent .journal)) q ≡ true → s .counts .sent < mostRequests
     → Fit (requested s c q) lent
-requested-fit c q s lent f r y k l =
+requested-fit c q s lent z f r y k l =
     let h = f .order .state in
     let n = following-range (q .trace .0) in
     record {
@@ -68,6 +69,7 @@ requested-fit c q s lent f r y k l =
                   sent-most = omega arith;
                   phase-form = r;
                   chip = y;
+                  sign-on = no-sign-on (Waiting (awaited.Request q)) (s .«sign_on») z;
                   few = h .few;
                   balance = omega (arith, h .balance);
                   approvals = h .approvals;
@@ -206,7 +208,8 @@ started-fits d b s lent f h q z =
     let e = entryOf f es in
     let n = taken es (s .next .0) in
     let rs = startRules d b s es e lent in
-    let g = resting (s .phase) (passed 11 rs refl z) (passed 12 rs refl z) (passed 13 rs refl z) in
+    let i = idle s (passed 11 rs refl z) in
+    let g = resting (s .phase) (i .0) (passed 12 rs refl z) (passed 13 rs refl z) in
     let desk = desk-holds d (not-false (deskInForm d) (passed 16 rs refl z)) in
     let full = or-false (leb (s .settings .limit) (s .entries)) (leb mostRequests (s .counts .sent)) (passed 18 rs refl z) in
     let o : takesOriginal (d .kind) ≡ true → IsOriginal d es e =
@@ -216,7 +219,7 @@ started-fits d b s lent f h q z =
     let range = taken-range es (s .next .0) (h .order .state .next-least) (h .order .state .next-most) in
     let free = taken-free es (s .next .0) (h .order .state .next-least) (h .order .state .next-most)
     (omega (arith, length-entries-le (s .entries) (lent .journal), h .order .state .few, h .order .state .settings .limit-most)) in
-    requested-fit (chipFrom d b) (requestOf d e n) s lent (subst (λ (p : Phase). Fit (inPhase p s) lent) g h)
+    requested-fit (chipFrom d b) (requestOf d e n) s lent (i .1) (subst (λ (p : Phase). Fit (inPhase p s) lent) g h)
     (request-back (requestOf d e n)
     (request-of-holds d es e n (range .0) (range .1) (desk .0) (desk .1) (passed 15 rs refl z) o))
     (started-chip d b e n (unbroken d b s e lent z .chip))

@@ -7,13 +7,13 @@ use Rattle.state.specs.Calls.{Lent, judged}
 use Rattle.checks.specs.Checks.{firstBroken}
 use Rattle.rules.specs.Rules.{keepsRule2}
 use Rattle.rules.proofs.InOrder.{keeps-rule2}
-use Rattle.call_definitions.specs.SignOn.{signedOn}
+use Rattle.call_definitions.specs.SignOn.{signOn}
 use Rattle.call_definitions.specs.Start.{start}
 use Rattle.call_definitions.specs.Answer.{answer, noAnswer, powerReturned, cardAgrees, cardDeclines}
 use Rattle.call_definitions.specs.SendReversal.{sendReversal}
 use Rattle.call_definitions.specs.Settle.{settle}
 use Rattle.call_definitions.specs.SendNextUpload.{sendNextUpload}
-use Rattle.call_definitions.specs.Events.{signed-on, starts, answers, no-answer, power-returned, card-agrees, card-declines, send-reversal, settles, send-next-upload}
+use Rattle.call_definitions.specs.Events.{sign-on, starts, answers, no-answer, power-returned, card-agrees, card-declines, send-reversal, settles, send-next-upload}
 use Rattle.call_theorems.specs.Sums.{OtherSumsRefused}
 
 module _ (s : State) (lent : Lent) (other : s .totals ≡ totalsOf (entriesOf (s .entries) (lent .journal)) → ⊥) where
@@ -25,8 +25,8 @@ module _ (s : State) (lent : Lent) (other : s .totals ≡ totalsOf (entriesOf (s
       go false e = refl
 
 pub other-sums-refused : OtherSumsRefused
-unfolding signedOn start answer noAnswer powerReturned cardAgrees cardDeclines sendReversal settle sendNextUpload judged firstBroken
-other-sums-refused (signed-on batch) s lent l d = rw (l, out-of-order s lent d)
+unfolding signOn start answer noAnswer powerReturned cardAgrees cardDeclines sendReversal settle sendNextUpload judged firstBroken
+other-sums-refused sign-on s lent l d = rw (l, out-of-order s lent d)
 other-sums-refused (starts k b) s lent l d = rw (l, out-of-order s lent d)
 other-sums-refused (answers b good) s lent l d = rw (l, out-of-order s lent d)
 other-sums-refused no-answer s lent l d = rw (l, out-of-order s lent d)

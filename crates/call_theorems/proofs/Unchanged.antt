@@ -39,19 +39,20 @@ use Rattle.answer_match.specs.Match.{approves, goodMac}
 use Rattle.approval.specs.Approval.{approvalOf, approvedEntry}
 use Rattle.approval.proofs.Approval.{shaped}
 use Rattle.effect_definitions.specs.StateEffects.{ended, pendingOrUnanswered, silenceOf}
-use Rattle.effect_definitions.specs.JournalEffects.{Changed, changed, silent, silentIn, originalVoided, approved, granted, onRequest, agreed, agreedIn, onItem, answered, resent}
-use Rattle.call_definitions.specs.SignOn.{signedOn}
+use Rattle.effect_definitions.specs.JournalEffects.{Changed, changed, silent, silentIn, unanswered, heard, answeredIn, originalVoided, approved, granted, onRequest, agreed, agreedIn, onItem, answered, resent}
+use Rattle.effect_definitions.proofs.SignOn.{unanswered-as, heard-as}
+use Rattle.call_definitions.specs.SignOn.{signOn}
 use Rattle.call_definitions.specs.Start.{start}
-use Rattle.call_definitions.specs.Answer.{noAnswer, withoutPower, powerReturned, awaitsCard, cardRules, cardAgrees, cardDeclines, answeredIn, readIn, answer}
+use Rattle.call_definitions.specs.Answer.{noAnswer, withoutPower, powerReturned, awaitsCard, cardRules, cardAgrees, cardDeclines, readIn, answer}
 use Rattle.call_definitions.specs.SendReversal.{sendFrom, sendReversal}
 use Rattle.call_definitions.specs.Settle.{settle}
 use Rattle.call_definitions.specs.SendNextUpload.{sendsNext, uploadFrom, sendNextUpload}
-use Rattle.call_definitions.specs.Events.{Event, call, signed-on, starts, answers, no-answer, power-returned, card-agrees, card-declines, send-reversal, settles, send-next-upload}
+use Rattle.call_definitions.specs.Events.{Event, call, sign-on, starts, answers, no-answer, power-returned, card-agrees, card-declines, send-reversal, settles, send-next-upload}
 use Rattle.call_theorems.specs.JournalRest.{after, larger, UnusedNotChanged, approvesAwaited, approvesIn, isApproval, EntriesByApproval}
 use Rattle.call_theorems.proofs.Items.{item-next}
 use Rattle.call_theorems.proofs.Approving.{consent-holds}
 use Rattle.call_theorems.proofs.Rest.{answer-shaped, put-after, later-after, set-after, voided-after, voided-length}
-use Rattle.call_theorems.proofs.Unwritten.{Few, pending-few, failed-few, reversal-few, settlement-few, end-few}
+use Rattle.call_theorems.proofs.Unwritten.{Few, pending-few, failed-few, reversal-few, settlement-few, end-few, sign-on-few}
 
 -- state and journal after a change that writes at most so many entries
 record Kept (most : ℕ) (s : State) (j : List ℕ) (t : State) (k : List ℕ) : Type 0 where
@@ -112,6 +113,9 @@ module _ (s : State) (j : List ℕ) where
   silent-in Settling h = stays-kept 0
   silent-in Uploading h = stays-kept 0
 
+  unanswered-kept : phaseKept (s .settings) (s .entries) (entriesOf (s .entries) j) (s .phase) ≡ true → KeptBy 0 s j (unanswered s j)
+  unanswered-kept h = unanswered-as (KeptBy 0 s j) s j (λ e. same-kept 0 (record { few = omega arith })) (λ e. silent-in (s .phase) h)
+
   -- an answer
   approved-kept : (q : Request) (x : Entry) → Shaped x → KeptBy 1 s j (approved q x s j)
   unfolding approved
@@ -162,6 +166,12 @@ module _ (s : State) (j : List ℕ) where
   answered-in Settling good a h = stays-kept 0
   answered-in Uploading good a h = stays-kept 0
 
+  heard-kept : (good : Bool) (a : Message) → phaseKept (s .settings) (s .entries) (entriesOf (s .entries) j) (s .phase) ≡ true
+      → KeptBy (cond (approvesIn (s .phase) good a && not (hasChip (s .chip))) 1 0) s j (heard good a s j)
+  heard-kept good a h =
+      heard-as (KeptBy (cond (approvesIn (s .phase) good a && not (hasChip (s .chip))) 1 0) s j) good a s j
+      (λ e. same-kept _ (sign-on-few s a)) (λ e. answered-in (s .phase) good a h)
+
   -- the card's consent
   module _ (c : ApprovalHolds (approvalIn (s .chip))) where
     agreed-kept : (w : Awaited) → KeptBy 1 s j (agreed w s j)
@@ -194,7 +204,7 @@ module _ (s : State) (lent : Lent) where
 
   read-kept : (o : Judgement) (good : Bool) (a : Message) → Fit s lent
       → KeptIn (cond (approvesIn (s .phase) good a && not (hasChip (s .chip))) 1 0) s lent (readIn o good a s lent)
-  read-kept Read good a h = judged-kept _ _ _ (λ z. answered-in s (lent .journal) (s .phase) good a (h .order .phase-kept))
+  read-kept Read good a h = judged-kept _ _ _ (λ z. heard-kept s (lent .journal) good a (h .order .phase-kept))
   read-kept (Unread n) good a h = stays-kept s (lent .journal) _
 
   send-kept : (p : Phase) → KeptIn 0 s lent (sendFrom p s lent)
@@ -228,6 +238,9 @@ module _ (s : State) (lent : Lent) where
   silent-kept-in : firstBroken (rules12 s lent) ≡ 0 → KeptBy 0 s (lent .journal) (silentIn (s .phase) s (lent .journal))
   silent-kept-in z = silent-in s (lent .journal) (s .phase) (fit s lent z .order .phase-kept)
 
+  unanswered-kept-in : firstBroken (rules12 s lent) ≡ 0 → KeptBy 0 s (lent .journal) (unanswered s (lent .journal))
+  unanswered-kept-in z = unanswered-kept s (lent .journal) (fit s lent z .order .phase-kept)
+
   agreed-kept-in : Fit s lent → awaitsCard s ≡ true
       → KeptBy (cond (awaitsCard s) 1 0) s (lent .journal) (agreedIn (s .phase) s (lent .journal))
   agreed-kept-in h y =
@@ -235,14 +248,14 @@ module _ (s : State) (lent : Lent) where
       (agreed-in s (lent .journal) (consent-holds (s .phase) (s .chip) (h .order .state .chip) y) (s .phase))
 
   call-kept : (e : Event) → KeptIn (cond (isApproval e s) 1 0) s lent (call e s lent)
-  unfolding signedOn start answer noAnswer powerReturned cardAgrees cardDeclines sendReversal settle sendNextUpload
-  call-kept (signed-on batch) = judged-kept 0 _ _ (λ z. still (record { few = omega arith }))
+  unfolding signOn start answer noAnswer powerReturned cardAgrees cardDeclines sendReversal settle sendNextUpload
+  call-kept sign-on = judged-kept 0 _ _ (λ z. still (record { few = omega arith }))
   call-kept (starts d b) = judged-kept 0 _ _ (λ z. still (record { few = omega arith }))
   call-kept (answers b good) = judged-kept _ _ _ (λ z. read-kept (readMessage b .outcome) good (readMessage b .message) (fit s lent z))
-  call-kept no-answer = judged-kept 0 _ _ (λ z. silent-kept-in (first-none (rules12 s lent) _ refl z))
+  call-kept no-answer = judged-kept 0 _ _ (λ z. unanswered-kept-in (first-none (rules12 s lent) _ refl z))
   call-kept power-returned =
-      judged-kept 0 _ (withoutPower (silentIn (s .phase) s (lent .journal)) lent)
-      (λ z. let k = silent-kept-in z in
+      judged-kept 0 _ (withoutPower (unanswered s (lent .journal)) lent)
+      (λ z. let k = unanswered-kept-in z in
       record { length-is = k .length-is; rest-is = k .rest-is; grown = k .grown })
   call-kept card-agrees =
       let rs = cardRules s lent in

@@ -27,7 +27,7 @@ use Rattle.state.specs.declared.Reason.the-variants.{BadMac}
 use Rattle.state.specs.declared.Request.{Request}
 use Rattle.state.specs.declared.State.{State}
 use Rattle.state.specs.declared.Count.the-variants.{Declined}
-use Rattle.state.specs.State.{hasChip, approvedBy, approvalIn, withChip}
+use Rattle.state.specs.State.{hasChip, approvedBy, approvalIn, withChip, signsOn}
 use Rattle.state.specs.Calls.{lend, Result, refused, judged}
 use Rattle.checks.proofs.Choices.{first-none, passed}
 use Rattle.rules.specs.Rules.{tooShort, rules12, phaseKept, due}
@@ -36,19 +36,19 @@ use Rattle.rules.proofs.InOrder.{Fit, fit}
 use Rattle.answer_match.specs.Match.{approves, goodMac}
 use Rattle.approval.specs.Approval.{approvalOf, approvedEntry}
 use Rattle.approval.proofs.Approval.{shaped}
-use Rattle.effect_definitions.specs.StateEffects.{ended, pendingOrUnanswered, silenceOf}
-use Rattle.effect_definitions.specs.JournalEffects.{Changed, changed, silent, silentIn, originalVoided, approved, granted, onRequest, agreed, agreedIn, onItem, answered}
-use Rattle.call_definitions.specs.SignOn.{signedOn}
+use Rattle.effect_definitions.specs.StateEffects.{signOnEnded, onSignOn, ended, pendingOrUnanswered, silenceOf}
+use Rattle.effect_definitions.specs.JournalEffects.{Changed, changed, silent, silentIn, unanswered, heard, answeredIn, originalVoided, approved, granted, onRequest, agreed, agreedIn, onItem, answered}
+use Rattle.call_definitions.specs.SignOn.{signOn}
 use Rattle.call_definitions.specs.Start.{start}
-use Rattle.call_definitions.specs.Answer.{quietly, noAnswer, withoutPower, powerReturned, awaitsCard, cardRules, cardAgrees, cardDeclines, answeredIn, readIn, answer}
+use Rattle.call_definitions.specs.Answer.{quietly, noAnswer, withoutPower, powerReturned, awaitsCard, cardRules, cardAgrees, cardDeclines, readIn, answer}
 use Rattle.call_definitions.specs.SendReversal.{sendFrom, sendReversal}
 use Rattle.call_definitions.specs.Settle.{settle}
 use Rattle.call_definitions.specs.SendNextUpload.{sendsNext, uploadFrom, sendNextUpload}
-use Rattle.call_definitions.specs.Events.{Event, call, signed-on, starts, answers, no-answer, power-returned, card-agrees, card-declines, send-reversal, settles, send-next-upload}
+use Rattle.call_definitions.specs.Events.{Event, call, sign-on, starts, answers, no-answer, power-returned, card-agrees, card-declines, send-reversal, settles, send-next-upload}
 use Rattle.call_theorems.specs.JournalRest.{upTo, SameButRest, UnusedNotRead}
 use Rattle.call_theorems.proofs.Approving.{left, consent-holds}
 use Rattle.call_theorems.proofs.Rest.{answer-shaped, fewer-agree, set-agree, resent-agree, voided-agree, voided-length, put-agree}
-use Rattle.call_theorems.proofs.Unwritten.{Few, pending-few, failed-few, reversal-few, settlement-few, end-few}
+use Rattle.call_theorems.proofs.Unwritten.{Few, pending-few, failed-few, reversal-few, settlement-few, end-few, sign-on-few}
 
 -- two changes leave the same state, and the same bytes up to the last entry
 record Agree (c d : Changed) : Type 0 where
@@ -81,6 +81,14 @@ module _ (s : State) (i j : List ℕ) (l : length i ≡ length j) (e : upTo (s .
   silent-in (Pending v) = few-agree (record { few = omega arith })
   silent-in Settling = few-agree (record { few = omega arith })
   silent-in Uploading = few-agree (record { few = omega arith })
+
+  unanswered-agree : Agree (unanswered s i) (unanswered s j)
+  unfolding unanswered
+  unanswered-agree = go (signsOn s)
+    where
+      go : (b : Bool) → Agree (cond b (changed (signOnEnded s) i) (silentIn (s .phase) s i)) (cond b (changed (signOnEnded s) j) (silentIn (s .phase) s j))
+      go true = few-agree (record { few = omega arith })
+      go false = silent-in (s .phase)
 
   -- an entry is written only where it has a place
   written-agree : (q : Request) (x : Entry) → Shaped x → entrySize * s .entries + entrySize ≤ length j → Agree (approved q x s i) (approved q x s j)
@@ -140,6 +148,16 @@ module _ (s : State) (i j : List ℕ) (l : length i ≡ length j) (e : upTo (s .
     answered-in Settling good a h = few-agree (record { few = omega arith })
     answered-in Uploading good a h = few-agree (record { few = omega arith })
 
+    heard-agree : (good : Bool) (a : Message) → phaseKept (s .settings) (s .entries) (entriesOf (s .entries) j) (s .phase) ≡ true
+        → Agree (heard good a s i) (heard good a s j)
+    unfolding heard
+    heard-agree good a h = go (signsOn s)
+      where
+        go : (b : Bool) → Agree (cond b (changed (onSignOn a s) i) (answeredIn (s .phase) good a s i))
+            (cond b (changed (onSignOn a s) j) (answeredIn (s .phase) good a s j))
+        go true = few-agree (sign-on-few s a)
+        go false = answered-in (s .phase) good a h
+
     -- what the card's consent leaves
     module _ (c : ApprovalHolds (approvalIn (s .chip))) where
       agreed-agree : (w : Awaited) → phaseKept (s .settings) (s .entries) (entriesOf (s .entries) j) (Waiting w) ≡ true
@@ -180,7 +198,7 @@ module _ (s : State) (i j : List ℕ) (l : length i ≡ length j) (e : upTo (s .
     off-same h = same refl (rw (h .state-is)) refl (h .entries-are)
 
     read-same : (o : Judgement) (good : Bool) (a : Message) → Fit s (lend j m) → SameButRest (readIn o good a s (lend i m)) (readIn o good a s (lend j m))
-    read-same Read good a h = judged-same (rw one) (λ z. quiet-same (answered-in (h .journal-room) (s .phase) good a (h .order .phase-kept)))
+    read-same Read good a h = judged-same (rw one) (λ z. quiet-same (heard-agree (h .journal-room) good a (h .order .phase-kept)))
     read-same (Unread n) good a h = same refl refl refl e
 
     agrees-same : Fit s (lend j m) → awaitsCard s ≡ true
@@ -207,13 +225,13 @@ module _ (s : State) (i j : List ℕ) (l : length i ≡ length j) (e : upTo (s .
     upload-same Uploading = rw one (next-same (nextDue (due Uploading) (entriesOf (s .entries) j)))
 
     call-same : (c : Event) → SameButRest (call c s (lend i m)) (call c s (lend j m))
-    unfolding signedOn start answer noAnswer powerReturned cardAgrees cardDeclines sendReversal settle sendNextUpload
-    call-same (signed-on batch) = judged-same (rw (short, one)) (λ z. same refl refl refl e)
+    unfolding signOn start answer noAnswer powerReturned cardAgrees cardDeclines sendReversal settle sendNextUpload
+    call-same sign-on = rw one (judged-same (rw short) (λ z. same refl refl refl e))
     call-same (starts d b) = rw one (judged-same (rw short) (λ z. same refl refl refl e))
     call-same (answers b good) =
         judged-same (rw (short, one)) (λ z. read-same (readMessage b .outcome) good (readMessage b .message) (fit s (lend j m) z))
-    call-same no-answer = judged-same (rw (short, one)) (λ z. quiet-same (silent-in (s .phase)))
-    call-same power-returned = judged-same (rw (short, one)) (λ z. off-same (silent-in (s .phase)))
+    call-same no-answer = judged-same (rw (short, one)) (λ z. quiet-same unanswered-agree)
+    call-same power-returned = judged-same (rw (short, one)) (λ z. off-same unanswered-agree)
     call-same card-agrees =
         let rs = cardRules s (lend j m) in
         judged-same (rw (short, one))

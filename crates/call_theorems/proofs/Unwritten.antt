@@ -10,7 +10,7 @@ use Rattle.state.specs.declared.Request.{Request}
 use Rattle.state.specs.declared.Reversal.{Reversal}
 use Rattle.state.specs.declared.State.{State}
 use Rattle.answer_match.specs.Match.{approves, endsReversal, closesBatch}
-use Rattle.effect_definitions.specs.StateEffects.{pendingOrUnanswered, failed, onReversal, onSettlement, onEnd}
+use Rattle.effect_definitions.specs.StateEffects.{pendingOrUnanswered, failed, onReversal, onSettlement, onEnd, onSignOn}
 
 pub record Few (s t : State) : Type 0 where
   pub few : t .entries ≤ s .entries
@@ -35,6 +35,10 @@ module _ (s : State) where
   pub settlement-few : (a : Message) → Few s (onSettlement a s)
   unfolding onSettlement
   settlement-few a = either (closesBatch a) (record { few = omega arith }) (record { few = omega arith })
+
+  pub sign-on-few : (a : Message) → Few s (onSignOn a s)
+  unfolding onSignOn
+  sign-on-few a = either (approves a) (record { few = omega arith }) (record { few = omega arith })
 
   pub end-few : (a : Message) → Few s (onEnd a s)
   unfolding onEnd

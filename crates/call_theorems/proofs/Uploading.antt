@@ -29,14 +29,16 @@ use Rattle.state.specs.declared.State.{State}
 use Rattle.state.specs.State.{inPhase}
 use Rattle.state.specs.Calls.{Lent, withJournal}
 use Rattle.checks.specs.Checks.{firstBroken}
+use Rattle.checks.proofs.Choices.{passed}
 use Rattle.rules.specs.Rules.{due}
-use Rattle.state_rules.proofs.Holds.{chip-stays}
+use Rattle.state_rules.proofs.Holds.{chip-stays, no-sign-on}
 use Rattle.rules.proofs.InOrder.{InOrder, Fit}
 use Rattle.call_definitions.specs.SendNextUpload.{sendsNext, uploadFrom, sendNextUploadRules, sendNextUpload}
 use Rattle.batch_messages.specs.BatchMessages.{itemMessage, endMessage}
 use Rattle.effect_definitions.specs.JournalEffects.{resent}
 use Rattle.effect_definitions.specs.StateEffects.{ending}
 use Rattle.numbers.proofs.Bounds.{within-yes}
+use Rattle.call_definitions.proofs.Quietly.{idle}
 use Rattle.call_theorems.proofs.Refusing.{Fits, judged-fits, sent-fits}
 use Rattle.call_theorems.proofs.Phases.{moved, next-fit}
 
@@ -90,7 +92,7 @@ resend-left l e k r h =
     go false q m h = let n = eqb-false (e .resends) l q in omega arith
 
 -- the next item leaves
-module _ (s : State) (lent : Lent) (i : ℕ) (h : Fit (inPhase Uploading s) lent) (n : nextDue (due Uploading) (entriesOf (s .entries) (lent .journal)) ≡ At i) where
+module _ (s : State) (lent : Lent) (i : ℕ) (z : s .«sign_on» .0 ≡ 0) (h : Fit (inPhase Uploading s) lent) (n : nextDue (due Uploading) (entriesOf (s .entries) (lent .journal)) ≡ At i) where
   -- the first time
   first-fit : Fit (inPhase (Waiting (awaited.Item i)) s) lent
   first-fit =
@@ -116,6 +118,7 @@ module _ (s : State) (lent : Lent) (i : ℕ) (h : Fit (inPhase Uploading s) lent
             };
         balance = h .order .state .balance;
         phase-kept = rw n (eq-eqb i i refl);
+        alone = z;
       })
 
   -- once more: byte 3 grows by one, at most to L
@@ -143,6 +146,7 @@ module _ (s : State) (lent : Lent) (i : ℕ) (h : Fit (inPhase Uploading s) lent
               sent-most = o .state .sent-most;
               phase-form = refl;
               chip = chip-stays Uploading (Waiting (awaited.Item i)) (s .chip) refl refl (o .state .chip);
+              sign-on = no-sign-on (Waiting (awaited.Item i)) (s .«sign_on») z;
               few = o .state .few;
               balance = o .state .balance;
               approvals = o .state .approvals;
@@ -192,9 +196,9 @@ module _ (s : State) (lent : Lent) (i : ℕ) (h : Fit (inPhase Uploading s) lent
       go false e k = let z = eqb-false (entryAt (entriesOf (s .entries) (lent .journal)) i .mark) 0 e in again-fit (omega arith)
 
 -- the end leaves: no due entry is 0 or 1
-end-fit : (s : State) (lent : Lent) (x : Trace) → 1 ≤ x .0 → x .0 ≤ lastNumber → Fit (inPhase Uploading s) lent
+end-fit : (s : State) (lent : Lent) (x : Trace) → 1 ≤ x .0 → x .0 ≤ lastNumber → s .«sign_on» .0 ≡ 0 → Fit (inPhase Uploading s) lent
     → nextDue (due Uploading) (entriesOf (s .entries) (lent .journal)) ≡ Nowhere → Fit (ending s x) lent
-end-fit s lent x a b h n =
+end-fit s lent x a b z h n =
     let r = following-range (x .0) in
     next-fit (inPhase (Waiting (awaited.End x)) s) lent (record { 0 = following (x .0) }) (r .0) (r .1)
     (moved (Waiting (awaited.End x)) (s .chip) (s .counts) (inPhase Uploading s) lent h
@@ -206,27 +210,30 @@ end-fit s lent x a b h n =
       journal = h .order .journal;
       balance = h .order .state .balance;
       phase-kept = rw n;
+      alone = z;
     }))
 
-next-fits : (s : State) (lent : Lent) → Fit (inPhase Uploading s) lent → (f : Found) → nextDue (due Uploading) (entriesOf (s .entries) (lent .journal)) ≡ f
+next-fits : (s : State) (lent : Lent) → s .«sign_on» .0 ≡ 0 → Fit (inPhase Uploading s) lent → (f : Found) → nextDue (due Uploading) (entriesOf (s .entries) (lent .journal)) ≡ f
     → Fits (sendsNext f (inPhase Uploading s) lent)
-next-fits s lent h (At i) n =
+next-fits s lent z h (At i) n =
     sent-fits (messageBytes (itemMessage (s .settings) (s .batch) (entryAt (entriesOf (s .entries) (lent .journal)) i))) _ (withJournal _ lent)
-    (item-fit s lent i h n)
-next-fits s lent h Nowhere n =
+    (item-fit s lent i z h n)
+next-fits s lent z h Nowhere n =
     let es = entriesOf (s .entries) (lent .journal) in
     let x : Trace = record { 0 = taken es (s .next .0) } in
     let t = taken-range es (s .next .0) (h .order .state .next-least) (h .order .state .next-most) in
-    sent-fits (messageBytes (endMessage (s .settings) (s .batch) x)) (ending s x) lent (end-fit s lent x (t .0) (t .1) h n)
+    sent-fits (messageBytes (endMessage (s .settings) (s .batch) x)) (ending s x) lent (end-fit s lent x (t .0) (t .1) z h n)
 
-upload-from : (p : Phase) (s : State) (lent : Lent) → Fit (inPhase p s) lent → Fits (uploadFrom p (inPhase p s) lent)
-upload-from Resting s lent h = h
-upload-from (Waiting a) s lent h = h
-upload-from (Pending v) s lent h = h
-upload-from Settling s lent h = h
-upload-from Uploading s lent h = next-fits s lent h (nextDue (due Uploading) (entriesOf (s .entries) (lent .journal))) refl
+upload-from : (p : Phase) (s : State) (lent : Lent) → s .«sign_on» .0 ≡ 0 → Fit (inPhase p s) lent → Fits (uploadFrom p (inPhase p s) lent)
+upload-from Resting s lent z h = h
+upload-from (Waiting a) s lent z h = h
+upload-from (Pending v) s lent z h = h
+upload-from Settling s lent z h = h
+upload-from Uploading s lent z h = next-fits s lent z h (nextDue (due Uploading) (entriesOf (s .entries) (lent .journal))) refl
 
 pub upload-fits : (s : State) (lent : Lent) → Fit s lent → Fits (sendNextUpload s lent)
 unfolding sendNextUpload
 upload-fits s lent h =
-    judged-fits (firstBroken (sendNextUploadRules s lent)) s lent (uploadFrom (s .phase) s lent) h (λ z. upload-from (s .phase) s lent h)
+    let rs = sendNextUploadRules s lent in
+    judged-fits (firstBroken rs) s lent (uploadFrom (s .phase) s lent) h
+    (λ z. upload-from (s .phase) s lent (idle s (passed 11 rs refl z) .1) h)

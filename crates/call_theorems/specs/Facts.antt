@@ -1,7 +1,7 @@
 -- What a reader would ask of the calls, for every input.
 use mathlib.Core.Path.{_≡_}
 use mathlib.Core.List.{List, _++_}
-use mathlib.Core.Bool.{true}
+use mathlib.Core.Bool.{Bool, true, false}
 use Prim.Native.Nat.{ℕ, zero, suc, _+_, _<_}
 use lib.ListN.{length, drop}
 use Rattle.reading.specs.Reading.{readMessage}
@@ -10,14 +10,27 @@ use Rattle.state.specs.declared.Reversal.{Reversal}
 use Rattle.state.specs.declared.State.{State}
 use Rattle.state.specs.declared.Outcome.the-variants.{Send, Quiet, Refused}
 use Rattle.state.specs.declared.Phase.the-variants.{Resting, Pending}
-use Rattle.state.specs.State.{chipBytes}
+use Rattle.state.specs.State.{chipBytes, signsOn}
 use Rattle.state.specs.Calls.{Lent, lend, Result, refused}
 use Rattle.state_rules.specs.StateRules.{waiting}
 use Rattle.call_theorems.specs.Ready.{Ready}
 use Rattle.call_definitions.specs.SendReversal.{sendReversal}
 use Rattle.call_definitions.specs.Answer.{noAnswer}
-use Rattle.call_definitions.specs.Events.{Event, call}
+use Rattle.call_definitions.specs.Events.{Event, sign-on, starts, answers, no-answer, power-returned, card-agrees, card-declines, send-reversal, settles, send-next-upload, call}
 use Rattle.call_definitions.specs.Shapes.{SettingsShaped, EventShaped}
+
+-- the call that asks for a sign-on
+abbrev pub isSignOn : Event → Bool
+isSignOn sign-on = true
+isSignOn (starts d b) = false
+isSignOn (answers b good) = false
+isSignOn no-answer = false
+isSignOn power-returned = false
+isSignOn card-agrees = false
+isSignOn card-declines = false
+isSignOn send-reversal = false
+isSignOn settles = false
+isSignOn send-next-upload = false
 
 -- a refused call changes nothing
 abbrev pub RefusedChangesNothing : Type 0
@@ -35,6 +48,13 @@ SettingsStay = (e : Event) (s : State) (lent : Lent) → call e s lent .state .s
 abbrev pub ChipStaysAsSent : Type 0
 ChipStaysAsSent = (e : Event) (s : State) (lent : Lent) → waiting (s .phase) ≡ 1 → waiting (call e s lent .state .phase) ≡ 1
     → chipBytes (call e s lent .state .chip) ≡ chipBytes (s .chip)
+
+-- document 02, request 3: only a sign-on that leaves is awaited as one, and while it is, nothing else leaves
+abbrev pub OnlySignOnAwaited : Type 0
+OnlySignOnAwaited = (e : Event) (s : State) (lent : Lent) → isSignOn e ≡ false → signsOn (call e s lent .state) ≡ true → signsOn s ≡ true
+
+abbrev pub NothingLeavesMeanwhile : Type 0
+NothingLeavesMeanwhile = (e : Event) (s : State) (lent : Lent) (k : ℕ) → call e s lent .outcome ≡ Send k → signsOn s ≡ false
 
 -- outcome, state and journal depend on the message buffer only through its length
 pub record SameButMessage (r q : Result) : Type 0 where
@@ -78,4 +98,4 @@ pub record GivenUp (r : Result) (v : Reversal) : Type 0 where
 
 abbrev pub GivenUpAfterL : Type 0
 GivenUpAfterL = (r : Result) (v : Reversal) → Ready (r .state) (r .lent) → r .state .«signed_on» ≡ true
-    → r .state .phase ≡ Pending v → v .sendings ≡ 0 → GivenUp r v
+    → r .state .phase ≡ Pending v → signsOn (r .state) ≡ false → v .sendings ≡ 0 → GivenUp r v

@@ -17,7 +17,7 @@ use Rattle.state.specs.State.{hasChip}
 use Rattle.state.specs.Calls.{Lent, lend, Result}
 use Rattle.answer_match.specs.Match.{approves, goodMac}
 use Rattle.call_definitions.specs.Answer.{awaitsCard}
-use Rattle.call_definitions.specs.Events.{Event, call, signed-on, starts, answers, no-answer, power-returned, card-agrees, card-declines, send-reversal, settles, send-next-upload}
+use Rattle.call_definitions.specs.Events.{Event, call, sign-on, starts, answers, no-answer, power-returned, card-agrees, card-declines, send-reversal, settles, send-next-upload}
 
 -- the bytes of the journal up to the last of n entries, and those after it
 abbrev pub upTo : ℕ → List ℕ → List ℕ
@@ -65,7 +65,7 @@ approvesIn Settling good a = false
 approvesIn Uploading good a = false
 
 abbrev pub isApproval : Event → State → Bool
-isApproval (signed-on batch) s = false
+isApproval sign-on s = false
 isApproval (starts d b) s = false
 isApproval (answers b good) s = approvesIn (s .phase) good (readMessage b .message) && not (hasChip (s .chip))
 isApproval no-answer s = false

@@ -5,12 +5,11 @@ use mathlib.Core.Bool.{true}
 use Prim.Native.Nat.{ℕ}
 use Rattle.checks.specs.Checks.{inCheckOrder}
 use Rattle.message.specs.declared.Message.{Message}
-use Rattle.numbers.specs.declared.Batch.{Batch}
 use Rattle.entry.specs.declared.Entry.{Entry}
 use Rattle.state.specs.declared.State.{State}
 use Rattle.state.specs.Calls.{Lent}
 use Rattle.rules.specs.Rules.{rules12}
-use Rattle.call_definitions.specs.SignOn.{signedOnRules}
+use Rattle.call_definitions.specs.SignOn.{signOnRules}
 use Rattle.call_definitions.specs.Start.{startRules}
 use Rattle.desk.specs.declared.Desk.{Desk}
 use Rattle.call_definitions.specs.Answer.{answerRules, noAnswerRules, cardRules}
@@ -19,7 +18,7 @@ use Rattle.call_definitions.specs.Settle.{settleRules}
 use Rattle.call_definitions.specs.SendNextUpload.{sendNextUploadRules}
 
 pub record ListsInOrder : Type 0 where
-  pub signed-on : (batch : Batch) (s : State) (lent : Lent) → inCheckOrder (signedOnRules batch s lent) ≡ true
+  pub sign-on : (s : State) (lent : Lent) → inCheckOrder (signOnRules s lent) ≡ true
   pub start : (d : Desk) (b : List ℕ) (s : State) (es : List Entry) (e : Entry) (lent : Lent) → inCheckOrder (startRules d b s es e lent) ≡ true
   -- 1 and 2, then the reading's own numbers, then these
   pub answer : (a : Message) (s : State) (j : List ℕ) → inCheckOrder (answerRules a s j) ≡ true

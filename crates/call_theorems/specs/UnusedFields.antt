@@ -17,13 +17,29 @@ use Rattle.call_definitions.specs.Events.{call, answers}
 abbrev pub unused : ℕ → Bool
 unused n = among n (32 ∷ 44 ∷ 63 ∷ [])
 
--- two messages of one type that name the same fields but for the unused, and hold the same in them
+-- document 02, request 3: of key material, field 62, only that it is there
+abbrev pub unread : ℕ → Bool
+unread n = among n (32 ∷ 44 ∷ 62 ∷ 63 ∷ [])
+
+-- two messages of one type that name the same fields but for the unused, and hold the same in them but for the bytes of 62
 pub record AlikeButUnused (a b : Message) : Type 0 where
   pub indicator : a .indicator ≡ b .indicator
   pub named : (n : ℕ) → unused n ≡ false → names (a .bitmap) n ≡ names (b .bitmap) n
-  pub fields : (n : ℕ) → unused n ≡ false → fieldOf a n ≡ fieldOf b n
+  pub fields : (n : ℕ) → unread n ≡ false → fieldOf a n ≡ fieldOf b n
+
+-- two messages that are alike but for the bytes of field 62
+pub record AlikeButKeys (a b : Message) : Type 0 where
+  pub indicator : a .indicator ≡ b .indicator
+  pub bitmap : a .bitmap ≡ b .bitmap
+  pub fields : (n : ℕ) → (n ≡ 62 → ⊥) → fieldOf a n ≡ fieldOf b n
 
 abbrev pub UnusedFieldsChangeNothing : Type 0
 UnusedFieldsChangeNothing = (a b : List ℕ) (good : Bool) (s : State) (lent : Lent)
     → readMessage a .outcome ≡ Read → readMessage b .outcome ≡ Read → AlikeButUnused (readMessage a .message) (readMessage b .message)
+    → call (answers a good) s lent ≡ call (answers b good) s lent
+
+-- nothing about key material is kept: outcome, state, journal and message buffer do not depend on the bytes of 62
+abbrev pub KeysChangeNothing : Type 0
+KeysChangeNothing = (a b : List ℕ) (good : Bool) (s : State) (lent : Lent)
+    → readMessage a .outcome ≡ Read → readMessage b .outcome ≡ Read → AlikeButKeys (readMessage a .message) (readMessage b .message)
     → call (answers a good) s lent ≡ call (answers b good) s lent
