@@ -1,7 +1,7 @@
 -- What a call leaves: the invariant for the account with the call, and what demand 3 says of a message sent.
 use mathlib.Core.Path.{_≡_, refl, sym, _∙_}
 use mathlib.Core.List.{List, _∷_}
-use mathlib.Core.Bool.{Bool, true, false, cond, true≢false}
+use mathlib.Core.Bool.{Bool, true, false, cond, not, _||_, or-true, true≢false}
 use Prim.Native.Nat.{ℕ}
 use lib.Dec.{eqb}
 use borrow.Author.Tests.{eqb-true}
@@ -15,12 +15,12 @@ use Rattle.state.specs.declared.State.{State}
 use Rattle.state.specs.State.{waits, pends}
 use Rattle.state.specs.Calls.{Lent, Result, refused, judged}
 use Rattle.call_definitions.specs.Events.{Event}
-use Rattle.history.specs.Words.{messageIn, isRequest, isReversal, isSettlement}
+use Rattle.history.specs.Words.{messageIn, isRequest, isReversal, isSettlement, isSignOn}
 use Rattle.history.specs.History as history
 use Rattle.history.specs.History.{Given, sent, Request, Account, asked, withReversal, whenSent, whenGiven}
 use Rattle.history.specs.Demand.{givenBy, inReversals, Carries}
 use Rattle.history.specs.Consent.{consents}
-use Rattle.history.proofs.Sent.{Typed}
+use Rattle.history.proofs.Sent.{Typed, SignsOn}
 use Rattle.history.proofs.Requests.{AllDone}
 use Rattle.history.proofs.Tied.{Shape, Tied}
 
@@ -32,6 +32,7 @@ pub record LawfulMessage (m : Message) (a : Account) : Type 0 where
   pub reversals : isReversal m ≡ true → inReversals (a .requests) ≡ 1
   pub no-consent : isRequest m ≡ true → consents (a .requests) ≡ 0
   pub no-consent-settling : isSettlement m ≡ true → consents (a .requests) ≡ 0
+  pub alone : not (isReversal m || isSignOn m) ≡ true → inReversals (a .requests) ≡ 0
 
 -- of what a call gave
 abbrev pub Lawful : Given → Account → Type 0
@@ -73,6 +74,18 @@ module _ (e : Event) (m : Message) (rs : List Request) where
   pub sent-other : (c d : Bool) → Typed false false c d m → whenSent e m rs ≡ rs
   unfolding whenSent
   sent-other c d t = rw (t .is-request, t .is-reversal)
+
+-- a sign-on changes no request
+pub sent-sign-on : (e : Event) (m : Message) (rs : List Request) → SignsOn m → whenSent e m rs ≡ rs
+unfolding whenSent
+sent-sign-on e m rs t = rw (t .is-request, t .is-reversal)
+
+-- a reversal and a sign-on leave between a reversal's cause and its end
+pub reversal-alone : (m : Message) {A : Type 0} → isReversal m ≡ true → not (isReversal m || isSignOn m) ≡ true → A
+reversal-alone m e h = absurd (true≢false (sym h ∙ rw e))
+
+pub sign-on-alone : (m : Message) {A : Type 0} → isSignOn m ≡ true → not (isReversal m || isSignOn m) ≡ true → A
+sign-on-alone m e h = absurd (true≢false (sym h ∙ rw (e, or-true (isReversal m))))
 
 -- nothing is awaited and no reversal is pending: no request waits
 pub idle : (l : ℕ) (x : Settings) (batch : Batch) (c : Chip) (a : Account) (p : Phase) → waits p ≡ false → pends p ≡ false

@@ -40,7 +40,7 @@ use Rattle.history.proofs.Approved.{approved-kind, approved-amount}
 abbrev pub afterHeard : ℕ → Bool → List ℕ → Account → Account
 afterHeard l good b a = accountOf (afterAnswer l good b a) (a .last)
 
-not-closed : (l : ℕ) (good : Bool) (b : List ℕ) (a : Account) → NeverCloses (a .last)
+pub not-closed : (l : ℕ) (good : Bool) (b : List ℕ) (a : Account) → NeverCloses (a .last)
     → afterAnswer l good b a ≡ byFate (whenHeard l good b) (a .requests)
 unfolding afterAnswer
 not-closed l good b a n = rw (n (messageIn b), and-false)

@@ -15,7 +15,7 @@ use Rattle.state.specs.declared.Settings.{Settings}
 use Rattle.state.specs.declared.State.{State}
 use Rattle.state.specs.State.{hasChip}
 use Rattle.state.specs.Calls.{lend}
-use Rattle.call_definitions.specs.Events.{Event, signed-on, starts, answers, no-answer, power-returned, card-agrees, card-declines, send-reversal, settles, send-next-upload}
+use Rattle.call_definitions.specs.Events.{Event, sign-on, starts, answers, no-answer, power-returned, card-agrees, card-declines, send-reversal, settles, send-next-upload}
 use Rattle.call_theorems.specs.JournalRest.{approvesIn, isApproval}
 use Rattle.call_theorems.proofs.Unchanged.{entries-by-approval}
 use Rattle.history.specs.History.{Account, account}
@@ -43,7 +43,7 @@ approves-request Uploading l x batch c a good m e h = absurd (true≢false (sym 
 -- what adds an entry after a request with a chip is the card's consent
 adds-entry : (e : Event) (l : ℕ) (s : State) (a : Account) → Tied l s a → lastCarriesChip (a .requests) ≡ true
     → isApproval e s ≡ true → e ≡ card-agrees
-adds-entry (signed-on batch) l s a h c y = absurd (true≢false (sym y))
+adds-entry sign-on l s a h c y = absurd (true≢false (sym y))
 adds-entry (starts d b) l s a h c y = absurd (true≢false (sym y))
 adds-entry (answers b good) l s a h c y =
     let t = and-eq-true-iff (approvesIn (s .phase) good (readMessage b .message)) (not (hasChip (s .chip))) .0 y in

@@ -12,7 +12,7 @@ use Rattle.state.specs.declared.Phase.{Phase}
 use Rattle.state.specs.declared.Phase.the-variants.{Resting, Waiting, Pending, Settling, Uploading}
 use Rattle.state.specs.declared.Settings.{Settings}
 use Rattle.state.specs.declared.State.{State}
-use Rattle.call_definitions.specs.Events.{Event, signed-on, starts, answers, no-answer, power-returned, card-agrees, card-declines, send-reversal, settles, send-next-upload}
+use Rattle.call_definitions.specs.Events.{Event, sign-on, starts, answers, no-answer, power-returned, card-agrees, card-declines, send-reversal, settles, send-next-upload}
 use Rattle.history.specs.History.{Given, quiet, Fate, deciding, consenting, pending, out, Request, Account, becomes, byFate, whenSilent, whenDeclined, whenGiven}
 use Rattle.history.specs.Demand.{inReversals}
 use Rattle.history.specs.Consent.{isConsenting, consents, isDecline}
@@ -39,7 +39,7 @@ module _ (l : ℕ) (a : Account) where
     -- the latest request waits for its card
     declined-latest : (e : Event) → Latest l consenting n a → isDecline e ≡ true → inReversals (whenGiven l quiet e a .requests) ≡ 1
     unfolding whenSilent whenDeclined
-    declined-latest (signed-on batch) d y = absurd (true≢false (sym y))
+    declined-latest sign-on d y = absurd (true≢false (sym y))
     declined-latest (starts k b) d y = absurd (true≢false (sym y))
     declined-latest (answers b good) d y = absurd (true≢false (sym y))
     declined-latest no-answer d y = one-pending (whenSilent l) d (latest-changed d (whenSilent l) (silent-ended l))

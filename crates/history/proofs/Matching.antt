@@ -20,10 +20,10 @@ use Rattle.state.specs.declared.Awaited.{Awaited}
 use Rattle.state.specs.declared.Awaited.the-variants as awaited
 use Rattle.state.specs.declared.Settings.{Settings}
 use Rattle.answer_match.specs.Match as terminal
-use Rattle.answer_match.specs.Match.{isValue, isValueWithin, matchesSent, indicatorSent, approvalHolds, holdsNamed, isAnswer, approves, goodMac, endsReversal}
-use Rattle.history.specs.Words.{messageIn, sameField, sameNumber, codeIs, isApproval, digitIn, matchesMessage, holdsItsFields, isMatching, macGood, endsIt, closesBatch}
+use Rattle.answer_match.specs.Match.{isValue, isValueWithin, repeats, matchesSent, indicatorSent, approvalHolds, holdsNamed, isAnswer, approves, goodMac, endsReversal}
+use Rattle.history.specs.Words.{messageIn, isSignOn, sameField, sameNumber, codeIs, isApproval, digitIn, matchesMessage, holdsItsFields, isMatching, macGood, endsIt, closesBatch}
 use Rattle.history.proofs.Said.{Says}
-use Rattle.history.proofs.Sent.{Typed, Asks}
+use Rattle.history.proofs.Sent.{Typed, SignsOn, Asks}
 
 same-value : (b : ℕ) (n : Number) → isValue b n ≡ sameNumber n (Is b)
 same-value b (Is x) = refl
@@ -39,21 +39,21 @@ value-within Not = refl
 
 -- what an answer must repeat stands in the message that left
 pub matches-alike : {x : Settings} {batch : Batch} {trace : Trace} {i kind code : ℕ} {m : Message} → Says x batch trace i kind code m
-    → (a : Message) → matchesSent x batch i trace a ≡ matchesMessage m a
-unfolding matchesSent matchesMessage sameField matches
-matches-alike {x} {batch} s a =
-    rw (s .batch-number, s .trace-bytes, s .terminal-bytes, s .merchant-bytes, s .indicator, same-value (batch .0) (partOf a part.Batch))
+    → isSignOn m ≡ false → (a : Message) → matchesSent x batch i trace a ≡ matchesMessage m a
+unfolding matchesSent repeats matchesMessage sameField matches
+matches-alike {x} {batch} s n a =
+    rw (n, s .batch-number, s .trace-bytes, s .terminal-bytes, s .merchant-bytes, s .indicator, same-value (batch .0) (partOf a part.Batch))
 
 -- what else it must hold
 pub request-holds : {x : Settings} {batch : Batch} {q : Request} {m : Message} → Asks x batch q m
     → (a : Message) → holdsNamed (awaited.Request q) a ≡ holdsItsFields m a
 unfolding holdsItsFields approvalHolds sameField codeIs matches
-request-holds s a = rw (s .typed .is-settlement, s .typed .is-request, s .amount-bytes)
+request-holds s a = rw (s .typed .is-settlement, s .typed .is-request, s .typed .is-sign-on, s .amount-bytes, and-true)
 
 pub other-holds : {reversal end : Bool} {m : Message} → Typed false reversal false end m → (a : Message)
     → terminal.holdsNamed (awaited.Item 0) a ≡ holdsItsFields m a
 unfolding holdsItsFields
-other-holds t a = rw (t .is-settlement, t .is-request, and-true)
+other-holds t a = rw (t .is-settlement, t .is-request, t .is-sign-on, and-true, and-true)
 
 pub settlement-holds : {m : Message} (x : Trace) → Typed false false true false m → (a : Message)
     → holdsNamed (awaited.Settlement x) a ≡ holdsItsFields m a
@@ -62,31 +62,31 @@ settlement-holds x t a = rw (t .is-settlement) (value-within (partOf a part.Reco
 
 -- an accepted answer is a matching one
 pub accepted : {x : Settings} {batch : Batch} {trace : Trace} {kind code : ℕ} {m : Message} (w : Awaited) (b : List ℕ)
-    → Says x batch trace (indicatorSent w) kind code m → holdsNamed w (messageIn b) ≡ holdsItsFields m (messageIn b)
+    → Says x batch trace (indicatorSent w) kind code m → isSignOn m ≡ false → holdsNamed w (messageIn b) ≡ holdsItsFields m (messageIn b)
     → readMessage b .outcome ≡ Read → isAnswer x batch trace w (messageIn b) ≡ true → isMatching m b ≡ true
 unfolding isMatching isAnswer
-accepted {x} {batch} {trace} w b s h r e =
+accepted {x} {batch} {trace} w b s n h r e =
     let t = and-eq-true-iff (matchesSent x batch (indicatorSent w) trace (messageIn b)) (holdsNamed w (messageIn b)) .0 e in
-    rw (r, ← matches-alike s (messageIn b), ← h, t .0, t .1)
+    rw (r, ← matches-alike s n (messageIn b), ← h, t .0, t .1)
 
 pub request-accepted : {x : Settings} {batch : Batch} {q : Request} {m : Message} (b : List ℕ) → Asks x batch q m
     → readMessage b .outcome ≡ Read → isAnswer x batch (q .trace) (awaited.Request q) (messageIn b) ≡ true → isMatching m b ≡ true
-request-accepted {q = q} b s r e = accepted (awaited.Request q) b (s .said) (request-holds s (messageIn b)) r e
+request-accepted {q = q} b s r e = accepted (awaited.Request q) b (s .said) (s .typed .is-sign-on) (request-holds s (messageIn b)) r e
 
 pub reversal-accepted : {x : Settings} {batch : Batch} {kind code : ℕ} {m : Message} (v : Reversal) (b : List ℕ)
     → Says x batch (v .request .trace) 0x0400 kind code m → Typed false true false false m
     → readMessage b .outcome ≡ Read → isAnswer x batch (v .request .trace) (awaited.Reversal v) (messageIn b) ≡ true → isMatching m b ≡ true
-reversal-accepted v b s t r e = accepted (awaited.Reversal v) b s (other-holds t (messageIn b)) r e
+reversal-accepted v b s t r e = accepted (awaited.Reversal v) b s (t .is-sign-on) (other-holds t (messageIn b)) r e
 
 pub settlement-accepted : {x : Settings} {batch : Batch} {kind code : ℕ} {m : Message} (trace : Trace) (b : List ℕ)
     → Says x batch trace 0x0500 kind code m → Typed false false true false m
     → readMessage b .outcome ≡ Read → isAnswer x batch trace (awaited.Settlement trace) (messageIn b) ≡ true → isMatching m b ≡ true
-settlement-accepted trace b s t r e = accepted (awaited.Settlement trace) b s (settlement-holds trace t (messageIn b)) r e
+settlement-accepted trace b s t r e = accepted (awaited.Settlement trace) b s (t .is-sign-on) (settlement-holds trace t (messageIn b)) r e
 
 pub end-accepted : {x : Settings} {batch : Batch} {kind code : ℕ} {m : Message} (trace : Trace) (b : List ℕ)
     → Says x batch trace 0x0320 kind code m → Typed false false false true m
     → readMessage b .outcome ≡ Read → isAnswer x batch trace (awaited.End trace) (messageIn b) ≡ true → isMatching m b ≡ true
-end-accepted trace b s t r e = accepted (awaited.End trace) b s (other-holds t (messageIn b)) r e
+end-accepted trace b s t r e = accepted (awaited.End trace) b s (t .is-sign-on) (other-holds t (messageIn b)) r e
 
 -- what it says: approval, MAC, the end of a reversal
 pub approves-alike : (a : Message) → isApproval a ≡ approves a
@@ -109,6 +109,10 @@ settlement-closes t a = rw (t .is-settlement, t .is-end, value-is (partOf a part
 pub end-closes : {m : Message} → Typed false false false true m → (a : Message) → closesBatch m a ≡ approves a
 unfolding closesBatch codeIs matches
 end-closes t a = rw (t .is-settlement, t .is-end)
+
+pub sign-on-closes : {m : Message} → SignsOn m → (a : Message) → closesBatch m a ≡ false
+unfolding closesBatch
+sign-on-closes t a = rw (t .is-settlement, t .is-end)
 
 pub other-closes : {request reversal : Bool} {m : Message} → Typed request reversal false false m → (a : Message) → closesBatch m a ≡ false
 unfolding closesBatch

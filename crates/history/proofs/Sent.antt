@@ -36,9 +36,9 @@ use Rattle.outgoing.specs.Held.{CardHeld, OriginalHeld, SettingsHeld}
 use Rattle.outgoing.proofs.Leaving.{request-held, reversal-held, request-listed, reversal-listed}
 use Rattle.outgoing_theorems.specs.Theorems.{Reads}
 use Rattle.outgoing_theorems.proofs.Theorems.{request-chip}
-use Rattle.batch_messages.specs.BatchMessages.{field48, settlementFields, settlementMessage, itemFields, itemMessage, endFields, endMessage}
-use Rattle.history.specs.Words.{messageIn, kindIn, amountIn, carriesChip, isRequest, isReversal, isSettlement, isEnd}
-use Rattle.batch_messages.proofs.Held.{field48-digits, settlement-held, settlement-listed, EntryHeld, item-held, end-held, upload-listed}
+use Rattle.batch_messages.specs.BatchMessages.{field48, settlementFields, settlementMessage, itemFields, itemMessage, endFields, endMessage, signOnFields, signOnMessage}
+use Rattle.history.specs.Words.{messageIn, kindIn, amountIn, carriesChip, isRequest, isReversal, isSettlement, isEnd, isSignOn}
+use Rattle.batch_messages.proofs.Held.{field48-digits, settlement-held, settlement-listed, EntryHeld, item-held, end-held, upload-listed, sign-on-held, sign-on-listed}
 use Rattle.history.proofs.Said.{handedOut, sent-reads, Says, number-read, says}
 
 -- which of its words the history uses for a message
@@ -47,34 +47,48 @@ pub record Typed (request reversal settlement end : Bool) (m : Message) : Type 0
   pub is-reversal : isReversal m ≡ reversal
   pub is-settlement : isSettlement m ≡ settlement
   pub is-end : isEnd m ≡ end
+  pub is-sign-on : isSignOn m ≡ false
 
 pub request-typed : (kind : ℕ) (m : Message) → m .indicator ≡ indicatorOf kind → Typed true false false false m
-unfolding isRequest isReversal isSettlement isEnd
+unfolding isRequest isReversal isSettlement isEnd isSignOn
 request-typed kind m e =
     record {
       is-request = rw e (each-type (λ i. among i (0x0100 ∷ 0x0200 ∷ 0x0220 ∷ []) ≡ true) refl refl refl kind);
       is-reversal = rw e (each-type (λ i. eqb i 0x0400 ≡ false) refl refl refl kind);
       is-settlement = rw e (each-type (λ i. eqb i 0x0500 ≡ false) refl refl refl kind);
       is-end = rw (e, each-type (λ i. eqb i 0x0320 ≡ false) refl refl refl kind);
+      is-sign-on = rw e (each-type (λ i. eqb i 0x0800 ≡ false) refl refl refl kind);
     }
 
 pub reversal-typed : (m : Message) → m .indicator ≡ 0x0400 → Typed false true false false m
-unfolding isRequest isReversal isSettlement isEnd
-reversal-typed m e = record { is-request = rw e; is-reversal = rw e; is-settlement = rw e; is-end = rw e }
+unfolding isRequest isReversal isSettlement isEnd isSignOn
+reversal-typed m e = record { is-request = rw e; is-reversal = rw e; is-settlement = rw e; is-end = rw e; is-sign-on = rw e }
 
 pub settlement-typed : (m : Message) → m .indicator ≡ 0x0500 → Typed false false true false m
-unfolding isRequest isReversal isSettlement isEnd
-settlement-typed m e = record { is-request = rw e; is-reversal = rw e; is-settlement = rw e; is-end = rw e }
+unfolding isRequest isReversal isSettlement isEnd isSignOn
+settlement-typed m e = record { is-request = rw e; is-reversal = rw e; is-settlement = rw e; is-end = rw e; is-sign-on = rw e }
 
 pub item-typed : (m : Message) → m .indicator ≡ 0x0320 → partOf m part.Management ≡ Is 201 → Typed false false false false m
-unfolding isRequest isReversal isSettlement isEnd
+unfolding isRequest isReversal isSettlement isEnd isSignOn
 item-typed m e c =
-    record { is-request = rw e; is-reversal = rw e; is-settlement = rw e; is-end = rw (c, e) }
+    record { is-request = rw e; is-reversal = rw e; is-settlement = rw e; is-end = rw (c, e); is-sign-on = rw e }
 
 pub end-typed : (m : Message) → m .indicator ≡ 0x0320 → partOf m part.Management ≡ Is 202 → Typed false false false true m
-unfolding isRequest isReversal isSettlement isEnd
+unfolding isRequest isReversal isSettlement isEnd isSignOn
 end-typed m e c =
-    record { is-request = rw e; is-reversal = rw e; is-settlement = rw e; is-end = rw (c, e) }
+    record { is-request = rw e; is-reversal = rw e; is-settlement = rw e; is-end = rw (c, e); is-sign-on = rw e }
+
+-- a sign-on
+pub record SignsOn (m : Message) : Type 0 where
+  pub is-request : isRequest m ≡ false
+  pub is-reversal : isReversal m ≡ false
+  pub is-settlement : isSettlement m ≡ false
+  pub is-end : isEnd m ≡ false
+  pub is-sign-on : isSignOn m ≡ true
+
+pub sign-on-typed : (m : Message) → m .indicator ≡ 0x0800 → SignsOn m
+unfolding isRequest isReversal isSettlement isEnd isSignOn
+sign-on-typed m e = record { is-request = rw e; is-reversal = rw e; is-settlement = rw e; is-end = rw e; is-sign-on = rw e }
 
 -- a settlement's message: what an answer has to repeat, and the totals
 pub record Settles (x : Settings) (batch : Batch) (trace : Trace) (t : Totals) (m : Message) : Type 0 where
@@ -176,4 +190,12 @@ module _ (x : Settings) (batch : Batch) (m : List ℕ) (room : largest ≤ lengt
   end-says trace h =
       let xs = endFields x batch trace in
       says _ 0x0320 xs (sent-reads 0x0320 xs m upload-listed (end-held x batch h trace) room) x batch trace 0 202
+      (refl, refl) (refl, refl) (refl, refl) (refl, refl) small (omega arith) (omega arith)
+
+  pub sign-on-says : (trace : Trace) → SettingsHeld x
+      → Says x batch trace 0x0800 0 3 (messageIn (handedOut (messageBytes (signOnMessage x batch trace)) m))
+  unfolding signOnMessage
+  sign-on-says trace h =
+      let xs = signOnFields x batch trace in
+      says _ 0x0800 xs (sent-reads 0x0800 xs m sign-on-listed (sign-on-held x batch h trace) room) x batch trace 0 3
       (refl, refl) (refl, refl) (refl, refl) (refl, refl) small (omega arith) (omega arith)

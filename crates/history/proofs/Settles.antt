@@ -31,6 +31,7 @@ use Rattle.rules.proofs.InOrder.{Fit}
 use Rattle.call_definitions.specs.Settle.{settleRules, settle}
 use Rattle.batch_messages.specs.BatchMessages.{settlementMessage, itemMessage, endMessage}
 use Rattle.effect_definitions.specs.StateEffects as effects
+use Rattle.call_definitions.proofs.Quietly.{idle as resting}
 use Rattle.call_definitions.specs.SendNextUpload.{sendsNext, uploadFrom, sendNextUploadRules, sendNextUpload}
 use Rattle.call_definitions.specs.Events.{settles, send-next-upload}
 use Rattle.history.specs.Words.{messageIn}
@@ -100,6 +101,7 @@ module _ (l : ℕ) (s : State) (a : Account) (h : Tied l s a) (done : AllDone l 
         reversals = no (t .is-reversal);
         no-consent = no (t .is-request);
         no-consent-settling = λ x. none-consenting l (a .requests) done;
+        alone = λ x. none-reversing l (a .requests) done;
       }
 
   -- an upload's message leaves
@@ -112,6 +114,7 @@ module _ (l : ℕ) (s : State) (a : Account) (h : Tied l s a) (done : AllDone l 
         reversals = no (t .is-reversal);
         no-consent = no (t .is-request);
         no-consent-settling = no (t .is-settlement);
+        alone = λ x. none-reversing l (a .requests) done;
       }
 
 pub settle-after : (l : ℕ) (s : State) (lent : Lent) (a : Account) → Tied l s a → After l settles a (settle s lent)
@@ -126,7 +129,7 @@ settle-after l s lent a h =
     let f = fit-first s lent _ refl z in
     let w = settlement-settles (s .settings) (s .batch) (lent .message) (f .message-room) (f .order .state .batch-most) trace t
     (settings-held l s lent a h f) (sayable s lent f) in
-    let done = idle l (s .settings) (s .batch) (s .chip) a (s .phase) (passed 11 rs refl z) (passed 12 rs refl z) (h .shape) in
+    let done = idle l (s .settings) (s .batch) (s .chip) a (s .phase) (resting s (passed 11 rs refl z) .0) (passed 12 rs refl z) (h .shape) in
     let b = handedOut (messageBytes (settlementMessage (s .settings) (s .batch) trace t)) (lent .message) in
     record {
       tied = settlement-tied l s a h done b trace (w .said);

@@ -27,6 +27,7 @@ use Rattle.rules.proofs.InOrder.{Fit, fit}
 use Rattle.state_rules.proofs.Holds.{request-holds, reversal-holds}
 use Rattle.outgoing.specs.Held.{CardHeld}
 use Rattle.outgoing.specs.Outgoing.{requestMessage, reversalMessage}
+use Rattle.call_definitions.proofs.Quietly.{idle as resting}
 use Rattle.call_definitions.specs.Start.{originalOf, entryOf, namedBy, startRules, start}
 use Rattle.desk.specs.DeskRules.{sendsField55, chipFrom, requestOf}
 use Rattle.effect_definitions.specs.StateEffects.{requested, again}
@@ -44,7 +45,7 @@ use Rattle.history.proofs.Matching.{other-closes}
 use Rattle.history.proofs.Requests.{AllDone, none-reversing, none-consenting}
 use Rattle.history.proofs.Books.{one-sent, one-waits}
 use Rattle.history.proofs.Tied.{reversal-latest, Tied, one-reversing}
-use Rattle.history.proofs.After.{LawfulMessage, After, judged-after, no, sent-request, sent-reversal, idle}
+use Rattle.history.proofs.After.{reversal-alone, LawfulMessage, After, judged-after, no, sent-request, sent-reversal, idle}
 
 -- rules 1 and 2 have passed where no rule of a call is broken
 pub fit-first : (s : State) (lent : Lent) (rs : List Rule) → numbered (rules12 s lent ++ rs) ≡ true
@@ -98,6 +99,7 @@ module _ (l : ℕ) (e : Event) (s : State) (a : Account) (c : Chip) (q : Asked) 
         reversals = no (t .is-reversal);
         no-consent = λ x. none-consenting l (a .requests) done;
         no-consent-settling = no (t .is-settlement);
+        alone = λ x. none-reversing l (a .requests) done;
       }
 
 -- the card's word is not awaited as a request leaves
@@ -133,7 +135,7 @@ module _ (l : ℕ) (d : Desk) (chip : List ℕ) (s : State) (lent : Lent) (a : A
       let asks = request-asks (s .settings) (s .batch) (lent .message) (f .message-room) (f .order .state .batch-most) c q o (w .card) (w .original)
       (request-holds q (request-form z f)) in
       let carries = request-carries (s .settings) (s .batch) (lent .message) (f .message-room) (f .order .state .batch-most) c q o (w .card) (w .original) in
-      let done = idle l (s .settings) (s .batch) (s .chip) a (s .phase) (passed 11 rs refl z) (passed 12 rs refl z) (h .shape) in
+      let done = idle l (s .settings) (s .batch) (s .chip) a (s .phase) (resting s (passed 11 rs refl z) .0) (passed 12 rs refl z) (h .shape) in
       let b = handedOut (messageBytes (requestMessage (s .settings) (s .batch) c q o)) (lent .message) in
       record {
         tied = request-tied l (starts d chip) s a c q b h done asks (sent-unapproved d chip) carries;
@@ -201,6 +203,7 @@ module _ (l : ℕ) (s : State) (lent : Lent) (a : Account) (v : Reversal) (h : T
         reversals = λ x. one-reversing l a pending (v .sendings) refl (h .shape);
         no-consent = no (t .is-request);
         no-consent-settling = no (t .is-settlement);
+        alone = reversal-alone (messageIn b) (t .is-reversal);
       }
 
   reversal-after : After l send-reversal a (sendFrom (Pending v) (inPhase (Pending v) s) lent)

@@ -1,8 +1,8 @@
 -- Demand 3, the stored sums, and that the card has the last word, for every settings value, every journal and message buffer lent, and every list of the ten
 -- calls.
-use mathlib.Core.Path.{_≡_, refl, ap, subst}
+use mathlib.Core.Path.{_≡_, refl, ap, sym, subst}
 use mathlib.Core.List.{List, [], _∷_}
-use mathlib.Core.Bool.{Bool, true}
+use mathlib.Core.Bool.{Bool, true, not, _||_, true≢false}
 use Prim.Native.Nat.{ℕ, _≤_}
 use Rattle.message.specs.declared.Message.{Message}
 use Rattle.kinds.specs.declared.Totals.{Totals}
@@ -10,7 +10,7 @@ use Rattle.state.specs.declared.Settings.{Settings}
 use Rattle.state.specs.Calls.{lend}
 use Rattle.call_definitions.specs.Events.{call}
 use Rattle.call_definitions.specs.Shapes.{SettingsShaped, EventShaped}
-use Rattle.history.specs.Words.{messageIn, isRequest, isReversal, isSettlement}
+use Rattle.history.specs.Words.{messageIn, isRequest, isReversal, isSettlement, isSignOn}
 use Rattle.history.specs.History.{Given, quiet, History, Request, Account, account, batchOf}
 use Rattle.history.specs.Demand.{Invocation, Run, recorded, runs, begun, InvocationsShaped, Each, EachSent, EachRequest, inReversals, Carries, Demand3For, Demand3}
 use Rattle.history.specs.Consent.{consents, isDecline, DeclineIsReversed}
@@ -18,7 +18,7 @@ use Rattle.history.specs.Totals.{SumsOf, StoredSums}
 use Rattle.history.proofs.Books.{requestSums, balanced, no-books}
 use Rattle.history.proofs.Tied.{Tied, bounded}
 use Rattle.history.proofs.After.{LawfulMessage, Lawful}
-use Rattle.history.proofs.Events.{call-after}
+use Rattle.history.proofs.Events.{Signing, call-after, signing-after}
 use Rattle.history.proofs.Declined.{Declined, declined-call}
 
 -- what holds after each call
@@ -26,20 +26,22 @@ pub record Holds (l : ℕ) (r : Run) : Type 0 where
   pub tied : Tied l (r .state) (account l (r .history))
   pub lawful : Each (λ c h. Lawful (c .given) (account l h)) (r .history)
   pub limited : Each (λ c h. EachRequest (λ q. q .sendings ≤ l) (batchOf l (c ∷ h))) (r .history)
+  pub signing : Signing (r .state) (account l (r .history))
   pub declined : Each (λ c h. Declined (c .event) (c .given) l (account l h)) (r .history)
 
 begun-holds : (x : Settings) (j : List ℕ) → SettingsShaped x → Holds (x .sendings) (begun x j)
 begun-holds x j w =
-    record { tied = record { kept = record { sendings-set = refl; shaped = w; books = no-books }; shape = tt }; lawful = tt; limited = tt; declined = tt }
+    record { tied = record { kept = record { sendings-set = refl; shaped = w; books = no-books }; shape = tt }; lawful = tt; limited = tt; signing = λ e. absurd (true≢false (sym e)); declined = tt }
 
 one-holds : (l : ℕ) (t : Invocation) (r : Run) → EventShaped (t .event) → Holds l r
     → Holds l (recorded t r (call (t .event) (r .state) (lend (r .journal) (t .message))))
 one-holds l t r w h =
-    let k = call-after (t .event) l (r .state) (lend (r .journal) (t .message)) (account l (r .history)) w (h .tied) in
+    let k = call-after (t .event) l (r .state) (lend (r .journal) (t .message)) (account l (r .history)) w (h .tied) (h .signing) in
     record {
       tied = k .tied;
       lawful = (k .lawful, h .lawful);
       limited = (bounded (k .tied) .few, h .limited);
+      signing = signing-after (t .event) l (r .state) (lend (r .journal) (t .message)) (account l (r .history)) (h .tied) (h .signing);
       declined = (declined-call (t .event) _ l (r .state) (account l (r .history)) (h .tied), h .declined);
     }
 
@@ -64,6 +66,8 @@ stands l r h =
       one-waits = bounded (h .tied) .one-waits;
       no-request = of-sent l isRequest (λ m rs. inReversals rs ≡ 0) (λ m a w. w .no-request) (r .history) (h .lawful);
       no-settlement = of-sent l isSettlement (λ m rs. inReversals rs ≡ 0) (λ m a w. w .no-settlement) (r .history) (h .lawful);
+      alone =
+          of-sent l (λ m. not (isReversal m || isSignOn m)) (λ m rs. inReversals rs ≡ 0) (λ m a w. w .alone) (r .history) (h .lawful);
       reversals = of-sent l isReversal (λ m rs. inReversals rs ≡ 1) (λ m a w. w .reversals) (r .history) (h .lawful);
       limited = h .limited;
     }

@@ -4,7 +4,7 @@ use mathlib.Core.List.{List, [], _∷_}
 use mathlib.Core.Bool.{Bool, true, false}
 use Prim.Native.Nat.{ℕ, _<_}
 use Rattle.state.specs.declared.Settings.{Settings}
-use Rattle.call_definitions.specs.Events.{Event, signed-on, starts, answers, no-answer, power-returned, card-agrees, card-declines, send-reversal, settles, send-next-upload}
+use Rattle.call_definitions.specs.Events.{Event, sign-on, starts, answers, no-answer, power-returned, card-agrees, card-declines, send-reversal, settles, send-next-upload}
 use Rattle.call_definitions.specs.Shapes.{SettingsShaped}
 use Rattle.history.specs.Words.{carriesChip, isRequest, isSettlement}
 use Rattle.history.specs.History.{Fate, deciding, consenting, pending, out, ended, Request, quiet, batchOf, count}
@@ -35,7 +35,7 @@ consents rs = count (λ r. isConsenting (r .fate)) rs
 
 -- the card declines, or is silent
 abbrev pub isDecline : Event → Bool
-isDecline (signed-on batch) = false
+isDecline sign-on = false
 isDecline (starts d b) = false
 isDecline (answers b good) = false
 isDecline no-answer = true

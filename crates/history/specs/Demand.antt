@@ -1,7 +1,7 @@
 -- Demand 3, sentence by sentence.
 use mathlib.Core.Path.{_≡_}
 use mathlib.Core.List.{List, [], _∷_}
-use mathlib.Core.Bool.{Bool, true}
+use mathlib.Core.Bool.{Bool, true, not, _||_}
 use Prim.Native.Nat.{ℕ, _+_, _≤_}
 use lib.ListN.{length, take}
 use Rattle.digits.specs.declared.Number.the-variants.{Is}
@@ -17,7 +17,7 @@ use Rattle.state.specs.declared.Settings.{Settings}
 use Rattle.state.specs.declared.State.{State}
 use Rattle.call_definitions.specs.Events.{Event, call}
 use Rattle.call_definitions.specs.Shapes.{SettingsShaped, EventShaped}
-use Rattle.history.specs.Words.{messageIn, isRequest, isReversal, isSettlement}
+use Rattle.history.specs.Words.{messageIn, isRequest, isReversal, isSettlement, isSignOn}
 use Rattle.history.specs.History.{Given, sent, quiet, refused, Call, History, Ending, approved, declined, reversed, given-up, unanswered, Request, batchOf, count, amount, endedAs, isWaiting, inReversal, approvedDebit, approvedCredit}
 
 -- a call to make: what is handed in, and the message buffer lent
@@ -112,6 +112,8 @@ pub record Demand3For (l : ℕ) (r : Run) : Type 0 where
   -- between the cause of a reversal and its end no card or settlement request leaves
   pub no-request : EachSent l isRequest (λ m rs. inReversals rs ≡ 0) (r .history)
   pub no-settlement : EachSent l isSettlement (λ m rs. inReversals rs ≡ 0) (r .history)
+  -- the only request that may leave there is a sign-on (document 02, request 3): whatever else leaves but the reversal itself
+  pub alone : EachSent l (λ m. not (isReversal m || isSignOn m)) (λ m rs. inReversals rs ≡ 0) (r .history)
   -- each reversal, that of one start, leaves at most the set number of times; none leaves but between its cause and its end
   pub reversals : EachSent l isReversal (λ m rs. inReversals rs ≡ 1) (r .history)
   pub limited : Each (λ c h. EachRequest (λ q. q .sendings ≤ l) (batchOf l (c ∷ h))) (r .history)

@@ -6,7 +6,7 @@ use Prim.Native.Nat.{ℕ, _+_}
 use lib.Dec.{leb, eqb}
 use Rattle.message.specs.Message.{empty}
 use Rattle.message.specs.declared.Message.{Message}
-use Rattle.call_definitions.specs.Events.{Event, signed-on, starts, answers, no-answer, power-returned, card-agrees, card-declines, send-reversal, settles, send-next-upload}
+use Rattle.call_definitions.specs.Events.{Event, sign-on, starts, answers, no-answer, power-returned, card-agrees, card-declines, send-reversal, settles, send-next-upload}
 use Rattle.history.specs.Words.{messageIn, kindIn, amountIn, carriesChip, isRequest, isReversal, isMatching, isApproval, macGood, endsIt, closesBatch, isDebit, isCredit}
 
 -- what came back: the message to send, a quiet change or a refusal number
@@ -146,7 +146,7 @@ afterAnswer l good b a =
 
 -- a quiet change, by what was handed in
 abbrev pub whenQuiet : ℕ → Event → Account → List Request
-whenQuiet l (signed-on batch) a = a .requests
+whenQuiet l sign-on a = a .requests
 whenQuiet l (starts d b) a = a .requests
 whenQuiet l (answers b good) a = afterAnswer l good b a
 whenQuiet l no-answer a = byFate (whenSilent l) (a .requests)

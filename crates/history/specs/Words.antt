@@ -34,7 +34,7 @@ unfoldable pub amountIn : Message → ℕ
 amountIn m = numeral (numberIn m 4 0 12)
 
 -- the messages sent: card requests go as 0100, 0200 or 0220, reversals as 0400, settlements as 0500, the upload's end as
--- 0320 with management code 202
+-- 0320 with management code 202, sign-ons as 0800 (document 02, request 3)
 unfoldable pub isRequest : Message → Bool
 isRequest m = among (m .indicator) (0x0100 ∷ 0x0200 ∷ 0x0220 ∷ [])
 
@@ -46,6 +46,9 @@ isSettlement m = eqb (m .indicator) 0x0500
 
 unfoldable pub isEnd : Message → Bool
 isEnd m = eqb (m .indicator) 0x0320 && eqb (numeral (partOf m part.Management)) 202
+
+unfoldable pub isSignOn : Message → Bool
+isSignOn m = eqb (m .indicator) 0x0800
 
 -- document 02, request 1: a request with a chip carries field 55
 unfoldable pub carriesChip : Message → Bool
@@ -72,20 +75,26 @@ isApproval a = codeIs 0x30 0x30 a
 unfoldable pub digitIn : Message → ℕ
 digitIn a = numeral (partOf a part.Reconciliation)
 
--- matches if its type is the awaited one plus 10, and 11, 41, 42 and 60.2 equal those sent
+-- matches if its type is the awaited one plus 10, and 11, 41, 42 and 60.2 equal those sent; the answer to a sign-on matches without 60.2
 unfoldable pub matchesMessage : Message → Message → Bool
 matchesMessage m a =
     eqb (a .indicator) (m .indicator + 0x10)
     && sameField 11 m a && sameField 41 m a && sameField 42 m a
-    && sameNumber (partOf a part.Batch) (partOf m part.Batch)
+    && (isSignOn m || sameNumber (partOf a part.Batch) (partOf m part.Batch))
 
--- it must hold 39, but an 0510 must hold 48 instead, its digit 1, 2 or 3; a card approval also needs 4 equal, 13 and 37
+-- the batch number that an answer brings, 60.2
+unfoldable pub batchIn : Message → ℕ
+batchIn a = numeral (partOf a part.Batch)
+
+-- it must hold 39, but an 0510 must hold 48 instead, its digit 1, 2 or 3; a card approval also needs 4 equal, 13 and 37; a sign-on's 00
+-- needs a batch number other than 000000, and key material
 unfoldable pub holdsItsFields : Message → Message → Bool
 holdsItsFields m a =
     cond (isSettlement m)
       (leb 1 (digitIn a) && leb (digitIn a) 3)
       (names (a .bitmap) 39
-      && (not (isRequest m && isApproval a) || sameField 4 m a && names (a .bitmap) 13 && names (a .bitmap) 37))
+      && (not (isRequest m && isApproval a) || sameField 4 m a && names (a .bitmap) 13 && names (a .bitmap) 37)
+      && (not (isSignOn m && isApproval a) || leb 1 (batchIn a) && leb (batchIn a) 999999 && names (a .bitmap) 62))
 
 -- these bytes are a matching answer to the message sent
 unfoldable pub isMatching : Message → List ℕ → Bool
