@@ -42,14 +42,16 @@ use Rattle.answer_match.specs.Match.{isAnswer, matchesSent, indicatorSent, hold
 use Rattle.approval.specs.Approval.{approvalOf, approvedEntry}
 use Rattle.effect_definitions.specs.StateEffects as effects
 use Rattle.effect_definitions.specs.StateEffects.{pendingOrUnanswered, silenceOf, failed, onReversal, onSettlement, onEnd}
-use Rattle.effect_definitions.specs.JournalEffects.{Changed, changed, marked, silent, silentIn, voidedAt, originalVoided, approved, granted, onRequest, agreed, agreedIn, onItem, answered, resent}
-use Rattle.call_definitions.specs.SignOn.{signedOn}
+use Rattle.effect_definitions.specs.JournalEffects.{Changed, changed, marked, silent, silentIn, unanswered, voidedAt, originalVoided, approved, granted, onRequest, agreed, agreedIn, onItem, answered, answeredIn, heard, resent}
+use Rattle.call_definitions.specs.SignOn.{signOn}
 use Rattle.call_definitions.specs.Start.{start}
-use Rattle.call_definitions.specs.Answer.{traceSent, quietly, noAnswer, withoutPower, powerReturned, cardRules, cardAgrees, cardDeclines, answersIn, answeredIn, answerRules, readIn, answer}
+use Rattle.call_definitions.specs.Answer.{traceSent, quietly, noAnswerRules, noAnswer, withoutPower, powerReturned, cardRules, cardAgrees, cardDeclines, answersIn, answerRules, readIn, answer}
 use Rattle.call_definitions.specs.SendReversal.{sendFrom, sendReversal}
 use Rattle.call_definitions.specs.Settle.{settle}
 use Rattle.call_definitions.specs.SendNextUpload.{sendsNext, uploadFrom, sendNextUpload}
-use Rattle.call_definitions.specs.Events.{Event, signed-on, starts, answers, no-answer, power-returned, card-agrees, card-declines, send-reversal, settles, send-next-upload, call}
+use Rattle.call_definitions.specs.Events.{Event, sign-on, starts, answers, no-answer, power-returned, card-agrees, card-declines, send-reversal, settles, send-next-upload, call}
+use Rattle.effect_definitions.proofs.SignOn.{heard-as}
+use Rattle.call_definitions.proofs.Quietly.{plainly}
 use Rattle.history.specs.Words.{messageIn, carriesChip, isRequest, closesBatch}
 use Rattle.history.proofs.Sent.{Typed, reversal-typed, settlement-typed, item-typed, end-typed}
 use Rattle.history.proofs.Matching.{approves-alike, mac-alike, settlement-closes, end-closes, other-closes}
@@ -57,8 +59,9 @@ use Rattle.history.proofs.Approved.{approval-read, approved-entries}
 use Rattle.history.proofs.Starts.{fit-first}
 use Rattle.history.proofs.Events.{consent-awaited}
 use Rattle.history_theorems.specs.Standing.{Standing}
-use Rattle.history_theorems.specs.Approvals.{Approval, whenHeard, whenGiven, AreEntries}
+use Rattle.history_theorems.specs.Approvals.{Approval, whenHeard, whenQuiet, whenGiven, AreEntries}
 use Rattle.history_theorems.proofs.Stands.{Names, Stands}
+use Rattle.history_theorems.proofs.Signs.{silence-keeps, told-leaves, chosen, still}
 use Rattle.history_theorems.proofs.Said.{givenIn}
 use Rattle.history_theorems.proofs.Ledger.{mark-leaves, resends-leave, changed-entries, WithOne, one-more, none-voided, one-voided}
 use Rattle.history_theorems.proofs.Entered.{entered, voids-none, voids-alike}
@@ -111,6 +114,9 @@ silent-in (Waiting w) s j xs h = silent-booked w (inPhase (Waiting w) s) j xs h
 silent-in (Pending v) s j xs h = h
 silent-in Settling s j xs h = h
 silent-in Uploading s j xs h = h
+
+silence-booked : (s : State) (lent : Lent) (xs : List Approval) → Fit s lent → Booked s (lent .journal) xs → Left (unanswered s (lent .journal)) xs
+silence-booked s lent xs f h = silence-keeps (λ c. Left c xs) (λ c k. k) s lent f (silent-in (s .phase) s (lent .journal) xs h)
 
 -- an approval: its original is voided, and its entry is the last
 module _ (b : List ℕ) (read : readMessage b .outcome ≡ Read) (s : State) (lent : Lent) (q : Request) (r : Message) (xs : List Approval)
@@ -283,9 +289,10 @@ module _ (s : State) (lent : Lent) (y : Standing) (xs : List Approval) (d : Stan
 answered-in : (b : List ℕ) (good : Bool) → readMessage b .outcome ≡ Read → (p : Phase) (s : State) (lent : Lent) (y : Standing) (xs : List Approval)
     → Fit (inPhase p s) lent → Stands (inPhase p s) (lent .journal) y → Booked s (lent .journal) xs → (not (waits p) || s .chip .approved) ≡ false
     → answersIn p (entriesOf (s .entries) (lent .journal)) (inPhase p s) (messageIn b) ≡ true
-    → Left (answeredIn p good (messageIn b) (inPhase p s) (lent .journal)) (whenHeard good (messageIn b) y xs)
+    → Left (answeredIn p good (messageIn b) (inPhase p s) (lent .journal)) (whenQuiet (answers b good) y xs)
 answered-in b good r Resting s lent y xs f d h w e = absurd (true≢false w)
-answered-in b good r (Waiting x) s lent y xs f d h w e = heard-booked b good r (inPhase (Waiting x) s) lent y xs h x f d e
+answered-in b good r (Waiting x) s lent y xs f d h w e =
+    rw (chosen (d .phase-is .0 .awaits-is) _ _) (heard-booked b good r (inPhase (Waiting x) s) lent y xs h x f d e)
 answered-in b good r (Pending v) s lent y xs f d h w e = absurd (true≢false w)
 answered-in b good r Settling s lent y xs f d h w e = absurd (true≢false w)
 answered-in b good r Uploading s lent y xs f d h w e = absurd (true≢false w)
@@ -294,22 +301,28 @@ read-booked : (o : ReadOutcome) (b : List ℕ) (good : Bool) → readMessage b .
     → Fit s lent → Stands s (lent .journal) y → Booked s (lent .journal) xs → BookedAfter (answers b good) y xs (readIn o good (messageIn b) s lent)
 read-booked Read b good r s lent y xs f d h =
     let rs = answerRules (messageIn b) s (lent .journal) in
-    judged-booked s lent y xs d h (answers b good) (firstBroken rs) (quietly (answeredIn (s .phase) good (messageIn b) s (lent .journal)) lent)
-    (λ z. answered-in b good r (s .phase) s lent y xs f d h (passed 14 rs refl z) (not-false _ (passed 22 rs refl z)))
+    judged-booked s lent y xs d h (answers b good) (firstBroken rs) (quietly (heard good (messageIn b) s (lent .journal)) lent)
+    (λ z.
+    heard-as (λ c. Left c (whenQuiet (answers b good) y xs)) good (messageIn b) s (lent .journal)
+    (λ e.
+    rw (chosen (still s lent y f d e) _ _, told-leaves (messageIn b) s (lent .journal) e .entries-stay) h)
+    (λ e. let p = plainly (messageIn b) s (lent .journal) z e in answered-in b good r (s .phase) s lent y xs f d h (p .0) (p .1)))
 read-booked (Refused n) b good r s lent y xs f d h = h
 
 pub call-booked : (e : Event) (s : State) (lent : Lent) (y : Standing) (xs : List Approval) → Stands s (lent .journal) y → Booked s (lent .journal) xs
     → BookedAfter e y xs (call e s lent)
-unfolding signedOn start answer noAnswer powerReturned cardAgrees cardDeclines sendReversal settle sendNextUpload
-call-booked (signed-on batch) s lent y xs d h = judged-booked s lent y xs d h (signed-on batch) _ _ (λ z. h)
+unfolding signOn start answer noAnswer powerReturned cardAgrees cardDeclines sendReversal settle sendNextUpload
+call-booked sign-on s lent y xs d h = judged-booked s lent y xs d h sign-on _ _ (λ z. h)
 call-booked (starts k b) s lent y xs d h = judged-booked s lent y xs d h (starts k b) _ _ (λ z. h)
 call-booked (answers b good) s lent y xs d h =
     judged-booked s lent y xs d h (answers b good) (firstBroken (rules12 s lent)) (readIn (readMessage b .outcome) good (messageIn b) s lent)
     (λ z. read-booked (readMessage b .outcome) b good refl s lent y xs (fit s lent z) d h)
 call-booked no-answer s lent y xs d h =
-    judged-booked s lent y xs d h no-answer _ (quietly (silentIn (s .phase) s (lent .journal)) lent) (λ z. silent-in (s .phase) s (lent .journal) xs h)
+    judged-booked s lent y xs d h no-answer (firstBroken (noAnswerRules s lent)) (quietly (unanswered s (lent .journal)) lent)
+    (λ z. silence-booked s lent xs (fit-first s lent _ refl z) h)
 call-booked power-returned s lent y xs d h =
-    judged-booked s lent y xs d h power-returned _ (withoutPower (silentIn (s .phase) s (lent .journal)) lent) (λ z. silent-in (s .phase) s (lent .journal) xs h)
+    judged-booked s lent y xs d h power-returned (firstBroken (rules12 s lent)) (withoutPower (unanswered s (lent .journal)) lent)
+    (λ z. silence-booked s lent xs (fit s lent z) h)
 call-booked card-agrees s lent y xs d h =
     let rs = cardRules s lent in
     judged-booked s lent y xs d h card-agrees (firstBroken rs) (quietly (agreedIn (s .phase) s (lent .journal)) lent)

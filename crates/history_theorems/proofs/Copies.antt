@@ -37,18 +37,19 @@ use Rattle.state.specs.declared.Phase.{Phase}
 use Rattle.state.specs.declared.Phase.the-variants.{Resting, Waiting, Pending, Settling, Uploading}
 use Rattle.state.specs.declared.Settings.{Settings}
 use Rattle.state.specs.declared.State.{State}
-use Rattle.call_definitions.specs.Events.{Event, signed-on, starts, answers, no-answer, power-returned, card-agrees, card-declines, send-reversal, settles, send-next-upload}
-use Rattle.history.specs.Words.{messageIn, reads, amountIn, carriesChip, isRequest, isSettlement, sameField, isApproval, matchesMessage, holdsItsFields, isMatching, macGood, closesBatch}
+use Rattle.call_definitions.specs.Events.{Event, sign-on, starts, answers, no-answer, power-returned, card-agrees, card-declines, send-reversal, settles, send-next-upload}
+use Rattle.history.specs.Words.{messageIn, reads, amountIn, carriesChip, isRequest, isSettlement, sameField, batchIn, isApproval, matchesMessage, holdsItsFields, isMatching, macGood, closesBatch}
 use Rattle.history.specs.History as history
 use Rattle.history.specs.History.{Given}
 use Rattle.history.proofs.NotEmpty.{reading-above}
 use Rattle.history.proofs.Sent.{reversal-typed, settlement-typed, item-typed, end-typed}
 use Rattle.history_theorems.specs.Standing as standing
-use Rattle.history_theorems.specs.Standing.{Standing, traceIn, whenClosed, grants, whenDecided, whenAgreed}
-use Rattle.history_theorems.specs.Judged.{unread, numberOf, JudgedBy}
+use Rattle.history_theorems.specs.Standing.{Standing, SignOn, traceIn, whenClosed, grants, whenDecided, whenAgreed}
+use Rattle.history_theorems.specs.Judged.{unread, awaits, asked, numberOf, JudgedBy}
 use Rattle.history_theorems.specs.Approvals as approvals
 use Rattle.history_theorems.specs.Approvals.{Approval, AtPlace, IsEntry, AreEntries}
 use Rattle.history_theorems.proofs.Stands.{PhaseStands, Details, SentLast, AwaitedDetails, Stands}
+use Rattle.history_theorems.proofs.Signs.{chosen}
 
 -- a message holds exactly the digits of a card, of its amount and of its trace
 pub record Exact (m : Message) : Type 0 where
@@ -142,23 +143,23 @@ module _ (x : Settings) (batch : Batch) (c : Chip) (es : List Entry) (y : Standi
   phase-exact Uploading a h d = idle-exact a (h .awaits-is)
 
 -- a call that gives a quiet change is refused by no number
-quiet-number : (e : Event) (y : Standing) (reverses : Bool) → JudgedBy (numberOf e y reverses) e y history.quiet → numberOf e y reverses ≡ 0
-quiet-number e y reverses judged = go (eqb (numberOf e y reverses) 0) refl
+quiet-number : (e : Event) (y : Standing) (n : ℕ) → JudgedBy n e y history.quiet → n ≡ 0
+quiet-number e y n judged = go (eqb n 0) refl
   where
-    go : (t : Bool) → eqb (numberOf e y reverses) 0 ≡ t → numberOf e y reverses ≡ 0
-    go true q = eqb-true _ 0 q
+    go : (t : Bool) → eqb n 0 ≡ t → n ≡ 0
+    go true q = eqb-true n 0 q
     go false q =
-        let g = judged .refuses (eqb-false _ 0 q) in
+        let g = judged .refuses (eqb-false n 0 q) in
         let z : _≡_ {A = ℕ} 0 1 = cc in
         absurd (omega arith)
 
 -- an answer that is heard quietly reads and matches
-module _ (b : List ℕ) (good reverses : Bool) (y : Standing)
-    (judged : JudgedBy (numberOf (answers b good) y reverses) (answers b good) y history.quiet) where
+module _ (b : List ℕ) (good reverses : Bool) (w : SignOn) (y : Standing)
+    (judged : JudgedBy (numberOf (answers b good) w y reverses) (answers b good) y history.quiet) where
   heard-matches : (o : ReadOutcome) → readMessage b .outcome ≡ o
-      → unread o (cond (y .awaited && not (y .card)) (cond (isMatching (y .message) b) 0 22) 14) ≡ 0
-      → (o ≡ Read) × (isMatching (y .message) b ≡ true)
-  heard-matches Read r e = (refl, go (y .awaited && not (y .card)) (isMatching (y .message) b) e)
+      → unread o (cond (awaits w y && not (y .card)) (cond (isMatching (asked w y) b) 0 22) 14) ≡ 0
+      → (o ≡ Read) × (isMatching (asked w y) b ≡ true)
+  heard-matches Read r e = (refl, go (awaits w y && not (y .card)) (isMatching (asked w y) b) e)
     where
       go : (a m : Bool) → _≡_ {A = ℕ} (cond a (cond m 0 22) 14) 0 → m ≡ true
       go true true e = refl
@@ -166,8 +167,10 @@ module _ (b : List ℕ) (good reverses : Bool) (y : Standing)
       go false m e = absurd (omega arith)
   heard-matches (Refused k) r e = let l : 3 ≤ k = rw r at (reading-above b) in absurd (omega arith)
 
-  heard-reads : (readMessage b .outcome ≡ Read) × (isMatching (y .message) b ≡ true)
-  heard-reads = heard-matches (readMessage b .outcome) refl (quiet-number (answers b good) y reverses judged)
+  heard-reads : y .awaited ≡ true → (readMessage b .outcome ≡ Read) × (isMatching (y .message) b ≡ true)
+  heard-reads e =
+      let m = heard-matches (readMessage b .outcome) refl (quiet-number (answers b good) y (numberOf (answers b good) w y reverses) judged) in
+      (m .0, rw (chosen e (y .message) (w .message)) at (m .1))
 
 -- a matching approval of a card request has field 37, as many bytes as its count
 not-settlement : (m : Message) → isRequest m ≡ true → isSettlement m ≡ false
@@ -184,9 +187,9 @@ unfolding isMatching holdsItsFields
 names-reference m b e r k =
     let a = messageIn b in
     let held = sameField 4 m a && names (a .bitmap) 13 in
-    let h : (names (a .bitmap) 39 && (held && names (a .bitmap) 37)) ≡ true =
-    rw (not-settlement m r, r, k) at (and-eq-true-iff (reads (readMessage b .outcome) && matchesMessage m a) (holdsItsFields m a) .0 e .1) in
-    and-eq-true-iff held (names (a .bitmap) 37) .0 (and-eq-true-iff (names (a .bitmap) 39) (held && names (a .bitmap) 37) .0 h .1) .1
+    let h = rw (not-settlement m r, r, k) at (and-eq-true-iff (reads (readMessage b .outcome) && matchesMessage m a) (holdsItsFields m a) .0 e .1) in
+    let c = and-eq-true-iff (names (a .bitmap) 39 && (held && names (a .bitmap) 37)) _ .0 h .0 in
+    and-eq-true-iff held (names (a .bitmap) 37) .0 (and-eq-true-iff (names (a .bitmap) 39) (held && names (a .bitmap) 37) .0 c .1) .1
 
 reference-whole : (b : List ℕ) → readMessage b .outcome ≡ Read → names (messageIn b .bitmap) 37 ≡ true → Whole (fieldOf (messageIn b) 37)
 unfolding located formats
@@ -263,33 +266,62 @@ card-awaited : (b : Bool) → _≡_ {A = ℕ} (cond b 0 14) 0 → b ≡ true
 card-awaited true e = refl
 card-awaited false e = absurd (omega arith)
 
-quiet-exactly : (e : Event) (y : Standing) (xs : List Approval) (reverses : Bool) → JudgedBy (numberOf e y reverses) e y history.quiet → Exactly y xs
-    → Exactly (standing.whenQuiet e y) (approvals.whenQuiet e y xs)
-quiet-exactly (signed-on batch) y xs r j h = record { last = h .last; granted = h .granted; each = h .each }
-quiet-exactly (starts d b) y xs r j h = h
-quiet-exactly (answers b good) y xs r j h =
-    let m = heard-reads b good r y j in
-    record { last = heard-last b good y xs h; granted = heard-granted b good y xs h m; each = heard-each b good y xs m h }
-quiet-exactly no-answer y xs r j h = record { last = h .last; granted = unawaited (y .message) (y .answer); each = h .each }
-quiet-exactly power-returned y xs r j h = record { last = h .last; granted = unawaited (y .message) (y .answer); each = h .each }
-quiet-exactly card-agrees y xs r j h = agreed-exactly [] false y xs h (card-awaited (y .card) (quiet-number card-agrees y r j))
-quiet-exactly card-declines y xs r j h = record { last = h .last; granted = unawaited (y .message) (y .answer); each = h .each }
-quiet-exactly send-reversal y xs r j h = h
-quiet-exactly settles y xs r j h = h
-quiet-exactly send-next-upload y xs r j h = h
+-- the answer to a sign-on is none to a card request
+told-exactly : (a : Message) (y : Standing) (xs : List Approval) → Exactly y xs → Exactly (standing.whenTold a y) xs
+told-exactly a y xs h = go (isApproval a)
+  where
+    go : (b : Bool) → Exactly (cond b (standing.whenSigned (batchIn a) y) y) xs
+    go true = record { last = h .last; granted = h .granted; each = h .each }
+    go false = h
 
--- any call keeps them
-pub call-exactly : (e : Event) (y : Standing) (xs : List Approval) (reverses : Bool) (g : Given) (s : State) (j : List ℕ)
-    → Stands s j (standing.whenGiven g e y)
-    → ((g ≡ history.refused 1 → ⊥) → (g ≡ history.refused 2 → ⊥) → JudgedBy (numberOf e y reverses) e y g)
-    → Exactly y xs → Exactly (standing.whenGiven g e y) (approvals.whenGiven g e y xs)
-call-exactly e y xs r (history.sent b) s j d k h =
-    record {
-      last = λ q. phase-exact (s .settings) (s .batch) (s .chip) _ (standing.whenSent (messageIn b) y) q (rw q) (s .phase) refl (d .phase-is) (d .details);
-      granted = unawaited (messageIn b) (y .answer);
-      each = h .each;
-    }
-call-exactly e y xs r history.quiet s j d k h =
-    quiet-exactly e y xs r
-    (k (λ q. let z : _≡_ {A = ℕ} 0 1 = cc in omega arith) (λ q. let z : _≡_ {A = ℕ} 0 1 = cc in omega arith)) h
-call-exactly e y xs r (history.refused n) s j d k h = h
+module _ (y : Standing) (w : SignOn) (xs : List Approval) (reverses : Bool) (h : Exactly y xs) where
+  answer-exactly : (b : List ℕ) (good : Bool) → JudgedBy (numberOf (answers b good) w y reverses) (answers b good) y history.quiet
+      → (t : Bool) → y .awaited ≡ t
+      → Exactly (cond t (standing.whenHeard good (messageIn b) y) (standing.whenTold (messageIn b) y)) (cond t (approvals.whenHeard good (messageIn b) y xs) xs)
+  answer-exactly b good j true e =
+      let m = heard-reads b good reverses w y j e in
+      record { last = heard-last b good y xs h; granted = heard-granted b good y xs h m; each = heard-each b good y xs m h }
+  answer-exactly b good j false e = told-exactly (messageIn b) y xs h
+
+  quiet-exactly : (e : Event) → JudgedBy (numberOf e w y reverses) e y history.quiet → Exactly (standing.whenQuiet e y) (approvals.whenQuiet e y xs)
+  quiet-exactly sign-on j = h
+  quiet-exactly (starts d b) j = h
+  quiet-exactly (answers b good) j = answer-exactly b good j (y .awaited) refl
+  quiet-exactly no-answer j = record { last = h .last; granted = unawaited (y .message) (y .answer); each = h .each }
+  quiet-exactly power-returned j = record { last = h .last; granted = unawaited (y .message) (y .answer); each = h .each }
+  quiet-exactly card-agrees j = agreed-exactly [] false y xs h (card-awaited (y .card) (quiet-number card-agrees y (numberOf card-agrees w y reverses) j))
+  quiet-exactly card-declines j = record { last = h .last; granted = unawaited (y .message) (y .answer); each = h .each }
+  quiet-exactly send-reversal j = h
+  quiet-exactly settles j = h
+  quiet-exactly send-next-upload j = h
+
+  -- what is sent, but for a sign-on, is awaited
+  module _ (m : Message) (s : State) (j : List ℕ) where
+    leaving-exactly : Stands s j (standing.whenSent m y) → Exactly (standing.whenSent m y) xs
+    leaving-exactly d =
+        record {
+          last = λ q. phase-exact (s .settings) (s .batch) (s .chip) _ (standing.whenSent m y) q (rw q) (s .phase) refl (d .phase-is) (d .details);
+          granted = unawaited m (y .answer);
+          each = h .each;
+        }
+
+    sent-exactly : (e : Event) → Stands s j (standing.sentAt e m y) → Exactly (standing.sentAt e m y) xs
+    sent-exactly sign-on d = record { last = h .last; granted = h .granted; each = h .each }
+    sent-exactly (starts k b) d = leaving-exactly d
+    sent-exactly (answers b good) d = leaving-exactly d
+    sent-exactly no-answer d = leaving-exactly d
+    sent-exactly power-returned d = leaving-exactly d
+    sent-exactly card-agrees d = leaving-exactly d
+    sent-exactly card-declines d = leaving-exactly d
+    sent-exactly send-reversal d = leaving-exactly d
+    sent-exactly settles d = leaving-exactly d
+    sent-exactly send-next-upload d = leaving-exactly d
+
+  -- any call keeps them
+  pub call-exactly : (e : Event) (g : Given) (s : State) (j : List ℕ) → Stands s j (standing.whenGiven g e y)
+      → ((g ≡ history.refused 1 → ⊥) → (g ≡ history.refused 2 → ⊥) → JudgedBy (numberOf e w y reverses) e y g)
+      → Exactly (standing.whenGiven g e y) (approvals.whenGiven g e y xs)
+  call-exactly e (history.sent b) s j d k = sent-exactly (messageIn b) s j e d
+  call-exactly e history.quiet s j d k =
+      quiet-exactly e (k (λ q. let z : _≡_ {A = ℕ} 0 1 = cc in omega arith) (λ q. let z : _≡_ {A = ℕ} 0 1 = cc in omega arith))
+  call-exactly e (history.refused n) s j d k = h

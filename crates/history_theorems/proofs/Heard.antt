@@ -35,7 +35,7 @@ use Rattle.effect_definitions.specs.StateEffects as effects
 use Rattle.effect_definitions.specs.StateEffects.{pendingOrUnanswered, silenceOf, failed, onReversal, onSettlement, onEnd}
 use Rattle.effect_definitions.specs.JournalEffects.{Changed, changed, silent, silentIn, approved, granted, onRequest, answered}
 use Rattle.call_definitions.specs.Answer.{traceSent}
-use Rattle.history.specs.Words.{messageIn, isRequest, isSettlement, isMatching, holdsItsFields, closesBatch}
+use Rattle.history.specs.Words.{messageIn, isRequest, isSettlement, isSignOn, isMatching, holdsItsFields, closesBatch}
 use Rattle.history.proofs.Said.{Says}
 use Rattle.history.proofs.Sent.{Typed, Asks, reversal-typed, settlement-typed, item-typed, end-typed}
 use Rattle.history.proofs.Matching.{matches-alike, request-holds, other-holds, settlement-holds, approves-alike, mac-alike, settlement-closes, end-closes, other-closes}
@@ -51,7 +51,7 @@ module _ (power : Bool) (y : Standing) where
   quiet-at : {stage : Stage} {b : Bool} → At b stage y → At false stage (whenSilent power y)
   quiet-at h = record { awaits-is = refl; stage-is = h .stage-is }
 
-  abbrev Silenced : Changed → Type 0
+  abbrev pub Silenced : Changed → Type 0
   Silenced c =
       PhaseStands (c .state .settings) (c .state .batch) (entriesOf (c .state .entries) (c .journal)) (c .state .phase) (whenSilent power y)
       × Members (c .state) (whenSilent true y)
@@ -108,30 +108,36 @@ module _ (power : Bool) (y : Standing) where
   silenced-in (Waiting w) s j k h =
       silenced (inPhase (Waiting w) s) j (h .members) w k (h .phase-is .0) (h .phase-is .1) (h .details)
   silenced-in (Pending v) s j k h =
-      let u = unapproved (Pending v) (s .chip) k refl in
-      (quiet-at (h .phase-is), now-quiet s j (h .members) (s .chip) u,
-      (h .details .0, rw (← h .members .4, u, h .phase-is .awaits-is) (h .details .1)))
+      let u = unapproved (Pending v) (s .chip) k refl in (
+        quiet-at (h .phase-is),
+        now-quiet s j (h .members) (s .chip) u,
+        (h .details .0, rw (← h .members .4, u, h .phase-is .awaits-is) (h .details .1)),
+      )
   silenced-in Settling s j k h = (quiet-at (h .phase-is), now-quiet s j (h .members) (s .chip) (unapproved Settling (s .chip) k refl), tt)
   silenced-in Uploading s j k h = (quiet-at (h .phase-is), now-quiet s j (h .members) (s .chip) (unapproved Uploading (s .chip) k refl), tt)
 
 -- an answer is accepted exactly where it matches the message sent last
 module _ (x : Settings) (batch : Batch) (b : List ℕ) (read : readMessage b .outcome ≡ Read) where
   alike : {kind code : ℕ} {m : Message} (w : Awaited) (es : List Entry) → Says x batch (traceSent es w) (indicatorSent w) kind code m
-      → holdsNamed w (messageIn b) ≡ holdsItsFields m (messageIn b) → isAnswer x batch (traceSent es w) w (messageIn b) ≡ isMatching m b
+      → isSignOn m ≡ false → holdsNamed w (messageIn b) ≡ holdsItsFields m (messageIn b) → isAnswer x batch (traceSent es w) w (messageIn b) ≡ isMatching m b
   unfolding isMatching isAnswer
-  alike w es s h = rw (read, ← matches-alike s (messageIn b), ← h)
+  alike w es s n h = rw (read, ← matches-alike s n (messageIn b), ← h)
 
   pub accepted-is : (w : Awaited) (es : List Entry) (y : Standing) → SentLast x batch es w y
       → isAnswer x batch (traceSent es w) w (messageIn b) ≡ isMatching (y .message) b
-  accepted-is (awaited.Request q) es y h = alike (awaited.Request q) es (h .said) (request-holds h (messageIn b))
+  accepted-is (awaited.Request q) es y h = alike (awaited.Request q) es (h .said) (h .typed .is-sign-on) (request-holds h (messageIn b))
   accepted-is (awaited.Reversal v) es y h =
-      alike (awaited.Reversal v) es h (other-holds (reversal-typed (y .message) (h .indicator)) (messageIn b))
+      let t = reversal-typed (y .message) (h .indicator) in
+      alike (awaited.Reversal v) es h (t .is-sign-on) (other-holds t (messageIn b))
   accepted-is (awaited.Settlement t) es y h =
-      alike (awaited.Settlement t) es h (settlement-holds t (settlement-typed (y .message) (h .indicator)) (messageIn b))
+      let k = settlement-typed (y .message) (h .indicator) in
+      alike (awaited.Settlement t) es h (k .is-sign-on) (settlement-holds t k (messageIn b))
   accepted-is (awaited.Item i) es y h =
-      alike (awaited.Item i) es h (other-holds (item-typed (y .message) (h .indicator) (h .code-number)) (messageIn b))
+      let t = item-typed (y .message) (h .indicator) (h .code-number) in
+      alike (awaited.Item i) es h (t .is-sign-on) (other-holds t (messageIn b))
   accepted-is (awaited.End t) es y h =
-      alike (awaited.End t) es h (other-holds (end-typed (y .message) (h .indicator) (h .code-number)) (messageIn b))
+      let k = end-typed (y .message) (h .indicator) (h .code-number) in
+      alike (awaited.End t) es h (k .is-sign-on) (other-holds k (messageIn b))
 
 -- where an accepted answer leaves the terminal
 module _ (good : Bool) (b : List ℕ) (read : readMessage b .outcome ≡ Read) (y : Standing) where

@@ -36,18 +36,20 @@ use Rattle.checks.proofs.Choices.{passed}
 use Rattle.rules.specs.Rules.{rules12, due}
 use Rattle.rules.proofs.InOrder.{Fit, fit}
 use Rattle.traces.proofs.Free.{taken-range}
-use Rattle.batch_messages.specs.BatchMessages.{itemFields, itemMessage, endFields, endMessage}
-use Rattle.batch_messages.proofs.Held.{EntryHeld, item-held, end-held, upload-listed}
+use Rattle.batch_messages.specs.BatchMessages.{itemFields, itemMessage, endMessage}
+use Rattle.batch_messages.proofs.Held.{EntryHeld, item-held, upload-listed}
 use Rattle.outgoing.specs.Held.{SettingsHeld}
 use Rattle.outgoing_theorems.specs.Theorems.{Reads}
-use Rattle.effect_definitions.specs.JournalEffects.{silentIn, agreedIn, resent}
-use Rattle.call_definitions.specs.SignOn.{signedOn}
+use Rattle.effect_definitions.specs.JournalEffects.{Changed, silentIn, unanswered, agreedIn, answeredIn, heard, resent}
+use Rattle.call_definitions.specs.SignOn.{signOn}
 use Rattle.call_definitions.specs.Start.{start}
-use Rattle.call_definitions.specs.Answer.{quietly, noAnswerRules, noAnswer, withoutPower, powerReturned, cardRules, cardAgrees, cardDeclines, answersIn, answeredIn, answerRules, readIn, answer}
+use Rattle.call_definitions.specs.Answer.{quietly, noAnswerRules, noAnswer, withoutPower, powerReturned, cardRules, cardAgrees, cardDeclines, answersIn, answerRules, readIn, answer}
 use Rattle.call_definitions.specs.SendReversal.{sendFrom, sendReversal}
 use Rattle.call_definitions.specs.Settle.{settle}
 use Rattle.call_definitions.specs.SendNextUpload.{sendsNext, sendNextUploadRules, uploadFrom, sendNextUpload}
-use Rattle.call_definitions.specs.Events.{Event, signed-on, starts, answers, no-answer, power-returned, card-agrees, card-declines, send-reversal, settles, send-next-upload, call}
+use Rattle.call_definitions.specs.Events.{Event, sign-on, starts, answers, no-answer, power-returned, card-agrees, card-declines, send-reversal, settles, send-next-upload, call}
+use Rattle.effect_definitions.proofs.SignOn.{heard-as}
+use Rattle.call_definitions.proofs.Quietly.{plainly}
 use Rattle.history.specs.Words.{messageIn, kindIn, carriesChip, isRequest, isApproval, macGood, closesBatch, processingFor}
 use Rattle.history.specs.History as history
 use Rattle.history.specs.History.{Given, Account}
@@ -60,14 +62,18 @@ use Rattle.history_theorems.specs.Standing.{Standing, traceIn}
 use Rattle.history_theorems.specs.Approvals.{Approval, IsEntry}
 use Rattle.history_theorems.specs.Fields.{field60, yuan, uploadItems, endItems}
 use Rattle.history_theorems.specs.Uploads.{Progress, unsent, silent, ended, Place, none, at, nextItem, leaves, changeAt, Upload, withItem, whenSent, isItem, changed, falls-silent, isAnswered, whenSilent, whenHeard, whenQuiet, whenGiven, SendsNext, EachFew}
+use Rattle.history_theorems.proofs.Signs.{silence-keeps, told-leaves, chosen, still}
 use Rattle.history_theorems.proofs.Stands.{Stands}
 use Rattle.history_theorems.proofs.Said.{givenIn}
-use Rattle.history_theorems.proofs.Sends.{trace-read}
+use Rattle.history_theorems.proofs.Sends.{end-sent, management-reads}
 use Rattle.history_theorems.proofs.Booked.{Booked}
 use Rattle.history_theorems.proofs.Copies.{Copied, EachExact, copied-place}
 use Rattle.history_theorems.proofs.ByKind.{processing-is}
 use Rattle.history_theorems.proofs.Progress.{IsMarked, Marks, marks-changed, marks-progress, placeOf, next-alike, MayLeaveAt, may-leave-at, few-leaves, few-changed, few-more, silent-few}
 use Rattle.history_theorems.proofs.Uploaded.{Uploads, silent-in, agreed-in, declined-same, heard-uploads}
+
+abbrev Left : Changed → Upload → Type 0
+Left c u = Uploads (c .state) (c .journal) u
 
 -- as an item leaves, its resends grow
 left-unsent : (e : Entry) (p : Progress) → e .mark ≡ 0 → IsMarked e p → IsMarked e (leaves p)
@@ -128,10 +134,7 @@ item-reads s batch m e room held entry = sent-reads 0x0320 (itemFields s batch e
 -- the end of the upload, with the trace that it took
 end-reads : (s : Settings) (batch : Batch) (n : ℕ) (m : List ℕ) (trace : Trace) → largest ≤ length m → SettingsHeld s → trace .0 ≤ lastNumber → batch .0 ≡ n
     → (let b = handedOut (messageBytes (endMessage s batch trace)) m in Reads 0x0320 (endItems s n (traceIn (messageIn b))) (readMessage b))
-unfolding endMessage
-end-reads s batch n m trace room held most p =
-    let r = sent-reads 0x0320 (endFields s batch trace) m upload-listed (end-held s batch held trace) room in
-    rw (trace-read _ 0x0320 (endFields s batch trace) trace r refl refl most, ← p) r
+end-reads s batch n m trace room held most p = management-reads s batch trace _ 0x0320 202 (end-sent s batch m trace held room) most n p
 
 -- what is said of a call's result
 pub record Uploaded (l : ℕ) (e : Event) (y : Standing) (xs : List Approval) (u : Upload) (r : Result) : Type 0 where
@@ -258,9 +261,10 @@ upload-from Uploading l t lent a y xs u tied d b k h f =
 answered-in : (b : List ℕ) (good : Bool) → readMessage b .outcome ≡ Read → (p : Phase) (s : State) (lent : Lent) (y : Standing) (u : Upload)
     → Fit (inPhase p s) lent → Stands (inPhase p s) (lent .journal) y → Uploads (inPhase p s) (lent .journal) u → (not (waits p) || s .chip .approved) ≡ false
     → answersIn p (entriesOf (s .entries) (lent .journal)) (inPhase p s) (messageIn b) ≡ true
-    → (let c = answeredIn p good (messageIn b) (inPhase p s) (lent .journal) in Uploads (c .state) (c .journal) (whenHeard good (messageIn b) y u))
+    → Left (answeredIn p good (messageIn b) (inPhase p s) (lent .journal)) (cond (y .awaited) (whenHeard good (messageIn b) y u) u)
 answered-in b good r Resting s lent y u f d h w e = absurd (true≢false w)
-answered-in b good r (Waiting x) s lent y u f d h w e = heard-uploads b good r (inPhase (Waiting x) s) lent y u x f d h refl e
+answered-in b good r (Waiting x) s lent y u f d h w e =
+    rw (chosen (d .phase-is .0 .awaits-is) _ _) (heard-uploads b good r (inPhase (Waiting x) s) lent y u x f d h refl e)
 answered-in b good r (Pending v) s lent y u f d h w e = absurd (true≢false w)
 answered-in b good r Settling s lent y u f d h w e = absurd (true≢false w)
 answered-in b good r Uploading s lent y u f d h w e = absurd (true≢false w)
@@ -270,21 +274,30 @@ read-uploaded : (o : ReadOutcome) (l : ℕ) (b : List ℕ) (good : Bool) → rea
     → Uploaded l (answers b good) y xs u (readIn o good (messageIn b) s lent)
 read-uploaded Read l b good r s lent y xs u f d h =
     let rs = answerRules (messageIn b) s (lent .journal) in
-    let done = quietly (answeredIn (s .phase) good (messageIn b) s (lent .journal)) lent in
+    let done = quietly (heard good (messageIn b) s (lent .journal)) lent in
     judged-uploaded l y xs u (answers b good) (firstBroken rs) s lent done h
     (λ z.
     quiet-uploaded l y xs u (answers b good) done refl
-    (answered-in b good r (s .phase) s lent y u f d h (passed 14 rs refl z) (not-false _ (passed 22 rs refl z))))
+    (heard-as (λ c. Left c (cond (y .awaited) (whenHeard good (messageIn b) y u) u)) good (messageIn b) s (lent .journal)
+    (λ e.
+    let k = told-leaves (messageIn b) s (lent .journal) e in
+    rw (chosen (still s lent y f d e) _ _) (record { marks = rw (k .entries-stay) (h .marks); item-is = rw (k .phase-stays) (h .item-is) }))
+    (λ e. let p = plainly (messageIn b) s (lent .journal) z e in answered-in b good r (s .phase) s lent y u f d h (p .0) (p .1))))
 read-uploaded (Refused n) l b good r s lent y xs u f d h = refused-uploaded l y xs u (answers b good) n s lent h
 
 -- any call
 module _ (l : ℕ) (s : State) (lent : Lent) (a : Account) (y : Standing) (xs : List Approval) (u : Upload) (tied : Tied l s a)
     (d : Stands s (lent .journal) y) (booked : Booked s (lent .journal) xs) (exact : EachExact xs) (h : Uploads s (lent .journal) u) where
+  silence-uploads : Fit s lent → Left (unanswered s (lent .journal)) (whenSilent l y u)
+  silence-uploads f =
+      silence-keeps (λ c. Left c (whenSilent l y u)) (λ c k. record { marks = k .marks; item-is = k .item-is }) s lent f
+      (silent-in l y u (s .phase) s lent (tied .kept .sendings-set) f d h)
+
   pub call-uploaded : (e : Event) → Uploaded l e y xs u (call e s lent)
-  unfolding signedOn start answer noAnswer powerReturned cardAgrees cardDeclines sendReversal settle sendNextUpload
-  call-uploaded (signed-on batch) =
-      judged-uploaded l y xs u (signed-on batch) _ s lent _ h
-      (λ z. quiet-uploaded l y xs u (signed-on batch) _ refl (record { marks = h .marks; item-is = h .item-is }))
+  unfolding signOn start answer noAnswer powerReturned cardAgrees cardDeclines sendReversal settle sendNextUpload
+  call-uploaded sign-on =
+      judged-uploaded l y xs u sign-on _ s lent _ h
+      (λ z. sent-other l y xs u sign-on _ (λ p. let q : _≡_ {A = ℕ} 0 1 = cc in omega arith) (record { marks = h .marks; item-is = h .item-is }))
   call-uploaded (starts k b) =
       judged-uploaded l y xs u (starts k b) _ s lent _ h
       (λ z. sent-other l y xs u (starts k b) _ (λ p. let q : _≡_ {A = ℕ} 0 1 = cc in omega arith) (record { marks = h .marks; item-is = tt }))
@@ -292,16 +305,16 @@ module _ (l : ℕ) (s : State) (lent : Lent) (a : Account) (y : Standing) (xs : 
       judged-uploaded l y xs u (answers b good) (firstBroken (rules12 s lent)) s lent (readIn (readMessage b .outcome) good (messageIn b) s lent) h
       (λ z. read-uploaded (readMessage b .outcome) l b good refl s lent y xs u (fit s lent z) d h)
   call-uploaded no-answer =
-      let done = quietly (silentIn (s .phase) s (lent .journal)) lent in
+      let done = quietly (unanswered s (lent .journal)) lent in
       judged-uploaded l y xs u no-answer (firstBroken (noAnswerRules s lent)) s lent done h
       (λ z.
-      let k = silent-in l y u (s .phase) s lent (tied .kept .sendings-set) (fit-first s lent _ refl z) d h in
+      let k = silence-uploads (fit-first s lent _ refl z) in
       quiet-uploaded l y xs u no-answer done refl (record { marks = k .marks; item-is = k .item-is }))
   call-uploaded power-returned =
-      let done = withoutPower (silentIn (s .phase) s (lent .journal)) lent in
+      let done = withoutPower (unanswered s (lent .journal)) lent in
       judged-uploaded l y xs u power-returned (firstBroken (rules12 s lent)) s lent done h
       (λ z.
-      let k = silent-in l y u (s .phase) s lent (tied .kept .sendings-set) (fit s lent z) d h in
+      let k = silence-uploads (fit s lent z) in
       quiet-uploaded l y xs u power-returned done refl (record { marks = k .marks; item-is = k .item-is }))
   call-uploaded card-agrees =
       let done = quietly (agreedIn (s .phase) s (lent .journal)) lent in
@@ -353,9 +366,13 @@ silence-few l y u h = go (y .awaited && isItem (y .message))
     go false = h
 
 quiet-few : (l : ℕ) (e : Event) (y : Standing) (u : Upload) → EachFew l (u .progress) → EachFew l (whenQuiet l e y u .progress)
-quiet-few l (signed-on batch) y u h = h
+quiet-few l sign-on y u h = h
 quiet-few l (starts d b) y u h = h
-quiet-few l (answers b good) y u h = heard-few l good (messageIn b) y u h
+quiet-few l (answers b good) y u h = either (y .awaited)
+  where
+    either : (b′ : Bool) → EachFew l (cond b′ (whenHeard good (messageIn b) y u) u .progress)
+    either true = heard-few l good (messageIn b) y u h
+    either false = h
 quiet-few l no-answer y u h = silence-few l y u h
 quiet-few l power-returned y u h = silence-few l y u h
 quiet-few l card-agrees y u h = few-more l (u .progress) h
@@ -372,7 +389,7 @@ item-few l (at i) u f h = few-leaves l i (u .progress) (f i refl) h
 sent-few : (l : ℕ) (e : Event) (xs : List Approval) (u : Upload)
     → (e ≡ send-next-upload → (i : ℕ) → nextItem xs (u .progress) ≡ at i → MayLeaveAt l i (u .progress)) → EachFew l (u .progress)
     → EachFew l (whenSent e xs u .progress)
-sent-few l (signed-on batch) xs u f h = h
+sent-few l sign-on xs u f h = h
 sent-few l (starts d b) xs u f h = h
 sent-few l (answers b good) xs u f h = h
 sent-few l no-answer xs u f h = h

@@ -1,5 +1,6 @@
 -- The statements of specs/, proved: the invariant, that each call keeps it, and what each call gives.
 pub mod Stands
+pub mod Signs
 pub mod Said
 pub mod Heard
 pub mod Quiet

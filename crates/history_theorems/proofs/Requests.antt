@@ -59,7 +59,7 @@ use Rattle.history_theorems.specs.Requests.{isNamed, SaysRequest}
 use Rattle.history_theorems.proofs.ByKind.{chip-is, authorisation-keyed, processing-is, condition-is, void-is, type-is}
 use Rattle.history_theorems.proofs.Copies.{Copied, EachExact, copied-place}
 use Rattle.history_theorems.proofs.Stands.{Stands}
-use Rattle.history_theorems.proofs.Starts.{rest, start-goes}
+use Rattle.history_theorems.proofs.Starts.{named-back}
 use Rattle.history_theorems.proofs.Booked.{Booked}
 
 -- what every card request holds
@@ -247,8 +247,7 @@ module _ (l : ℕ) (s : State) (lent : Lent) (a : Account) (y : Standing) (vs : 
   abbrev b : List ℕ
   b = handedOut (messageBytes (requestMessage (s .settings) (s .batch) (chipFrom d chip) (requestOf d o trace) (namedBy d (s .batch) o))) (lent .message)
 
-  module _ (z : firstBroken (rest l s lent a y tied stands d chip authorisation reference) ≡ 0)
-      (u : firstBroken (startRules d chip s es o lent) ≡ 0) (f : Fit s lent) where
+  module _ (u : firstBroken (startRules d chip s es o lent) ≡ 0) (f : Fit s lent) where
     sent-fields : Reads (indicatorOf (d .kind)) (requestFields (s .settings) (s .batch) (chipFrom d chip) (requestOf d o trace) (namedBy d (s .batch) o)) (readMessage b)
     unfolding requestMessage
     sent-fields =
@@ -258,7 +257,7 @@ module _ (l : ℕ) (s : State) (lent : Lent) (a : Account) (y : Standing) (vs : 
         (request-listed (d .kind)) (request-held (s .settings) (s .batch) (chipFrom d chip) (requestOf d o trace) (namedBy d (s .batch) o) (w .card) (w .original)) (f .message-room)
 
     trace-said : traceIn (messageIn b) ≡ trace
-    trace-said = start-goes l s lent a y tied stands d chip authorisation reference z u f .stands .details .says .trace-is
+    trace-said = named-back l s lent a y tied stands d chip authorisation reference u f .trace-is
 
     in-terms : (xs : List Item) → requestFields (s .settings) (s .batch) (chipFrom d chip) (requestOf d o trace) (namedBy d (s .batch) o) ≡ xs
         → Reads (typeFor (d .kind)) xs (readMessage b)

@@ -1,4 +1,4 @@
--- Start, send reversal, settle and send next upload keep the invariant, and give what the history says.
+-- Sign on, send reversal, settle and send next upload keep the invariant, and give what the history says.
 use mathlib.Core.Path.{_≡_, refl, sym, ap, _∙_}
 use mathlib.Core.List.{List, [], _∷_, _++_}
 use mathlib.Core.Bool.{Bool, true, false, cond, not, true≢false}
@@ -36,7 +36,7 @@ use Rattle.state.specs.declared.Reversal.{Reversal}
 use Rattle.state.specs.declared.Settings.{Settings}
 use Rattle.state.specs.declared.State.{State}
 use Rattle.state.specs.State as state
-use Rattle.state.specs.State.{chipBytes, hasChip, inPhase, took, waits, pends}
+use Rattle.state.specs.State.{chipBytes, hasChip, inPhase, took, waits, isWaiting, pends}
 use Rattle.state.specs.Calls.{Lent, Result}
 use Rattle.checks.specs.Checks.{firstBroken}
 use Rattle.rules.specs.Rules.{due}
@@ -49,33 +49,38 @@ use Rattle.outgoing.specs.Outgoing as outgoing
 use Rattle.outgoing.specs.Outgoing.{reasonCode, reversalFields, reversalMessage}
 use Rattle.outgoing.proofs.Leaving.{by-chip, reversal-held, reversal-listed}
 use Rattle.outgoing_theorems.specs.Theorems.{Reads}
-use Rattle.batch_messages.specs.BatchMessages.{settlementFields, settlementMessage, itemMessage, endFields, endMessage}
-use Rattle.batch_messages.proofs.Held.{settlement-held, settlement-listed, end-held, upload-listed}
-use Rattle.effect_definitions.specs.StateEffects.{again}
+use Rattle.batch_messages.specs.BatchMessages.{settlementFields, settlementMessage, itemMessage, managementFields, endMessage, signOnMessage}
+use Rattle.batch_messages.proofs.Held.{settlement-held, settlement-listed, end-held, upload-listed, sign-on-held, sign-on-listed}
+use Rattle.effect_definitions.specs.StateEffects.{asksSignOn, again}
 use Rattle.effect_definitions.specs.JournalEffects.{resent}
+use Rattle.call_definitions.specs.SignOn.{signOnRules, signOnNow, signOn}
 use Rattle.call_definitions.specs.SendReversal.{sendReversalRules, sendFrom, sendReversal}
 use Rattle.call_definitions.specs.Settle.{settleRules, settleNow, settle}
 use Rattle.call_definitions.specs.SendNextUpload.{sendNextUploadRules, sendsNext, uploadFrom, sendNextUpload}
-use Rattle.call_definitions.specs.Events.{send-reversal, settles, send-next-upload}
+use Rattle.call_definitions.specs.Events.{sign-on, send-reversal, settles, send-next-upload}
+use Rattle.call_definitions.proofs.Quietly.{idle}
 use Rattle.history.specs.Words.{messageIn, carriesChip, isRequest, isSettlement}
 use Rattle.history.specs.History.{Account}
 use Rattle.history.proofs.Said.{handedOut, sent-reads, number-read}
-use Rattle.history.proofs.Sent.{Typed, reversal-typed, settlement-typed, item-typed, end-typed, reversal-says, settlement-settles, item-says, end-says}
+use Rattle.history.proofs.Sent.{Typed, reversal-typed, settlement-typed, item-typed, end-typed, sign-on-typed, reversal-says, settlement-settles, item-says, end-says, sign-on-says}
 use Rattle.history.proofs.Tied.{Tied}
 use Rattle.history.proofs.Starts.{card-held}
 use Rattle.history.proofs.Settles.{settings-held, sayable, entry-held}
-use Rattle.history_theorems.specs.Standing.{Stage, running, settling, uploading, Standing, traceIn, isNew, next, whenSent}
-use Rattle.history_theorems.specs.Judged.{cardFields, chipField, NamesJust, EachOf, reversalPending, uploads, whenIdle, numberOf, isUpload}
-use Rattle.history_theorems.proofs.Stands.{At, Members, card-read, Stands, unapproved, idle-unapproved, awaits, uploaded, pending-is}
+use Rattle.history_theorems.specs.Standing.{Stage, running, settling, uploading, Standing, traceIn, isNew, next, whenSent, whenAsked, SignOn}
+use Rattle.history_theorems.specs.Judged.{cardFields, chipField, NamesJust, EachOf, reversalPending, uploads, awaits, whenIdle, numberOf, isUpload}
+use Rattle.history_theorems.specs.Fields.{managementItems}
+use Rattle.history_theorems.proofs.Stands as stands
+use Rattle.history_theorems.proofs.Stands.{At, Members, card-read, Stands, unapproved, idle-unapproved, uploaded, still-phase, still-details, pending-is}
+use Rattle.history_theorems.proofs.Signs.{Signs, awaits-both}
 use Rattle.history_theorems.proofs.Said.{Said, goes, judged-said, same-number}
 use Rattle.history_theorems.proofs.Quiet.{flip, never}
 
 -- 10 and 11, then these
-pub idle-number : (on waits : Bool) (y : Standing) (k n : ℕ) → on ≡ y .signed → waits ≡ y .awaited → (waits ≡ false → k ≡ n)
-    → cond (not on) 10 (cond waits 11 k) ≡ whenIdle y n
+pub idle-number : (on waits : Bool) (w : SignOn) (y : Standing) (k n : ℕ) → on ≡ y .signed → waits ≡ awaits w y → (waits ≡ false → k ≡ n)
+    → cond (not on) 10 (cond waits 11 k) ≡ whenIdle w y n
 unfolding whenIdle
-idle-number on true y k n e f g = rw (← e, ← f)
-idle-number on false y k n e f g = rw (← e, ← f, g refl)
+idle-number on true w y k n e f g = rw (← e, ← f)
+idle-number on false w y k n e f g = rw (← e, ← f, g refl)
 
 -- where they pass
 pub record Passed (waits : Bool) (k : ℕ) : Type 0 where
@@ -108,13 +113,18 @@ numbered s y e h = e ∙ ap Is (h .1)
 pub sent-members : (s : State) (m : Message) (y : Standing) (end : Bool) → Typed false end false false m → s .chip .approved ≡ false → Members s y
     → Members s (whenSent m y)
 unfolding isNew
-sent-members s m y end k u h = (h .0, h .1, rw (k .is-request) (h .2), rw (k .is-request, k .is-settlement, k .is-end) (h .3), u)
+sent-members s m y end k u h = (h .0, h .1, rw (k .is-request) (h .2), rw (k .is-request, k .is-settlement, k .is-end, k .is-sign-on) (h .3), u)
 
 -- a new message that is no card request takes its trace
 new-members : (s : State) (m : Message) (y : Standing) (trace : Trace) → isRequest m ≡ false → isNew m ≡ true → traceIn m ≡ trace .0 → s .chip .approved ≡ false
     → Members s y → Members (took trace s) (whenSent m y)
 unfolding next following
 new-members s m y trace e n t u h = (h .0, h .1, rw e (h .2), rw (n, t), u)
+
+-- so does a sign-on
+asked-members : (s : State) (m : Message) (y : Standing) (trace : Trace) → traceIn m ≡ trace .0 → Members s y → Members (asksSignOn s trace) (whenAsked m y)
+unfolding next following
+asked-members s m y trace t h = (h .0, h .1, h .2, rw t, h .4)
 
 -- a resend changes neither trace nor kind of the entry
 module _ (n i : ℕ) (j : List ℕ) (below : i < length (entriesOf n j)) where
@@ -152,19 +162,31 @@ trace-read b i xs trace r h f l =
     (omega arith) (omega arith))
 
 module _ (x : Settings) (batch : Batch) (m : List ℕ) (trace : Trace) where
-  settlement-trace : (t : Totals) → SettingsHeld x → largest ≤ length m → trace .0 ≤ lastNumber
+  pub settlement-trace : (t : Totals) → SettingsHeld x → largest ≤ length m → trace .0 ≤ lastNumber
       → traceIn (messageIn (handedOut (messageBytes (settlementMessage x batch trace t)) m)) ≡ trace .0
   unfolding settlementMessage
   settlement-trace t h room l =
       let xs = settlementFields x batch trace t in
       trace-read _ 0x0500 xs trace (sent-reads 0x0500 xs m settlement-listed (settlement-held x batch h trace t) room) refl refl l
 
-  end-trace : SettingsHeld x → largest ≤ length m → trace .0 ≤ lastNumber
-      → traceIn (messageIn (handedOut (messageBytes (endMessage x batch trace)) m)) ≡ trace .0
+  pub sign-on-sent : SettingsHeld x → largest ≤ length m
+      → Reads 0x0800 (managementFields 3 x batch trace) (readMessage (handedOut (messageBytes (signOnMessage x batch trace)) m))
+  unfolding signOnMessage
+  sign-on-sent h room = sent-reads 0x0800 (managementFields 3 x batch trace) m sign-on-listed (sign-on-held x batch h trace) room
+
+  pub end-sent : SettingsHeld x → largest ≤ length m
+      → Reads 0x0320 (managementFields 202 x batch trace) (readMessage (handedOut (messageBytes (endMessage x batch trace)) m))
   unfolding endMessage
-  end-trace h room l =
-      let xs = endFields x batch trace in
-      trace-read _ 0x0320 xs trace (sent-reads 0x0320 xs m upload-listed (end-held x batch h trace) room) refl refl l
+  end-sent h room = sent-reads 0x0320 (managementFields 202 x batch trace) m upload-listed (end-held x batch h trace) room
+
+-- a sign-on and the upload's end, in the words of the history
+module _ (x : Settings) (batch : Batch) (trace : Trace) (b : List ℕ) (i code : ℕ) (r : Reads i (managementFields code x batch trace) (readMessage b))
+    (most : trace .0 ≤ lastNumber) where
+  pub management-trace : traceIn (messageIn b) ≡ trace .0
+  management-trace = trace-read b i (managementFields code x batch trace) trace r refl refl most
+
+  pub management-reads : (n : ℕ) → batch .0 ≡ n → Reads i (managementItems code x n (traceIn (messageIn b))) (readMessage b)
+  management-reads n e = rw (management-trace, ← e) r
 
 -- a reversal reads back to its fields
 reversal-reads : (x : Settings) (batch : Batch) (m : List ℕ) (c : Chip) (v : Reversal) → CardHeld x c (v .request) → largest ≤ length m
@@ -261,7 +283,8 @@ module _ (l : ℕ) (t : State) (lent : Lent) (a : Account) (y : Standing) (n : �
       let said = end-says (t .settings) (t .batch) (lent .message) (f .message-room) (f .order .state .batch-most) trace
       (settings-held l (inPhase Uploading t) lent a tied f) in
       let k = end-typed (messageIn b) (said .indicator) (said .code-number) in
-      let number = end-trace (t .settings) (t .batch) (lent .message) trace (settings-held l (inPhase Uploading t) lent a tied f) (f .message-room)
+      let number = management-trace (t .settings) (t .batch) trace b 0x0320 202
+      (end-sent (t .settings) (t .batch) (lent .message) trace (settings-held l (inPhase Uploading t) lent a tied f) (f .message-room))
       (taken-range (entriesOf (t .entries) (lent .journal)) (t .next .0) (f .order .state .next-least) (f .order .state .next-most) .1) in
       goes send-next-upload y n (sendsNext Nowhere (inPhase Uploading t) lent) none
       (record {
@@ -285,7 +308,8 @@ module _ (l : ℕ) (t : State) (lent : Lent) (a : Account) (y : Standing) (n : �
   upload-goes Uploading tied h f w = next-goes (nextDue (due Uploading) (entriesOf (t .entries) (lent .journal))) refl tied h f
 
 -- each call: its number is the history's, and what passes is sent
-module _ (l : ℕ) (s : State) (lent : Lent) (a : Account) (y : Standing) (tied : Tied l s a) (h : Stands s (lent .journal) y) where
+module _ (l : ℕ) (s : State) (lent : Lent) (a : Account) (y : Standing) (w : SignOn) (tied : Tied l s a) (h : Stands s (lent .journal) y)
+    (g : Signs s w) where
   abbrev reverses : Bool
   reverses = reversalPending (a .requests)
 
@@ -293,79 +317,110 @@ module _ (l : ℕ) (s : State) (lent : Lent) (a : Account) (y : Standing) (tied 
   entries = entriesOf (s .entries) (lent .journal)
 
   awaits-here : waits (s .phase) ≡ y .awaited
-  awaits-here = awaits (s .settings) (s .batch) entries y (s .phase) (h .phase-is)
+  awaits-here = stands.awaits (s .settings) (s .batch) entries y (s .phase) (h .phase-is)
+
+  awaits-now : isWaiting s ≡ awaits w y
+  awaits-now = awaits-both s w y awaits-here g
 
   pends-here : pends (s .phase) ≡ reverses
   pends-here = pending-is l (s .settings) (s .batch) (s .chip) a (s .phase) (tied .shape)
 
-  -- send reversal
-  reversal-number : cond (not (s .«signed_on»)) 10 (cond (waits (s .phase)) 11 (cond (not (pends (s .phase))) 14 0)) ≡ numberOf send-reversal y reverses
-  reversal-number =
-      idle-number (s .«signed_on») (waits (s .phase)) y _ (cond reverses 0 14) (h .members .0) awaits-here
-      (λ w. rw pends-here (flip reverses 14 0))
+  -- sign on: the phase stays
+  abbrev asking : Trace
+  asking = record { 0 = taken entries (s .next .0) }
 
-  pub reversal-said : Said send-reversal y (numberOf send-reversal y reverses) (sendReversal s lent)
+  sign-on-goes : isWaiting s ≡ false → numberOf sign-on w y reverses ≡ 0 → Fit s lent
+      → Said sign-on y (numberOf sign-on w y reverses) (signOnNow s asking lent)
+  sign-on-goes v z f =
+      let b = handedOut (messageBytes (signOnMessage (s .settings) (s .batch) asking)) (lent .message) in
+      let held = settings-held l s lent a tied f in
+      let said = sign-on-says (s .settings) (s .batch) (lent .message) (f .message-room) (f .order .state .batch-most) asking held in
+      let number = management-trace (s .settings) (s .batch) asking b 0x0800 3 (sign-on-sent (s .settings) (s .batch) (lent .message) asking held (f .message-room))
+      (taken-range entries (s .next .0) (f .order .state .next-least) (f .order .state .next-most) .1) in
+      goes sign-on y (numberOf sign-on w y reverses) (signOnNow s asking lent) z
+      (record {
+        members = asked-members s (messageIn b) y asking number (h .members);
+        phase-is = still-phase (s .settings) (s .batch) (s .batch) entries y (whenAsked (messageIn b) y) refl refl (s .phase) (idle s v .0) (h .phase-is);
+        details = still-details (s .settings) (s .batch) (s .chip) y (whenAsked (messageIn b) y) refl refl (s .phase) (idle s v .0) (h .details);
+      })
+      (sign-on-typed (messageIn b) (said .indicator) .is-sign-on, numbered s y (said .batch-number) (h .members))
+
+  pub sign-on-said : Said sign-on y (numberOf sign-on w y reverses) (signOn s lent)
+  unfolding signOn firstBroken
+  sign-on-said =
+      let number : _≡_ {A = ℕ} (cond (isWaiting s) 11 0) (cond (awaits w y) 11 0) = rw awaits-now in
+      judged-said sign-on y (numberOf sign-on w y reverses) s lent h (drop 2 (signOnRules s lent)) (signOnNow s asking lent)
+      (same-number sign-on y (numberOf sign-on w y reverses) _ number)
+      (λ z u f. sign-on-goes (kept (isWaiting s) 11 (never (omega arith)) z) (sym number ∙ z) f)
+
+  -- send reversal
+  reversal-number : cond (not (s .«signed_on»)) 10 (cond (isWaiting s) 11 (cond (not (pends (s .phase))) 14 0)) ≡ numberOf send-reversal w y reverses
+  reversal-number =
+      idle-number (s .«signed_on») (isWaiting s) w y _ (cond reverses 0 14) (h .members .0) awaits-now
+      (λ v. rw pends-here (flip reverses 14 0))
+
+  pub reversal-said : Said send-reversal y (numberOf send-reversal w y reverses) (sendReversal s lent)
   unfolding sendReversal firstBroken
   reversal-said =
-      let n = numberOf send-reversal y reverses in
+      let n = numberOf send-reversal w y reverses in
       judged-said send-reversal y n s lent h (drop 2 (sendReversalRules s lent)) (sendFrom (s .phase) s lent)
       (same-number send-reversal y n _ reversal-number)
       (λ z u f.
-      let p = idle-passed (s .«signed_on») (waits (s .phase)) (cond (not (pends (s .phase))) 14 0) z in
+      let p = idle-passed (s .«signed_on») (isWaiting s) (cond (not (pends (s .phase))) 14 0) z in
       reversal-goes l s lent a y n (sym reversal-number ∙ z) (s .phase) tied h f (kept (not (pends (s .phase))) 14 (never (omega arith)) (p .rest)))
 
   -- send next upload
-  upload-number : cond (not (s .«signed_on»)) 10 (cond (waits (s .phase)) 11 (cond (not (state.uploads (s .phase))) 14 0))
-      ≡ numberOf send-next-upload y reverses
+  upload-number : cond (not (s .«signed_on»)) 10 (cond (isWaiting s) 11 (cond (not (state.uploads (s .phase))) 14 0))
+      ≡ numberOf send-next-upload w y reverses
   upload-number =
-      idle-number (s .«signed_on») (waits (s .phase)) y _ (cond (uploads (y .stage)) 0 14) (h .members .0) awaits-here
-      (λ w. rw (uploaded (s .settings) (s .batch) entries y (s .phase) w (h .phase-is)) (flip (uploads (y .stage)) 14 0))
+      idle-number (s .«signed_on») (isWaiting s) w y _ (cond (uploads (y .stage)) 0 14) (h .members .0) awaits-now
+      (λ v. rw (uploaded (s .settings) (s .batch) entries y (s .phase) (idle s v .0) (h .phase-is)) (flip (uploads (y .stage)) 14 0))
 
-  pub upload-said : Said send-next-upload y (numberOf send-next-upload y reverses) (sendNextUpload s lent)
+  pub upload-said : Said send-next-upload y (numberOf send-next-upload w y reverses) (sendNextUpload s lent)
   unfolding sendNextUpload firstBroken
   upload-said =
-      let n = numberOf send-next-upload y reverses in
+      let n = numberOf send-next-upload w y reverses in
       judged-said send-next-upload y n s lent h (drop 2 (sendNextUploadRules s lent)) (uploadFrom (s .phase) s lent)
       (same-number send-next-upload y n _ upload-number)
       (λ z u f.
-      let p = idle-passed (s .«signed_on») (waits (s .phase)) (cond (not (state.uploads (s .phase))) 14 0) z in
+      let p = idle-passed (s .«signed_on») (isWaiting s) (cond (not (state.uploads (s .phase))) 14 0) z in
       upload-goes l s lent a y n (sym upload-number ∙ z) (s .phase) tied h f (kept (not (state.uploads (s .phase))) 14 (never (omega arith)) (p .rest)))
 
   -- settle
-  pub settle-number : cond (not (s .«signed_on»)) 10 (cond (waits (s .phase)) 11 (cond (pends (s .phase)) 12 (cond (state.uploads (s .phase)) 13 0)))
-      ≡ numberOf settles y reverses
+  settle-number : cond (not (s .«signed_on»)) 10 (cond (isWaiting s) 11 (cond (pends (s .phase)) 12 (cond (state.uploads (s .phase)) 13 0)))
+      ≡ numberOf settles w y reverses
   settle-number =
-      idle-number (s .«signed_on») (waits (s .phase)) y _ (cond reverses 12 (cond (uploads (y .stage)) 13 0)) (h .members .0) awaits-here
-      (λ w. rw (pends-here, uploaded (s .settings) (s .batch) entries y (s .phase) w (h .phase-is)))
+      idle-number (s .«signed_on») (isWaiting s) w y _ (cond reverses 12 (cond (uploads (y .stage)) 13 0)) (h .members .0) awaits-now
+      (λ v. rw (pends-here, uploaded (s .settings) (s .batch) entries y (s .phase) (idle s v .0) (h .phase-is)))
 
   abbrev settlement : Trace
   settlement = record { 0 = taken entries (s .next .0) }
 
-  abbrev pub settled : Result
+  abbrev settled : Result
   settled = settleNow s settlement lent
 
-  pub settle-goes : numberOf settles y reverses ≡ 0 → Fit s lent → Said settles y (numberOf settles y reverses) settled
+  settle-goes : numberOf settles w y reverses ≡ 0 → Fit s lent → Said settles y (numberOf settles w y reverses) settled
   unfolding whenIdle
   settle-goes z f =
       let b = handedOut (messageBytes (settlementMessage (s .settings) (s .batch) settlement (s .totals))) (lent .message) in
       let held = settings-held l s lent a tied f in
-      let w = awaits-here ∙ idle-passed (y .signed) (y .awaited) _ z .waits-not in
+      let v = idle s (awaits-now ∙ idle-passed (y .signed) (awaits w y) _ z .waits-not) .0 in
       let m = settlement-settles (s .settings) (s .batch) (lent .message) (f .message-room) (f .order .state .batch-most) settlement (s .totals)
       held (sayable s lent f) in
       let k = settlement-typed (messageIn b) (m .said .indicator) in
       let number = settlement-trace (s .settings) (s .batch) (lent .message) settlement (s .totals) held (f .message-room)
       (taken-range entries (s .next .0) (f .order .state .next-least) (f .order .state .next-most) .1) in
-      goes settles y (numberOf settles y reverses) settled z
+      goes settles y (numberOf settles w y reverses) settled z
       (record {
-        members = new-members s (messageIn b) y settlement (k .is-request) (settlement-new (messageIn b) k) number (idle-unapproved (s .phase) (s .chip) (f .order .state .chip) w) (h .members);
+        members = new-members s (messageIn b) y settlement (k .is-request) (settlement-new (messageIn b) k) number (idle-unapproved (s .phase) (s .chip) (f .order .state .chip) v) (h .members);
         phase-is = (sent-at (messageIn b) y settling (rw (k .is-settlement)), m .said);
         details = number;
       })
       (k .is-settlement, numbered s y (m .said .batch-number) (h .members))
 
-  pub settle-said : Said settles y (numberOf settles y reverses) (settle s lent)
+  pub settle-said : Said settles y (numberOf settles w y reverses) (settle s lent)
   unfolding settle firstBroken
   settle-said =
-      judged-said settles y (numberOf settles y reverses) s lent h (drop 2 (settleRules s lent)) settled
-      (same-number settles y (numberOf settles y reverses) _ settle-number)
+      judged-said settles y (numberOf settles w y reverses) s lent h (drop 2 (settleRules s lent)) settled
+      (same-number settles y (numberOf settles w y reverses) _ settle-number)
       (λ z u f. settle-goes (sym settle-number ∙ z) f)

@@ -1,4 +1,4 @@
--- What settle sends reads back to the words of the history.
+-- What settle and sign on send reads back to the words of the history.
 use mathlib.Core.Path.{_≡_, refl, sym, ap, subst, _∙_}
 use mathlib.Core.List.{List}
 use mathlib.Core.Bool.{Bool, true, false, cond}
@@ -19,16 +19,17 @@ use Rattle.entry.specs.declared.Entry.{Entry}
 use Rattle.journal.specs.Journal.{entriesOf, taken}
 use Rattle.state.specs.declared.Settings.{Settings}
 use Rattle.state.specs.declared.State.{State}
-use Rattle.state.specs.Calls.{Lent, judged, refused}
+use Rattle.state.specs.Calls.{Lent, Result, judged, refused}
 use Rattle.checks.specs.Checks.{firstBroken}
 use Rattle.rules.proofs.InOrder.{Fit}
 use Rattle.traces.proofs.Free.{taken-range}
 use Rattle.outgoing.specs.Held.{SettingsHeld}
 use Rattle.outgoing_theorems.specs.Theorems.{Reads}
-use Rattle.batch_messages.specs.BatchMessages.{settlementFields, settlementMessage}
+use Rattle.batch_messages.specs.BatchMessages.{settlementFields, settlementMessage, signOnMessage}
 use Rattle.batch_messages.proofs.Held.{settlement-held, settlement-listed}
+use Rattle.call_definitions.specs.SignOn.{signOnRules, signOnNow, signOn}
 use Rattle.call_definitions.specs.Settle.{settleRules, settleNow, settle}
-use Rattle.call_definitions.specs.Events.{Event, settles, call}
+use Rattle.call_definitions.specs.Events.{Event, sign-on, settles, call}
 use Rattle.history.specs.Words.{messageIn}
 use Rattle.history.specs.History as history
 use Rattle.history.specs.History.{Request, Account}
@@ -38,10 +39,10 @@ use Rattle.history.proofs.Settles.{settings-held}
 use Rattle.history.proofs.Starts.{fit-first}
 use Rattle.history.proofs.Tied.{Tied}
 use Rattle.history_theorems.specs.Standing.{Standing, traceIn}
-use Rattle.history_theorems.specs.Fields.{settlementItems}
+use Rattle.history_theorems.specs.Fields.{settlementItems, signOnItems}
 use Rattle.history_theorems.proofs.Stands.{Stands}
 use Rattle.history_theorems.proofs.Said.{givenIn}
-use Rattle.history_theorems.proofs.Sends.{trace-read}
+use Rattle.history_theorems.proofs.Sends.{trace-read, sign-on-sent, management-reads}
 
 -- the totals are those of the batch's approved requests, and the trace is the one that it took
 settlement-reads : (x : Settings) (batch : Batch) (n : ℕ) (m : List ℕ) (trace : Trace) (t : Totals) (rs : List Request) → largest ≤ length m → SettingsHeld x
@@ -55,6 +56,16 @@ settlement-reads x batch n m trace t rs room held most p e =
     let took = trace-read b 0x0500 (settlementFields x batch trace t) trace r refl refl most in
     subst (λ (xs : List Item). Reads 0x0500 xs (readMessage b))
     (ap (settlementFields x batch trace) e ∙ ap (λ (k : ℕ). settlementItems x k (trace .0) rs) p ∙ ap (λ (k : ℕ). settlementItems x n k rs) (sym took)) r
+
+-- what is sent is what a call sends that its rules let pass
+judged-sends : (s : State) (lent : Lent) (n : ℕ) (done : Result) (b : List ℕ) (P : List ℕ → Type 0) → (n ≡ 0 → givenIn done ≡ history.sent b → P b)
+    → givenIn (judged n s lent done) ≡ history.sent b → P b
+unfolding judged
+judged-sends s lent n done b P f = go (eqb n 0) refl
+  where
+    go : (t : Bool) → eqb n 0 ≡ t → givenIn (cond t done (refused n s lent)) ≡ history.sent b → P b
+    go true q g = f (eqb-true n 0 q) g
+    go false q g = let z : _≡_ {A = ℕ} 0 1 = cc in absurd (omega arith)
 
 module _ (l : ℕ) (s : State) (lent : Lent) (a : Account) (y : Standing) (tied : Tied l s a) (d : Stands s (lent .journal) y) where
   -- what settle sends where it gives these bytes
@@ -77,15 +88,32 @@ module _ (l : ℕ) (s : State) (lent : Lent) (a : Account) (y : Standing) (tied 
       rw same at r
 
   settle-reads : (b : List ℕ) → givenIn (settle s lent) ≡ history.sent b → ReadsSettled b
-  unfolding settle judged
-  settle-reads b g = go (eqb (firstBroken (settleRules s lent)) 0) refl g
-    where
-      go : (t : Bool) → eqb (firstBroken (settleRules s lent)) 0 ≡ t
-          → givenIn (cond t (settleNow s trace lent) (refused (firstBroken (settleRules s lent)) s lent)) ≡ history.sent b → ReadsSettled b
-      go true q g = settled-reads (fit-first s lent _ refl (eqb-true _ 0 q)) b g
-      go false q g = let z : _≡_ {A = ℕ} 0 1 = cc in absurd (omega arith)
+  unfolding settle
+  settle-reads b g =
+      judged-sends s lent (firstBroken (settleRules s lent)) (settleNow s trace lent) b ReadsSettled (λ z. settled-reads (fit-first s lent _ refl z) b) g
 
   -- by the event, with the settings under another name
   pub call-settled : (e : Event) (x : Settings) → s .settings ≡ x → (b : List ℕ) → e ≡ settles → givenIn (call e s lent) ≡ history.sent b
       → Reads 0x0500 (settlementItems x (y .batch) (traceIn (messageIn b)) (a .requests)) (readMessage b)
   call-settled e x same b p g = rw same at (settle-reads b (rw p at g))
+
+  -- what sign on sends where it gives these bytes
+  abbrev ReadsSignOn : List ℕ → Type 0
+  ReadsSignOn b = Reads 0x0800 (signOnItems (s .settings) (y .batch) (traceIn (messageIn b))) (readMessage b)
+
+  sign-on-reads : Fit s lent → (b : List ℕ) → givenIn (signOnNow s trace lent) ≡ history.sent b → ReadsSignOn b
+  sign-on-reads f b g =
+      let r = management-reads (s .settings) (s .batch) trace _ 0x0800 3
+      (sign-on-sent (s .settings) (s .batch) (lent .message) trace (settings-held l s lent a tied f) (f .message-room))
+      (taken-range es (s .next .0) (f .order .state .next-least) (f .order .state .next-most) .1) (y .batch) (d .members .1) in
+      let c = handedOut (messageBytes (signOnMessage (s .settings) (s .batch) trace)) (lent .message) in
+      let same : c ≡ b = cc in
+      rw same at r
+
+  pub call-signed-on : (e : Event) (x : Settings) → s .settings ≡ x → (b : List ℕ) → e ≡ sign-on → givenIn (call e s lent) ≡ history.sent b
+      → Reads 0x0800 (signOnItems x (y .batch) (traceIn (messageIn b))) (readMessage b)
+  unfolding signOn
+  call-signed-on e x same b p g =
+      rw same at
+      (judged-sends s lent (firstBroken (signOnRules s lent)) (signOnNow s trace lent) b ReadsSignOn (λ z. sign-on-reads (fit-first s lent _ refl z) b)
+      (rw p at g))

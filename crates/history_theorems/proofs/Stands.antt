@@ -177,6 +177,26 @@ module _ (x : Settings) (batch : Batch) (es : List Entry) (y : Standing) where
   uploaded Settling w h = ap uploads (sym (h .stage-is))
   uploaded Uploading w h = ap uploads (sym (h .stage-is))
 
+-- where nothing is awaited the phase needs no more than the stage, and over a reversal that is to be sent the request and its reason
+module _ (x : Settings) (batch other : Batch) (es : List Entry) (y z : Standing) (still : z .awaited ≡ y .awaited) (stage : z .stage ≡ y .stage) where
+  still-at : {e : Stage} → At false e y → At false e z
+  still-at k = record { awaits-is = still ∙ k .awaits-is; stage-is = stage ∙ k .stage-is }
+
+  pub still-phase : (p : Phase) → waits p ≡ false → PhaseStands x batch es p y → PhaseStands x other es p z
+  still-phase Resting w k = still-at k
+  still-phase (Waiting v) w k = absurd (true≢false w)
+  still-phase (Pending v) w k = still-at k
+  still-phase Settling w k = still-at k
+  still-phase Uploading w k = still-at k
+
+pub still-details : (x : Settings) (batch : Batch) (c : Chip) (y z : Standing) → z .request ≡ y .request → z .reason ≡ y .reason
+    → (p : Phase) → waits p ≡ false → Details x batch c p y → Details x batch c p z
+still-details x batch c y z q r Resting w d = tt
+still-details x batch c y z q r (Waiting v) w d = absurd (true≢false w)
+still-details x batch c y z q r (Pending v) w d = (rw q (d .0), d .1 ∙ sym r)
+still-details x batch c y z q r Settling w d = tt
+still-details x batch c y z q r Uploading w d = tt
+
 -- the reversals to be sent
 abbrev pendings : List Request → ℕ
 pendings rs = count (λ r. isPending (r .fate)) rs

@@ -23,7 +23,7 @@ use Rattle.state.specs.declared.Request.{Request}
 use Rattle.state.specs.declared.Settings.{Settings}
 use Rattle.state.specs.declared.State.{State}
 use Rattle.state.specs.State as state
-use Rattle.state.specs.State.{waits, pends}
+use Rattle.state.specs.State.{waits, isWaiting, pends}
 use Rattle.state.specs.Calls.{Lent, Result, sends}
 use Rattle.checks.specs.Checks.{Rule, firstBroken}
 use Rattle.rules.proofs.InOrder.{Fit}
@@ -51,8 +51,10 @@ use Rattle.desk.specs.declared.Desk.{Desk}
 use Rattle.desk.specs.DeskRules.{sendsField55, chipFrom, chipRules, requestOf, restRules, deskRules, journalRules}
 use Rattle.call_definitions.specs.Start.{originalOf, entryOf, namedBy, startRules, start}
 use Rattle.call_definitions.proofs.Refusals.{unbroken}
+use Rattle.call_definitions.specs.Sending.{MaySend}
 use Rattle.call_definitions.proofs.Held.{may-send}
 use Rattle.call_definitions.specs.Events.{starts}
+use Rattle.call_definitions.proofs.Quietly.{idle}
 use Rattle.history.specs.Words.{messageIn, isRequest, chipKinds}
 use Rattle.history.specs.History as history
 use Rattle.history.specs.History.{Account}
@@ -61,9 +63,11 @@ use Rattle.history.proofs.Sent.{Asks, request-asks}
 use Rattle.history.proofs.Tied.{Tied}
 use Rattle.history.proofs.Starts.{sent-unapproved, request-form}
 use Rattle.history_theorems.specs.Approvals.{originalIn}
-use Rattle.history_theorems.specs.Standing.{running, Standing, traceIn, isNew, next, whenSent}
+use Rattle.history_theorems.specs.Standing.{running, Standing, traceIn, isNew, next, whenSent, SignOn}
 use Rattle.history_theorems.specs.Judged.{reversalPending, closes, numberOf, JudgedBy}
-use Rattle.history_theorems.proofs.Stands.{PhaseStands, Members, HoldsCard, card-read, Names, Stands, awaits, closing, pending-is}
+use Rattle.history_theorems.proofs.Stands as stands
+use Rattle.history_theorems.proofs.Stands.{PhaseStands, Members, HoldsCard, card-read, Names, Stands, closing, pending-is}
+use Rattle.history_theorems.proofs.Signs.{Signs, awaits-both}
 use Rattle.history_theorems.proofs.ByKind.{chip-is}
 use Rattle.history_theorems.proofs.Ledger.{original-trace}
 use Rattle.history_theorems.proofs.Said.{Said, goes, judged-said}
@@ -189,35 +193,12 @@ module _ (l : ℕ) (s : State) (lent : Lent) (a : Account) (y : Standing) (tied 
   abbrev pub own : List Rule
   own = deskRules d (s .settings .refund) ++ journalRules d s (totalsOf entries) (originalOf d entries) original
 
-  abbrev pub number : ℕ
-  number = numberOf (starts d chip) y (reversalPending (a .requests))
-
   -- rule 23
   abbrev pub broken : Bool
   broken = sendsField55 d && not (chipInForm chip)
 
-  pub number-is : cond broken 23 (cond (not (s .«signed_on»)) 10 (cond (waits (s .phase)) 11 (cond (pends (s .phase)) 12 (cond (state.closes (s .phase)) 13 0))))
-      ≡ number
-  number-is =
-      let here = awaits (s .settings) (s .batch) entries y (s .phase) (h .phase-is) in
-      rw (chip-is (d .kind))
-      (ap (λ (n : ℕ). cond (d .chip && among (d .kind) chipKinds && not (chipInForm chip)) 23 n)
-      (idle-number (s .«signed_on») (waits (s .phase)) y _ (cond (reversalPending (a .requests)) 12 (cond (closes (y .stage)) 13 0)) (h .members .0) here
-      (λ w.
-      rw (
-        pending-is l (s .settings) (s .batch) (s .chip) a (s .phase) (tied .shape),
-        closing (s .settings) (s .batch) entries y (s .phase) w (h .phase-is),
-      ))))
-
   abbrev pub rest : List Rule
   rest = chipRules d chip ++ (restRules s ++ own)
-
-  start-refused : (firstBroken rest ≡ 0 → ⊥) → JudgedBy number (starts d chip) y (history.refused (firstBroken rest))
-  unfolding firstBroken
-  start-refused f =
-      rw (← number-is)
-      (by-rest d chip y broken (not (s .«signed_on»)) (waits (s .phase)) (pends (s .phase)) (state.closes (s .phase)) _ (firstBroken own) refl f
-      (first-within 15 21 own refl))
 
   -- what the request says of itself; a void names the trace of its original
   original-named : takesOriginal (d .kind) ≡ true → firstBroken (startRules d chip s entries original lent) ≡ 0 → named .trace .0 ≡ d .original .0
@@ -255,36 +236,75 @@ module _ (l : ℕ) (s : State) (lent : Lent) (a : Account) (y : Standing) (tied 
             original-said _ (named .trace .0) part ∙ z ∙ sym (rw t);
       }
 
+  -- what is sent reads back so
+  sendable : firstBroken (startRules d chip s entries original lent) ≡ 0 → MaySend s sentChip request named (lent .message)
+  sendable u =
+      may-send d chip s lent (tied .kept .shaped .terminal-length) (tied .kept .shaped .merchant-length) reference authorisation
+      (taken entries (s .next .0)) (unbroken d chip s original lent u)
+
+  asks-back : firstBroken (startRules d chip s entries original lent) ≡ 0 → Fit s lent
+      → Asks (s .settings) (s .batch) request (messageIn (handedOut (messageBytes (requestMessage (s .settings) (s .batch) sentChip request named)) (lent .message)))
+  asks-back u f =
+      request-asks (s .settings) (s .batch) (lent .message) (f .message-room) (f .order .state .batch-most) sentChip request named (sendable u .card) (sendable u .original)
+      (request-holds request (request-form l d chip s lent a tied authorisation reference u f))
+
+  pub named-back : firstBroken (startRules d chip s entries original lent) ≡ 0 → Fit s lent
+      → Names request (messageIn (handedOut (messageBytes (requestMessage (s .settings) (s .batch) sentChip request named)) (lent .message)))
+  named-back u f = names-request u f (asks-back u f) (sendable u .card) (sendable u .original)
+
   abbrev pub done : Result
   done = sends (messageBytes (requestMessage (s .settings) (s .batch) sentChip request named)) (requested s sentChip request) lent
 
-  pub start-goes : firstBroken rest ≡ 0 → firstBroken (startRules d chip s entries original lent) ≡ 0 → Fit s lent
-      → Said (starts d chip) y number done
-  unfolding firstBroken
-  start-goes z u f =
-      let w = may-send d chip s lent (tied .kept .shaped .terminal-length) (tied .kept .shaped .merchant-length) reference authorisation
-      (taken entries (s .next .0)) (unbroken d chip s original lent u) in
-      let b = handedOut (messageBytes (requestMessage (s .settings) (s .batch) sentChip request named)) (lent .message) in
-      let asks = request-asks (s .settings) (s .batch) (lent .message) (f .message-room) (f .order .state .batch-most) sentChip request named (w .card) (w .original)
-      (request-holds request (request-form l d chip s lent a tied authorisation reference u f)) in
-      let said = names-request u f asks (w .card) (w .original) in
-      let card = request-card (s .settings) (s .batch) (lent .message) sentChip request named (w .card) (w .original) (f .message-room) in
-      let p = none-after broken (not (s .«signed_on»)) (waits (s .phase)) (pends (s .phase)) (state.closes (s .phase)) (firstBroken own) z in
-      let stage = runs-on (s .settings) (s .batch) entries y (s .phase) (p .0) (p .1) (h .phase-is) in
-      goes (starts d chip) y number done (sym number-is ∙ p .2)
-      (record {
-        members = request-members s (messageIn b) y sentChip request (asks .typed .is-request) (said .trace-is) (sent-unapproved d chip) (h .members);
-        phase-is = (sent-at (messageIn b) y running (rw (asks .typed .is-settlement) stage), asks);
-        details =
-            record {
-              card = rw (asks .typed .is-request) card;
-              says = said;
-              carries = card .carries;
-              granted = λ q. absurd (true≢false (sym q ∙ sent-unapproved d chip));
-            };
-      })
-      (asks .typed .is-request, numbered s y (asks .said .batch-number) (h .members))
+  -- with the sign-on that may be awaited
+  module _ (w : SignOn) (g : Signs s w) where
+    abbrev pub number : ℕ
+    number = numberOf (starts d chip) w y (reversalPending (a .requests))
 
-  pub start-said : Said (starts d chip) y number (start d chip s lent)
-  unfolding start
-  start-said = judged-said (starts d chip) y number s lent h rest done start-refused start-goes
+    pub number-is : cond broken 23 (cond (not (s .«signed_on»)) 10 (cond (isWaiting s) 11 (cond (pends (s .phase)) 12 (cond (state.closes (s .phase)) 13 0))))
+        ≡ number
+    number-is =
+        let here = stands.awaits (s .settings) (s .batch) entries y (s .phase) (h .phase-is) in
+        rw (chip-is (d .kind))
+        (ap (λ (n : ℕ). cond (d .chip && among (d .kind) chipKinds && not (chipInForm chip)) 23 n)
+        (idle-number (s .«signed_on») (isWaiting s) w y _ (cond (reversalPending (a .requests)) 12 (cond (closes (y .stage)) 13 0)) (h .members .0) (awaits-both s w y here g)
+        (λ v.
+        rw (
+          pending-is l (s .settings) (s .batch) (s .chip) a (s .phase) (tied .shape),
+          closing (s .settings) (s .batch) entries y (s .phase) (idle s v .0) (h .phase-is),
+        ))))
+
+    start-refused : (firstBroken rest ≡ 0 → ⊥) → JudgedBy number (starts d chip) y (history.refused (firstBroken rest))
+    unfolding firstBroken
+    start-refused f =
+        rw (← number-is)
+        (by-rest d chip y broken (not (s .«signed_on»)) (isWaiting s) (pends (s .phase)) (state.closes (s .phase)) _ (firstBroken own) refl f
+        (first-within 15 21 own refl))
+
+    pub start-goes : firstBroken rest ≡ 0 → firstBroken (startRules d chip s entries original lent) ≡ 0 → Fit s lent
+        → Said (starts d chip) y number done
+    unfolding firstBroken
+    start-goes z u f =
+        let v = sendable u in
+        let b = handedOut (messageBytes (requestMessage (s .settings) (s .batch) sentChip request named)) (lent .message) in
+        let asks = asks-back u f in
+        let said = named-back u f in
+        let card = request-card (s .settings) (s .batch) (lent .message) sentChip request named (v .card) (v .original) (f .message-room) in
+        let p = none-after broken (not (s .«signed_on»)) (isWaiting s) (pends (s .phase)) (state.closes (s .phase)) (firstBroken own) z in
+        let stage = runs-on (s .settings) (s .batch) entries y (s .phase) (idle s (p .0) .0) (p .1) (h .phase-is) in
+        goes (starts d chip) y number done (sym number-is ∙ p .2)
+        (record {
+          members = request-members s (messageIn b) y sentChip request (asks .typed .is-request) (said .trace-is) (sent-unapproved d chip) (h .members);
+          phase-is = (sent-at (messageIn b) y running (rw (asks .typed .is-settlement) stage), asks);
+          details =
+              record {
+                card = rw (asks .typed .is-request) card;
+                says = said;
+                carries = card .carries;
+                granted = λ q. absurd (true≢false (sym q ∙ sent-unapproved d chip));
+              };
+        })
+        (asks .typed .is-request, numbered s y (asks .said .batch-number) (h .members))
+
+    pub start-said : Said (starts d chip) y number (start d chip s lent)
+    unfolding start
+    start-said = judged-said (starts d chip) y number s lent h rest done start-refused start-goes

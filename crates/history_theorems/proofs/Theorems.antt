@@ -17,7 +17,7 @@ use Rattle.call_theorems.specs.Facts.{Leaves}
 use Rattle.call_theorems.proofs.Facts.{sent-reads}
 use Rattle.call_theorems.proofs.Steady.{settings-stay}
 use Rattle.outgoing_theorems.specs.Theorems as outgoing
-use Rattle.call_definitions.specs.Events.{Event, signed-on, starts, answers, no-answer, power-returned, card-agrees, card-declines, send-reversal, settles, send-next-upload, call}
+use Rattle.call_definitions.specs.Events.{Event, sign-on, starts, answers, no-answer, power-returned, card-agrees, card-declines, send-reversal, settles, send-next-upload, call}
 use Rattle.desk.specs.declared.Desk.{Desk}
 use Rattle.call_definitions.specs.Shapes.{SettingsShaped, EventShaped}
 use Rattle.history.specs.Words.{messageIn, isRequest}
@@ -26,19 +26,20 @@ use Rattle.history.specs.History.{Call, Account, account, batchOf}
 use Rattle.history.specs.Demand.{Invocation, Run, givenBy, recorded, runs, begun, InvocationsShaped, Each}
 use Rattle.history.proofs.Books.{no-books}
 use Rattle.history.proofs.Tied.{Tied}
-use Rattle.history.proofs.Events.{call-after}
-use Rattle.history_theorems.specs.Standing.{Standing, traceIn, isNew, next, standing}
+use Rattle.history.proofs.Events.{Signing, call-after, signing-after}
+use Rattle.history_theorems.specs.Standing.{Standing, SignOn, traceIn, isNew, next, standing, signOn}
 use Rattle.history_theorems.specs.Judged.{reversalPending, numberOf, JudgedBy, CallsJudged, SentAlwaysReads}
 use Rattle.history_theorems.specs.Approvals.{approvals, JournalIsApprovals}
-use Rattle.history_theorems.specs.Fields.{settlementItems}
-use Rattle.history_theorems.specs.Settlements.{SettlementsRead}
+use Rattle.history_theorems.specs.Fields.{settlementItems, signOnItems}
+use Rattle.history_theorems.specs.Settlements.{SettlementsRead, SignOnsRead}
 use Rattle.history_theorems.specs.Requests.{StartJudged, StartsJudged}
 use Rattle.history_theorems.specs.Traces.{IsTaken, TracesTaken}
 use Rattle.history_theorems.specs.Uploads.{nextItem, upload, SendsNext, EachFew, UploadsInOrder, FewResends}
 use Rattle.history_theorems.proofs.Stands.{Stands}
+use Rattle.history_theorems.proofs.Signs.{Signs, call-signs}
 use Rattle.history_theorems.proofs.Said.{Said}
-use Rattle.history_theorems.proofs.Quiet.{signed-said, answer-said, silence-said, power-said, agrees-said, declines-said}
-use Rattle.history_theorems.proofs.Sends.{reversal-said, settle-said, upload-said}
+use Rattle.history_theorems.proofs.Quiet.{answer-said, silence-said, power-said, agrees-said, declines-said}
+use Rattle.history_theorems.proofs.Sends.{sign-on-said, reversal-said, settle-said, upload-said}
 use Rattle.history_theorems.proofs.Starts.{start-said}
 use Rattle.history_theorems.proofs.Booked.{Booked, call-booked}
 use Rattle.history_theorems.proofs.Copies.{Exactly, call-exactly}
@@ -46,25 +47,25 @@ use Rattle.history_theorems.proofs.Traced.{call-traced}
 use Rattle.history_theorems.proofs.Started.{call-started}
 use Rattle.history_theorems.proofs.Uploaded.{Uploads}
 use Rattle.history_theorems.proofs.Items.{call-uploaded, given-few}
-use Rattle.history_theorems.proofs.Settled.{call-settled}
+use Rattle.history_theorems.proofs.Settled.{call-settled, call-signed-on}
 
-call-said : (e : Event) (l : ℕ) (s : State) (lent : Lent) (a : Account) (y : Standing) → EventShaped e → Tied l s a → Stands s (lent .journal) y
-    → Said e y (numberOf e y (reversalPending (a .requests))) (call e s lent)
-call-said (signed-on batch) l s lent a y w t h = signed-said l s lent a y t h batch
-call-said (starts d b) l s lent a y w t h = start-said l s lent a y t h d b (w .0) (w .1)
-call-said (answers b good) l s lent a y w t h = answer-said b good s lent y (reversalPending (a .requests)) h
-call-said no-answer l s lent a y w t h = silence-said l s lent a y t h
-call-said power-returned l s lent a y w t h = power-said l s lent a y t h
-call-said card-agrees l s lent a y w t h = agrees-said l s lent a y t h
-call-said card-declines l s lent a y w t h = declines-said l s lent a y t h
-call-said send-reversal l s lent a y w t h = reversal-said l s lent a y t h
-call-said settles l s lent a y w t h = settle-said l s lent a y t h
-call-said send-next-upload l s lent a y w t h = upload-said l s lent a y t h
+module _ (l : ℕ) (s : State) (lent : Lent) (a : Account) (y : Standing) (w : SignOn) (t : Tied l s a) (h : Stands s (lent .journal) y) (g : Signs s w) where
+  call-said : (e : Event) → EventShaped e → Said e y (numberOf e w y (reversalPending (a .requests))) (call e s lent)
+  call-said sign-on k = sign-on-said l s lent a y w t h g
+  call-said (starts d b) k = start-said l s lent a y t h d b (k .0) (k .1) w g
+  call-said (answers b good) k = answer-said l s lent a y w t h g b good
+  call-said no-answer k = silence-said l s lent a y w t h g
+  call-said power-returned k = power-said l s lent a y w t h g
+  call-said card-agrees k = agrees-said l s lent a y w t h g
+  call-said card-declines k = declines-said l s lent a y w t h g
+  call-said send-reversal k = reversal-said l s lent a y w t h g
+  call-said settles k = settle-said l s lent a y w t h g
+  call-said send-next-upload k = upload-said l s lent a y w t h g
 
 -- what is said of a call, with the history up to then
 abbrev IsJudged : ℕ → Call → history.History → Type 0
 IsJudged l c h = (c .given ≡ history.refused 1 → ⊥) → (c .given ≡ history.refused 2 → ⊥)
-    → JudgedBy (numberOf (c .event) (standing h) (reversalPending (batchOf l h))) (c .event) (standing h) (c .given)
+    → JudgedBy (numberOf (c .event) (signOn h) (standing h) (reversalPending (batchOf l h))) (c .event) (standing h) (c .given)
 
 -- what leaves reads
 abbrev Reads : Call → Type 0
@@ -94,10 +95,15 @@ abbrev SettledCall : Settings → ℕ → Call → history.History → Type 0
 SettledCall x l c h = (b : List ℕ) → c .event ≡ settles → c .given ≡ history.sent b
     → outgoing.Reads 0x0500 (settlementItems x (standing h .batch) (traceIn (messageIn b)) (batchOf l h)) (readMessage b)
 
+-- what sign on sends
+abbrev SignOnCall : Settings → Call → history.History → Type 0
+SignOnCall x c h = (b : List ℕ) → c .event ≡ sign-on → c .given ≡ history.sent b
+    → outgoing.Reads 0x0800 (signOnItems x (standing h .batch) (traceIn (messageIn b))) (readMessage b)
+
 -- a start is refused by its number, or sends its message
 abbrev StartedCall : Settings → ℕ → Call → history.History → Type 0
 StartedCall x l c h = (d : Desk) (chip : List ℕ) → c .event ≡ starts d chip → (c .given ≡ history.refused 1 → ⊥) → (c .given ≡ history.refused 2 → ⊥)
-    → numberOf (c .event) (standing h) (reversalPending (batchOf l h)) ≡ 0 → StartJudged x (standing h) (approvals h) d chip (c .given)
+    → numberOf (c .event) (signOn h) (standing h) (reversalPending (batchOf l h)) ≡ 0 → StartJudged x (standing h) (approvals h) d chip (c .given)
 
 started-with : (l : ℕ) (c : Call) (h : history.History) {z x : Settings} → z ≡ x → StartedCall z l c h → StartedCall x l c h
 started-with l c h e s = rw e at s
@@ -106,6 +112,8 @@ record Holds (l : ℕ) (x : Settings) (r : Run) : Type 0 where
   settings-are : r .state .settings ≡ x
   tied : Tied l (r .state) (account l (r .history))
   stands : Stands (r .state) (r .journal) (standing (r .history))
+  signing : Signing (r .state) (account l (r .history))
+  signs : Signs (r .state) (signOn (r .history))
   each : Each (IsJudged l) (r .history)
   reads : Each (λ c h. Reads c) (r .history)
   booked : Booked (r .state) (r .journal) (approvals (r .history))
@@ -115,6 +123,7 @@ record Holds (l : ℕ) (x : Settings) (r : Run) : Type 0 where
   uploads : Uploads (r .state) (r .journal) (upload l (r .history))
   in-order : Each (SendsInOrder x l) (r .history)
   settled : Each (SettledCall x l) (r .history)
+  signed : Each (SignOnCall x) (r .history)
   few : EachFew l (upload l (r .history) .progress)
   each-few : Each (λ c h. EachFew l (upload l (c ∷ h) .progress)) (r .history)
 
@@ -129,6 +138,8 @@ begun-holds x j w =
       settings-are = refl;
       tied = record { kept = record { sendings-set = refl; shaped = w; books = no-books }; shape = tt };
       stands = record { members = (refl, refl, refl, fresh-next, refl); phase-is = record { awaits-is = refl; stage-is = refl }; details = tt };
+      signing = λ e. absurd (true≢false (sym e));
+      signs = record { awaited-is = refl; says = λ e. absurd (true≢false (sym e)) };
       each = tt;
       reads = tt;
       booked = tt;
@@ -138,6 +149,7 @@ begun-holds x j w =
       uploads = record { marks = tt; item-is = tt };
       in-order = tt;
       settled = tt;
+      signed = tt;
       few = tt;
       each-few = tt;
     }
@@ -146,8 +158,8 @@ all-hold : (ts : List Invocation) (l : ℕ) {x : Settings} (r : Run) → Invocat
 all-hold [] l r w h = h
 all-hold (t ∷ ts) l r w h =
     let a = account l (r .history) in
-    let k = call-after (t .event) l (r .state) (lend (r .journal) (t .message)) a (w .0) (h .tied) in
-    let d = call-said (t .event) l (r .state) (lend (r .journal) (t .message)) a (standing (r .history)) (w .0) (h .tied) (h .stands) in
+    let k = call-after (t .event) l (r .state) (lend (r .journal) (t .message)) a (w .0) (h .tied) (h .signing) in
+    let d = call-said l (r .state) (lend (r .journal) (t .message)) a (standing (r .history)) (signOn (r .history)) (h .tied) (h .stands) (h .signs) (t .event) (w .0) in
     let q = call (t .event) (r .state) (lend (r .journal) (t .message)) in
     let n = call-uploaded l (r .state) (lend (r .journal) (t .message)) a (standing (r .history)) (approvals (r .history)) (upload l (r .history)) (h .tied)
     (h .stands) (h .booked) (h .exactly .each) (h .uploads) (t .event) in
@@ -159,6 +171,8 @@ all-hold (t ∷ ts) l r w h =
       settings-are = same;
       tied = k .tied;
       stands = d .stands;
+      signing = signing-after (t .event) l (r .state) (lend (r .journal) (t .message)) a (h .tied) (h .signing);
+      signs = call-signs (r .state) (lend (r .journal) (t .message)) (signOn (r .history)) (h .signs) (t .event) l a (h .tied);
       each = (d .is-judged, h .each);
       reads = (
         sent-reads-as (q .outcome) (q .lent .message) (t .message)
@@ -168,16 +182,16 @@ all-hold (t ∷ ts) l r w h =
       booked =
           call-booked (t .event) (r .state) (lend (r .journal) (t .message)) (standing (r .history)) (approvals (r .history)) (h .stands) (h .booked);
       exactly =
-          call-exactly (t .event) (standing (r .history)) (approvals (r .history)) _ (givenBy (q .outcome) (q .lent .message)) (q .state) (q .lent .journal)
-          (d .stands) (d .is-judged) (h .exactly);
+          call-exactly (standing (r .history)) (signOn (r .history)) (approvals (r .history)) (reversalPending (a .requests)) (h .exactly) (t .event)
+          (givenBy (q .outcome) (q .lent .message)) (q .state) (q .lent .journal) (d .stands) (d .is-judged);
       traced = (
         call-traced (t .event) l (r .state) (lend (r .journal) (t .message)) a (standing (r .history)) (approvals (r .history)) (w .0) (h .tied)
-            (h .stands) (h .booked) d,
+            (h .stands) (h .booked) _ d,
         h .traced,
       );
       started = (
-        started-with l _ (r .history) (h .settings-are) (call-started l (r .state) (lend (r .journal) (t .message)) a (standing (r .history)) (approvals (r .history)) (h .tied)
-            (h .stands) (h .booked) (h .exactly .each) (t .event) (w .0)),
+        started-with l _ (r .history) (h .settings-are) (call-started l (r .state) (lend (r .journal) (t .message)) a (standing (r .history)) (approvals (r .history)) (signOn (r .history)) (h .tied)
+            (h .stands) (h .signs) (h .booked) (h .exactly .each) (t .event) (w .0)),
         h .started,
       );
       uploads = n .uploads;
@@ -185,6 +199,10 @@ all-hold (t ∷ ts) l r w h =
       settled = (
         call-settled l (r .state) (lend (r .journal) (t .message)) a (standing (r .history)) (h .tied) (h .stands) (t .event) _ (h .settings-are),
         h .settled,
+      );
+      signed = (
+        call-signed-on l (r .state) (lend (r .journal) (t .message)) a (standing (r .history)) (h .tied) (h .stands) (t .event) _ (h .settings-are),
+        h .signed,
       );
       few = few;
       each-few = (few, h .each-few);
@@ -210,6 +228,9 @@ uploads-in-order x j ts w v = all-hold ts (x .sendings) (begun x j) v (begun-hol
 
 pub settlements-read : SettlementsRead
 settlements-read x j ts w v = all-hold ts (x .sendings) (begun x j) v (begun-holds x j w) .settled
+
+pub sign-ons-read : SignOnsRead
+sign-ons-read x j ts w v = all-hold ts (x .sendings) (begun x j) v (begun-holds x j w) .signed
 
 pub few-resends : FewResends
 few-resends x j ts w v = all-hold ts (x .sendings) (begun x j) v (begun-holds x j w) .each-few

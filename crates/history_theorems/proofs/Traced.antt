@@ -9,13 +9,14 @@ use lib.ListN.{length, drop}
 use borrow.Author.Tests.{eqb-true, eqb-false}
 use Rattle.numbers.specs.Numbers.{following}
 use Rattle.entry.specs.declared.Entry.{Entry}
+use Rattle.numbers.specs.declared.Trace.{Trace}
 use Rattle.journal.specs.Journal.{entriesOf, nextDue, hasTrace, absent, taken, takenFrom}
 use Rattle.journal.specs.declared.Found.{Found}
 use Rattle.journal.specs.declared.Found.the-variants.{At as Place, Nowhere}
 use Rattle.journal.proofs.Entries.{length-entries-le}
 use Rattle.journal.proofs.Traces.{absent-more}
 use Rattle.traces.proofs.Absent.{absent-none}
-use Rattle.traces.proofs.Free.{taken-free}
+use Rattle.traces.proofs.Free.{taken-free, taken-range}
 use Rattle.state.specs.declared.Phase.{Phase}
 use Rattle.state.specs.declared.Phase.the-variants.{Resting, Waiting, Pending, Settling, Uploading}
 use Rattle.state.specs.declared.State.{State}
@@ -26,23 +27,25 @@ use Rattle.rules.specs.Rules.{rules12, due}
 use Rattle.rules.proofs.InOrder.{Fit}
 use Rattle.desk.specs.declared.Desk.{Desk}
 use Rattle.call_definitions.specs.Start.{start}
-use Rattle.call_definitions.specs.Settle.{settleRules, settle}
+use Rattle.call_definitions.specs.SignOn.{signOnRules, signOnNow, signOn}
+use Rattle.call_definitions.specs.Settle.{settleRules, settleNow, settle}
 use Rattle.call_definitions.specs.SendNextUpload.{sendNextUploadRules, sendsNext, uploadFrom, sendNextUpload}
-use Rattle.call_definitions.specs.Events.{Event, signed-on, starts, answers, no-answer, power-returned, card-agrees, card-declines, send-reversal, settles, send-next-upload, call}
+use Rattle.call_definitions.specs.Events.{Event, sign-on, starts, answers, no-answer, power-returned, card-agrees, card-declines, send-reversal, settles, send-next-upload, call}
 use Rattle.call_definitions.specs.Shapes.{EventShaped}
 use Rattle.history.specs.Words.{messageIn, isReversal}
 use Rattle.history.specs.History as history
 use Rattle.history.specs.History.{Account}
+use Rattle.history.proofs.Settles.{settings-held}
 use Rattle.history.proofs.Sent.{reversal-typed, item-typed}
 use Rattle.history.proofs.Tied.{Tied}
 use Rattle.history_theorems.specs.Standing.{Standing, traceIn, isNew, next}
 use Rattle.history_theorems.specs.Approvals.{Approval, AreEntries}
-use Rattle.history_theorems.specs.Judged.{reversalPending, numberOf, Gives, JudgedBy}
+use Rattle.history_theorems.specs.Judged.{Gives, JudgedBy}
 use Rattle.history_theorems.specs.Traces.{isUsed, after, IsTaken}
 use Rattle.history_theorems.proofs.Stands.{Stands}
 use Rattle.history_theorems.proofs.Said.{givenIn, Said, judged-as}
-use Rattle.history_theorems.proofs.Sends.{item-goes, end-goes, settled, settle-goes, settle-number}
-use Rattle.history_theorems.proofs.Starts.{rest, done, start-goes}
+use Rattle.history_theorems.proofs.Sends.{settlement-trace, sign-on-sent, management-trace, item-goes, end-goes}
+use Rattle.history_theorems.proofs.Starts.{rest, done, named-back}
 use Rattle.history_theorems.proofs.Booked.{Booked}
 
 -- the search for a free trace: what it passes over stands in the journal
@@ -162,11 +165,23 @@ reversal-old : (b : List ℕ) → isReversal (messageIn b) ≡ true → isNew (m
 unfolding isReversal isNew
 reversal-old b e =
     let k = reversal-typed (messageIn b) (eqb-true (messageIn b .indicator) 0x0400 e) in
-    rw (k .is-request, k .is-settlement, k .is-end)
+    rw (k .is-request, k .is-settlement, k .is-end, k .is-sign-on)
 
 -- the calls that send
 module _ (l : ℕ) (s : State) (lent : Lent) (a : Account) (y : Standing) (xs : List Approval) (tied : Tied l s a)
     (d : Stands s (lent .journal) y) (h : Booked s (lent .journal) xs) where
+  sign-on-traced : Traced y xs (signOn s lent)
+  unfolding signOn firstBroken
+  sign-on-traced =
+      let es = entriesOf (s .entries) (lent .journal) in
+      let trace : Trace = record { 0 = taken es (s .next .0) } in
+      judged-traced y xs s lent (drop 2 (signOnRules s lent)) (signOnNow s trace lent)
+      (λ z e f.
+      takes-trace y xs (signOnNow s trace lent) _ (trace .0) refl
+      (management-trace (s .settings) (s .batch) trace _ 0x0800 3
+      (sign-on-sent (s .settings) (s .batch) (lent .message) trace (settings-held l s lent a tied f) (f .message-room))
+      (taken-range es (s .next .0) (f .order .state .next-least) (f .order .state .next-most) .1)) (takes s lent y xs f d h))
+
   reversal-traced : (n : ℕ) (r : Result) → Said send-reversal y n r → Traced y xs r
   reversal-traced n r k b g q =
       let one : givenIn r ≡ history.refused 1 → ⊥ = λ u. let z : _≡_ {A = ℕ} 0 1 = cc in omega arith in
@@ -183,15 +198,18 @@ module _ (l : ℕ) (s : State) (lent : Lent) (a : Account) (y : Standing) (xs : 
       judged-traced y xs s lent (rest l s lent a y tied d k chip u v) (done l s lent a y tied d k chip u v)
       (λ z e f.
       takes-trace y xs (done l s lent a y tied d k chip u v) _ (taken (entriesOf (s .entries) (lent .journal)) (s .next .0)) refl
-      (start-goes l s lent a y tied d k chip u v z e f .stands .details .says .trace-is) (takes s lent y xs f d h))
+      (named-back l s lent a y tied d k chip u v e f .trace-is) (takes s lent y xs f d h))
 
   settle-traced : Traced y xs (settle s lent)
   unfolding settle firstBroken
   settle-traced =
-      judged-traced y xs s lent (drop 2 (settleRules s lent)) (settled l s lent a y tied d)
+      let es = entriesOf (s .entries) (lent .journal) in
+      let trace : Trace = record { 0 = taken es (s .next .0) } in
+      judged-traced y xs s lent (drop 2 (settleRules s lent)) (settleNow s trace lent)
       (λ z e f.
-      takes-trace y xs (settled l s lent a y tied d) _ (taken (entriesOf (s .entries) (lent .journal)) (s .next .0)) refl
-      (settle-goes l s lent a y tied d (sym (settle-number l s lent a y tied d) ∙ z) f .stands .details) (takes s lent y xs f d h))
+      takes-trace y xs (settleNow s trace lent) _ (trace .0) refl
+      (settlement-trace (s .settings) (s .batch) (lent .message) trace (s .totals) (settings-held l s lent a tied f) (f .message-room)
+      (taken-range es (s .next .0) (f .order .state .next-least) (f .order .state .next-most) .1)) (takes s lent y xs f d h))
 
 item-traced : (l : ℕ) (t : State) (lent : Lent) (a : Account) (y : Standing) (xs : List Approval) (i : ℕ) → Tied l (inPhase Uploading t) a
     → Stands (inPhase Uploading t) (lent .journal) y → Fit (inPhase Uploading t) lent
@@ -200,7 +218,7 @@ unfolding isNew
 item-traced l t lent a y xs i tied d f e =
     let said = item-goes l t lent a y 0 refl i tied d f e .stands .phase-is .1 in
     let k = item-typed _ (said .indicator) (said .code-number) in
-    reuses y xs (sendsNext (Place i) (inPhase Uploading t) lent) _ refl (rw (k .is-request, k .is-settlement, k .is-end))
+    reuses y xs (sendsNext (Place i) (inPhase Uploading t) lent) _ refl (rw (k .is-request, k .is-settlement, k .is-end, k .is-sign-on))
 
 next-traced : (x : Found) (l : ℕ) (t : State) (lent : Lent) (a : Account) (y : Standing) (xs : List Approval)
     → nextDue (due Uploading) (entriesOf (t .entries) (lent .journal)) ≡ x → Tied l (inPhase Uploading t) a
@@ -230,14 +248,14 @@ upload-traced l s lent a y xs tied d h =
 -- any call
 pub call-traced : (e : Event) (l : ℕ) (s : State) (lent : Lent) (a : Account) (y : Standing) (xs : List Approval) → EventShaped e
     → Tied l s a → Stands s (lent .journal) y → Booked s (lent .journal) xs
-    → Said e y (numberOf e y (reversalPending (a .requests))) (call e s lent) → Traced y xs (call e s lent)
-call-traced (signed-on batch) l s lent a y xs w t d h k = judged-quiet y xs (signed-on batch) _ _ k (λ g. g)
-call-traced (starts u b) l s lent a y xs w t d h k = start-traced l s lent a y xs t d h u b (w .0) (w .1)
-call-traced (answers b good) l s lent a y xs w t d h k = judged-quiet y xs (answers b good) _ _ k (λ g. g)
-call-traced no-answer l s lent a y xs w t d h k = judged-quiet y xs no-answer _ _ k (λ g. g)
-call-traced power-returned l s lent a y xs w t d h k = judged-quiet y xs power-returned _ _ k (λ g. g)
-call-traced card-agrees l s lent a y xs w t d h k = judged-quiet y xs card-agrees _ _ k (λ g. g)
-call-traced card-declines l s lent a y xs w t d h k = judged-quiet y xs card-declines _ _ k (λ g. g)
-call-traced send-reversal l s lent a y xs w t d h k = reversal-traced l s lent a y xs t d h _ _ k
-call-traced settles l s lent a y xs w t d h k = settle-traced l s lent a y xs t d h
-call-traced send-next-upload l s lent a y xs w t d h k = upload-traced l s lent a y xs t d h
+    → (n : ℕ) → Said e y n (call e s lent) → Traced y xs (call e s lent)
+call-traced sign-on l s lent a y xs w t d h n k = sign-on-traced l s lent a y xs t d h
+call-traced (starts u b) l s lent a y xs w t d h n k = start-traced l s lent a y xs t d h u b (w .0) (w .1)
+call-traced (answers b good) l s lent a y xs w t d h n k = judged-quiet y xs (answers b good) _ _ k (λ g. g)
+call-traced no-answer l s lent a y xs w t d h n k = judged-quiet y xs no-answer _ _ k (λ g. g)
+call-traced power-returned l s lent a y xs w t d h n k = judged-quiet y xs power-returned _ _ k (λ g. g)
+call-traced card-agrees l s lent a y xs w t d h n k = judged-quiet y xs card-agrees _ _ k (λ g. g)
+call-traced card-declines l s lent a y xs w t d h n k = judged-quiet y xs card-declines _ _ k (λ g. g)
+call-traced send-reversal l s lent a y xs w t d h n k = reversal-traced l s lent a y xs t d h _ _ k
+call-traced settles l s lent a y xs w t d h n k = settle-traced l s lent a y xs t d h
+call-traced send-next-upload l s lent a y xs w t d h n k = upload-traced l s lent a y xs t d h

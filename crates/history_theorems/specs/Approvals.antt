@@ -15,7 +15,7 @@ use Rattle.parts.specs.declared.Part.the-variants as part
 use Rattle.entry.specs.declared.Entry.{Entry}
 use Rattle.journal.specs.Journal.{entriesOf}
 use Rattle.state.specs.declared.Settings.{Settings}
-use Rattle.call_definitions.specs.Events.{Event, signed-on, starts, answers, no-answer, power-returned, card-agrees, card-declines, send-reversal, settles, send-next-upload}
+use Rattle.call_definitions.specs.Events.{Event, sign-on, starts, answers, no-answer, power-returned, card-agrees, card-declines, send-reversal, settles, send-next-upload}
 use Rattle.call_definitions.specs.Shapes.{SettingsShaped}
 use Rattle.history.specs.Words.{messageIn, kindIn, amountIn, carriesChip, isRequest, isApproval, macGood, closesBatch}
 use Rattle.history.specs.History.{Given, sent, quiet, refused, History}
@@ -35,9 +35,9 @@ whenHeard good a x xs =
 
 -- the card's consent approves the request that was sent last, by the answer before it
 abbrev pub whenQuiet : Event → Standing → List Approval → List Approval
-whenQuiet (signed-on batch) x xs = xs
+whenQuiet sign-on x xs = xs
 whenQuiet (starts d b) x xs = xs
-whenQuiet (answers b good) x xs = whenHeard good (messageIn b) x xs
+whenQuiet (answers b good) x xs = cond (x .awaited) (whenHeard good (messageIn b) x xs) xs
 whenQuiet no-answer x xs = xs
 whenQuiet power-returned x xs = xs
 whenQuiet card-agrees x xs = xs ++ (record { request = x .message; answer = x .answer } ∷ [])

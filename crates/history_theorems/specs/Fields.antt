@@ -103,7 +103,13 @@ uploadItems x batch v =
     ∷ digits 60 (field60 (kindIn (v .request)) batch 201)
     ∷ []
 
--- the upload's end holds 11, 41, 42, 60 = 00, batch, 202
+-- the upload's end holds 11, 41, 42, 60 = 00, batch, 202; a sign-on 11, 41, 42, 60 = 00, batch, 003 (document 02, request 3)
+abbrev pub managementItems : ℕ → Settings → ℕ → ℕ → List Item
+managementItems code x batch trace =
+    digits 11 (digitsOf 6 trace) ∷ bytes 41 (x .terminal) ∷ bytes 42 (x .merchant) ∷ digits 60 (field60 0 batch code) ∷ []
+
 abbrev pub endItems : Settings → ℕ → ℕ → List Item
-endItems x batch trace =
-    digits 11 (digitsOf 6 trace) ∷ bytes 41 (x .terminal) ∷ bytes 42 (x .merchant) ∷ digits 60 (field60 0 batch 202) ∷ []
+endItems = managementItems 202
+
+abbrev pub signOnItems : Settings → ℕ → ℕ → List Item
+signOnItems = managementItems 3

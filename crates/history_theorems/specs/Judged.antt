@@ -2,9 +2,9 @@
 -- terminal stands. Nothing here is the terminal's own but the reading of messages.
 use mathlib.Core.Path.{_≡_}
 use mathlib.Core.List.{List, [], _∷_, _++_}
-use mathlib.Core.Bool.{Bool, true, false, cond, not, _&&_}
+use mathlib.Core.Bool.{Bool, true, false, cond, not, _&&_, _||_}
 use Prim.Native.Nat.{ℕ, _≤_, _<_}
-use lib.Dec.{leb, ltb, eqb}
+use lib.Dec.{ltb, eqb}
 use Rattle.field.specs.Table.{among}
 use Rattle.field.specs.Bitmap.{names}
 use Rattle.message.specs.Message.{fieldOf}
@@ -15,15 +15,14 @@ use Rattle.reading.specs.declared.ReadOutcome.the-variants.{Read, Refused}
 use Rattle.digits.specs.declared.Number.the-variants.{Is}
 use Rattle.parts.specs.Parts.{partOf}
 use Rattle.parts.specs.declared.Part.the-variants as part
-use Rattle.numbers.specs.declared.Batch.{Batch}
 use Rattle.state.specs.declared.Settings.{Settings}
 use Rattle.elements.specs.Elements.{chipInForm}
-use Rattle.call_definitions.specs.Events.{Event, signed-on, starts, answers, no-answer, power-returned, card-agrees, card-declines, send-reversal, settles, send-next-upload}
+use Rattle.call_definitions.specs.Events.{Event, sign-on, starts, answers, no-answer, power-returned, card-agrees, card-declines, send-reversal, settles, send-next-upload}
 use Rattle.call_definitions.specs.Shapes.{SettingsShaped}
-use Rattle.history.specs.Words.{messageIn, carriesChip, isRequest, isReversal, isSettlement, isMatching, chipKinds}
+use Rattle.history.specs.Words.{messageIn, carriesChip, isRequest, isReversal, isSettlement, isSignOn, isMatching, chipKinds}
 use Rattle.history.specs.History.{Given, sent, quiet, refused, Fate, deciding, consenting, pending, out, ended, Request, batchOf, count}
 use Rattle.history.specs.Demand.{Invocation, runs, begun, InvocationsShaped, Each}
-use Rattle.history_theorems.specs.Standing.{Stage, running, settling, uploading, Standing, standing}
+use Rattle.history_theorems.specs.Standing.{Stage, running, settling, uploading, Standing, standing, SignOn, signOn}
 
 -- a reversal is to be sent
 abbrev pub isPending : Fate → Bool
@@ -51,24 +50,32 @@ abbrev pub unread : ReadOutcome → ℕ → ℕ
 unread Read n = n
 unread (Refused k) n = k
 
+-- an answer or the card's word is awaited
+abbrev pub awaits : SignOn → Standing → Bool
+awaits w x = x .awaited || w .awaited
+
+-- the message whose answer is awaited
+abbrev pub asked : SignOn → Standing → Message
+asked w x = cond (x .awaited) (x .message) (w .message)
+
 -- 10 and 11 of a call that sends, then its own
-unfoldable pub whenIdle : Standing → ℕ → ℕ
-whenIdle x n = cond (not (x .signed)) 10 (cond (x .awaited) 11 n)
+unfoldable pub whenIdle : SignOn → Standing → ℕ → ℕ
+whenIdle w x n = cond (not (x .signed)) 10 (cond (awaits w x) 11 n)
 
 -- the number by which a call is refused, 0 for none; at a start those up to 13
-abbrev pub numberOf : Event → Standing → Bool → ℕ
-numberOf (signed-on batch) x reverses = cond (x .awaited) 11 (cond (leb 1 (batch .0) && leb (batch .0) 999999) 0 16)
-numberOf (starts d b) x reverses =
-    cond (d .chip && among (d .kind) chipKinds && not (chipInForm b)) 23 (whenIdle x (cond reverses 12 (cond (closes (x .stage)) 13 0)))
-numberOf (answers b good) x reverses =
-    unread (readMessage b .outcome) (cond (x .awaited && not (x .card)) (cond (isMatching (x .message) b) 0 22) 14)
-numberOf no-answer x reverses = cond (x .awaited) 0 14
-numberOf power-returned x reverses = 0
-numberOf card-agrees x reverses = cond (x .card) 0 14
-numberOf card-declines x reverses = cond (x .card) 0 14
-numberOf send-reversal x reverses = whenIdle x (cond reverses 0 14)
-numberOf settles x reverses = whenIdle x (cond reverses 12 (cond (uploads (x .stage)) 13 0))
-numberOf send-next-upload x reverses = whenIdle x (cond (uploads (x .stage)) 0 14)
+abbrev pub numberOf : Event → SignOn → Standing → Bool → ℕ
+numberOf sign-on w x reverses = cond (awaits w x) 11 0
+numberOf (starts d b) w x reverses =
+    cond (d .chip && among (d .kind) chipKinds && not (chipInForm b)) 23 (whenIdle w x (cond reverses 12 (cond (closes (x .stage)) 13 0)))
+numberOf (answers b good) w x reverses =
+    unread (readMessage b .outcome) (cond (awaits w x && not (x .card)) (cond (isMatching (asked w x) b) 0 22) 14)
+numberOf no-answer w x reverses = cond (awaits w x) 0 14
+numberOf power-returned w x reverses = 0
+numberOf card-agrees w x reverses = cond (x .card) 0 14
+numberOf card-declines w x reverses = cond (x .card) 0 14
+numberOf send-reversal w x reverses = whenIdle w x (cond reverses 0 14)
+numberOf settles w x reverses = whenIdle w x (cond reverses 12 (cond (uploads (x .stage)) 13 0))
+numberOf send-next-upload w x reverses = whenIdle w x (cond (uploads (x .stage)) 0 14)
 
 -- upload items and the upload's end go as 0320
 unfoldable pub isUpload : Message → Bool
@@ -118,7 +125,7 @@ StartsOr batch (refused n) = (15 ≤ n) × (n ≤ 21)
 
 -- what a call gives that is not refused by its number
 abbrev pub Gives : Event → Standing → Given → Type 0
-Gives (signed-on batch) x g = g ≡ quiet
+Gives sign-on x g = Sends isSignOn (x .batch) g
 Gives (starts d b) x g = StartsOr (x .batch) g
 Gives (answers b good) x g = g ≡ quiet
 Gives no-answer x g = g ≡ quiet
@@ -139,7 +146,7 @@ abbrev pub CallsJudged : Type 0
 CallsJudged = (x : Settings) (j : List ℕ) (ts : List Invocation) → SettingsShaped x → InvocationsShaped ts
     → Each
     (λ c h. (c .given ≡ refused 1 → ⊥) → (c .given ≡ refused 2 → ⊥)
-    → JudgedBy (numberOf (c .event) (standing h) (reversalPending (batchOf (x .sendings) h))) (c .event) (standing h) (c .given))
+    → JudgedBy (numberOf (c .event) (signOn h) (standing h) (reversalPending (batchOf (x .sendings) h))) (c .event) (standing h) (c .given))
     (runs ts (begun x j) .history)
 
 -- what leaves is a message that reads

@@ -19,7 +19,7 @@ use Rattle.call_definitions.specs.Shapes.{SettingsShaped}
 use Rattle.history.specs.Words.{messageIn, kindIn, amountIn, listedKinds, debitKinds, creditKinds, voidKinds, voidedKind, datedKinds, authorisedKinds, typeFor}
 use Rattle.history.specs.History.{Given, sent, refused, batchOf}
 use Rattle.history.specs.Demand.{Invocation, runs, begun, InvocationsShaped, Each}
-use Rattle.history_theorems.specs.Standing.{Standing, traceIn, standing}
+use Rattle.history_theorems.specs.Standing.{Standing, traceIn, standing, signOn}
 use Rattle.history_theorems.specs.Approvals.{Approval, approvals, voidedBy, AtPlace}
 use Rattle.history_theorems.specs.Judged.{reversalPending, numberOf}
 use Rattle.history_theorems.specs.Fields.{copied, sendsChip, chipItems, requestItems, keyedItems, originalItems}
@@ -115,6 +115,6 @@ abbrev pub StartsJudged : Type 0
 StartsJudged = (x : Settings) (j : List ℕ) (ts : List Invocation) → SettingsShaped x → InvocationsShaped ts
     → Each
     (λ c h. (d : Desk) (chip : List ℕ) → c .event ≡ starts d chip → (c .given ≡ refused 1 → ⊥) → (c .given ≡ refused 2 → ⊥)
-    → numberOf (c .event) (standing h) (reversalPending (batchOf (x .sendings) h)) ≡ 0
+    → numberOf (c .event) (signOn h) (standing h) (reversalPending (batchOf (x .sendings) h)) ≡ 0
     → StartJudged x (standing h) (approvals h) d chip (c .given))
     (runs ts (begun x j) .history)

@@ -9,7 +9,7 @@ use Rattle.message.specs.declared.Message.{Message}
 use Rattle.reading.specs.Reading.{readMessage}
 use Rattle.outgoing_theorems.specs.Theorems.{Reads}
 use Rattle.state.specs.declared.Settings.{Settings}
-use Rattle.call_definitions.specs.Events.{Event, signed-on, starts, answers, no-answer, power-returned, card-agrees, card-declines, send-reversal, settles, send-next-upload}
+use Rattle.call_definitions.specs.Events.{Event, sign-on, starts, answers, no-answer, power-returned, card-agrees, card-declines, send-reversal, settles, send-next-upload}
 use Rattle.call_definitions.specs.Shapes.{SettingsShaped}
 use Rattle.history.specs.Words.{messageIn, carriesChip, isRequest, isApproval, macGood, isEnd, closesBatch, isDebit, isCredit}
 use Rattle.history.specs.History.{Given, sent, quiet, refused, History}
@@ -87,7 +87,7 @@ withItem none u = u
 withItem (at i) u = record { progress = changeAt i leaves (u .progress); item = i }
 
 abbrev pub whenSent : Event → List Approval → Upload → Upload
-whenSent (signed-on batch) xs u = u
+whenSent sign-on xs u = u
 whenSent (starts d b) xs u = u
 whenSent (answers b good) xs u = u
 whenSent no-answer xs u = u
@@ -116,9 +116,9 @@ whenHeard good a x u =
         (cond (isItem (x .message)) (changed isAnswered u) u))
 
 abbrev pub whenQuiet : ℕ → Event → Standing → Upload → Upload
-whenQuiet l (signed-on batch) x u = u
+whenQuiet l sign-on x u = u
 whenQuiet l (starts d b) x u = u
-whenQuiet l (answers b good) x u = whenHeard good (messageIn b) x u
+whenQuiet l (answers b good) x u = cond (x .awaited) (whenHeard good (messageIn b) x u) u
 whenQuiet l no-answer x u = whenSilent l x u
 whenQuiet l power-returned x u = whenSilent l x u
 whenQuiet l card-agrees x u = record { progress = u .progress ++ (unsent ∷ []); item = u .item }
