@@ -30,7 +30,7 @@ use Rattle.outgoing.specs.Outgoing.{field60}
 use Rattle.outgoing.proofs.Leaving.{written-is}
 use Rattle.outgoing_theorems.specs.Theorems.{Reads}
 use Rattle.outgoing_theorems.proofs.Theorems.{sent-reads-back}
-use Rattle.answer_match.specs.Match.{isValue, matchesSent, approves, approvalHolds, isAnswer, goodMac}
+use Rattle.answer_match.specs.Match.{isValue, repeats, matchesSent, approves, approvalHolds, isAnswer, goodMac}
 use Rattle.approval.specs.Approval.{approvalOf, approvedEntry}
 use Rattle.approval.proofs.Approval.{answer-holds, in-form}
 use Rattle.state_rules.proofs.Holds.{ApprovalHolds}
@@ -111,7 +111,7 @@ holding trace =
 
 pub is-answer : (trace : ℕ)
     → isAnswer (settings 300) (record { 0 = 1 }) (record { 0 = trace }) (awaited.Request (asked 9999999999 trace)) (answered trace) ≡ true
-unfolding isAnswer matchesSent indicatorOf
+unfolding isAnswer matchesSent repeats indicatorOf
 is-answer trace =
     rw (
       reads trace .indicator,

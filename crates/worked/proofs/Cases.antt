@@ -91,6 +91,6 @@ pub k-rest : afterK .state .phase ≡ Resting
 unfolding machine
 k-rest = refl
 
-pub k : run (approval 22 12000 1 ∷ []) afterK .outcome ≡ Refused 14
+pub k : run (approval 22 12000 2 ∷ []) afterK .outcome ≡ Refused 14
 unfolding machine
 k = refl

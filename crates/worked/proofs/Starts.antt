@@ -12,7 +12,7 @@ use Rattle.kinds.specs.Kinds.{isKind, takesOriginal}
 use Rattle.entry.specs.declared.Entry.{Entry}
 use Rattle.journal.specs.Journal.{entriesOf, absent, totalsOf, takenFrom, taken}
 use Rattle.state.specs.declared.State.{State}
-use Rattle.state.specs.State.{noChip}
+use Rattle.state.specs.State.{noChip, noSignOn}
 use Rattle.state.specs.declared.Phase.the-variants.{Resting}
 use Rattle.checks.specs.Checks.{firstBroken}
 use Rattle.state.specs.Calls.{Lent, judged, refused, sends}
@@ -28,14 +28,19 @@ use Rattle.worked.specs.Desk.{settings}
 use Rattle.worked.specs.Worked.{salesApproved}
 use Rattle.worked.proofs.Approvals.{asked}
 
+-- the trace of a sale after n approved ones: the sign-on took trace 1
+abbrev pub traceOf : ℕ → ℕ
+traceOf n = suc (suc n)
+
 -- the terminal after n approved sales
 abbrev pub at : ℕ → State
 at n =
     record {
       settings = settings 300;
       «signed_on» = true;
+      «sign_on» = noSignOn;
       batch = record { 0 = 1 };
-      next = record { 0 = suc n };
+      next = record { 0 = traceOf n };
       entries = n;
       counts = salesApproved n;
       totals = record { debit = n * 9999999999; debits = n; credit = 0; credits = 0 };
@@ -84,8 +89,8 @@ taken-free es x h = taken-from (length es) es x h
 
 -- a sale after n of them: judged by rule 21 alone
 module _ (amount n : ℕ) (lent : Lent) (fit : Fit (at n) lent) (few : n < 300) (form : within 1 amount 9999999999 ≡ true) where
-  pub goes : absent (suc n) (entriesOf n (lent .journal)) ≡ true → past 22 amount (totalsOf (entriesOf n (lent .journal))) ≡ false
-      → start (desk amount) [] (at n) lent ≡ sends (saleBytes amount (suc n)) (requested (at n) noChip (asked amount (suc n))) lent
+  pub goes : absent (traceOf n) (entriesOf n (lent .journal)) ≡ true → past 22 amount (totalsOf (entriesOf n (lent .journal))) ≡ false
+      → start (desk amount) [] (at n) lent ≡ sends (saleBytes amount (traceOf n)) (requested (at n) noChip (asked amount (traceOf n))) lent
   unfolding start judged firstBroken takesOriginal
   goes free p =
       let r = fit-ready (at n) lent fit in
@@ -97,7 +102,7 @@ module _ (amount n : ℕ) (lent : Lent) (fit : Fit (at n) lent) (few : n < 300) 
         lt-leb 300 n few,
         lt-leb 900000 n (omega arith),
         p,
-        taken-free (entriesOf n (lent .journal)) (suc n) free,
+        taken-free (entriesOf n (lent .journal)) (traceOf n) free,
       )
 
   pub goes-not : past 22 amount (totalsOf (entriesOf n (lent .journal))) ≡ true → start (desk amount) [] (at n) lent ≡ refused 21 (at n) lent

@@ -13,19 +13,16 @@ use Rattle.state.specs.State.{fresh}
 use Rattle.state.specs.Calls.{lend, Result, quiet}
 use Rattle.state.specs.declared.Settings.{Settings}
 use Rattle.outgoing.specs.Outgoing.{field60}
-use Rattle.call_definitions.specs.Events.{Event, signed-on, starts, answers, run}
+use Rattle.call_definitions.specs.Events.{Event, sign-on, starts, answers, run}
 
 -- three sendings, refunds up to 100,000 fen
 abbrev pub settings : ℕ → Settings
 settings limit =
     record { limit = limit; sendings = 3; refund = 100000; terminal = replicate 8 0x31; merchant = replicate 15 0x32 }
 
--- a fresh terminal with room for its journal, signed off; and once it has signed on to batch 1
+-- a fresh terminal with room for its journal, signed off
 abbrev pub signedOff : ℕ → Result
 signedOff limit = quiet (fresh (settings limit)) (lend (replicate (entrySize * limit) 0) (replicate largest 0))
-
-abbrev pub opened : ℕ → Result
-opened limit = run (signed-on (record { 0 = 1 }) ∷ []) (signedOff limit)
 
 -- what the desk keys, with a chip's field 55 or without
 abbrev keyedWith : Bool → List ℕ → ℕ → ℕ → ℕ → Event
@@ -48,11 +45,25 @@ abbrev pub chipSale : List ℕ → ℕ → Event
 chipSale b amount = keyedWith true b 22 amount 0
 
 -- the centre's answer of a type to a request of a kind and a trace, with a code and further fields
-abbrev pub reply : ℕ → ℕ → ℕ → ℕ → ℕ → List Item → Event
-reply indicator kind trace a b more =
-    answers (messageBytes (messageOf indicator
+abbrev replyBytes : ℕ → ℕ → ℕ → ℕ → ℕ → List Item → List ℕ
+replyBytes indicator kind trace a b more =
+    messageBytes (messageOf indicator
       (digits 11 (digitsOf 6 trace) ∷ bytes 39 (a ∷ b ∷ []) ∷ bytes 41 (replicate 8 0x31) ∷ bytes 42 (replicate 15 0x32)
-      ∷ digits 60 (field60 kind (record { 0 = 1 }) 0) ∷ more))) true
+      ∷ digits 60 (field60 kind (record { 0 = 1 }) 0) ∷ more))
+
+abbrev pub reply : ℕ → ℕ → ℕ → ℕ → ℕ → List Item → Event
+reply indicator kind trace a b more = answers (replyBytes indicator kind trace a b more) true
+
+-- document 02, request 3: 00 to the sign-on of a trace, in batch 1, with key material of 24 bytes
+abbrev pub signOnBytes : ℕ → List ℕ
+signOnBytes trace = replyBytes 0x0810 0 trace 0x30 0x30 (bytes 62 (replicate 24 0) ∷ [])
+
+abbrev pub toSignOn : ℕ → Event
+toSignOn trace = answers (signOnBytes trace) true
+
+-- a fresh terminal once it has signed on to batch 1: the sign-on took trace 1
+abbrev pub opened : ℕ → Result
+opened limit = run (sign-on ∷ toSignOn 1 ∷ []) (signedOff limit)
 
 -- 00 with field 4, 13, 37 and 64
 abbrev pub approval : ℕ → ℕ → ℕ → Event

@@ -12,7 +12,7 @@ use Rattle.worked.specs.Worked.{sent, afterF}
 
 -- a sale of 12,000 fen, approved
 abbrev pub sold : Result
-sold = run (sale 12000 ∷ approval 22 12000 1 ∷ []) (opened 1)
+sold = run (sale 12000 ∷ approval 22 12000 2 ∷ []) (opened 1)
 
 pub record ForC : Type 0 where
   -- what is keyed and what is set, in the order of C

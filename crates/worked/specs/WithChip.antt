@@ -30,7 +30,7 @@ chipOnWire =
 
 -- the centre approves: the card has the last word
 abbrev pub granted : Result
-granted = run (approval 22 12000 1 ∷ []) chipSent
+granted = run (approval 22 12000 2 ∷ []) chipSent
 
 abbrev pub after : Event → Result
 after e = run (e ∷ []) granted
@@ -52,7 +52,7 @@ pub record WithChip : Type 0 where
   pub counts-stay : granted .state .counts ≡ chipSent .state .counts
   pub phase-stays : granted .state .phase ≡ chipSent .state .phase
   -- meanwhile an answer is refused (14), and another sale (11)
-  pub answer-refused : after (approval 22 12000 1) .outcome ≡ Refused 14
+  pub answer-refused : after (approval 22 12000 2) .outcome ≡ Refused 14
   pub sale-refused : after (sale 100) .outcome ≡ Refused 11
   -- the card agrees: the entry is made, approved 1
   pub agreed : totals (after card-agrees) ≡ record { debit = 12000; debits = 1; credit = 0; credits = 0 }

@@ -52,8 +52,8 @@ saleOnWire =
     0x16 ∷ 0x62 ∷ 0x22 ∷ 0x02 ∷ 0x12 ∷ 0x34 ∷ 0x56 ∷ 0x78 ∷ 0x94 ∷
     0x00 ∷ 0x00 ∷ 0x00 ∷
     0x00 ∷ 0x00 ∷ 0x00 ∷ 0x01 ∷ 0x20 ∷ 0x00 ∷
-    -- fields 11, 22 and 25: trace 1, keyed, the condition of a sale
-    0x00 ∷ 0x00 ∷ 0x01 ∷
+    -- fields 11, 22 and 25: trace 2, keyed, the condition of a sale
+    0x00 ∷ 0x00 ∷ 0x02 ∷
     0x01 ∷ 0x20 ∷
     0x00 ∷
     -- fields 41, 42 and 49: terminal, merchant, yuan
@@ -81,23 +81,23 @@ fullest (f ∷ fs) = record { number = f .number; field = record { count = f .hi
 -- *f, *g, *h: what the desk does and hears, after signing on
 abbrev pub afterF : Result
 afterF =
-    run (sale 12000 ∷ approval 22 12000 1 ∷ sale 8000 ∷ no-answer ∷ send-reversal ∷ toReversal 2 0x32 0x35 ∷ keyed 23 0 1 ∷ approval 23 12000 3 ∷ [])
+    run (sale 12000 ∷ approval 22 12000 2 ∷ sale 8000 ∷ no-answer ∷ send-reversal ∷ toReversal 3 0x32 0x35 ∷ keyed 23 0 2 ∷ approval 23 12000 4 ∷ [])
       (opened 2)
 
 abbrev pub afterG : Result
 afterG = run (sale 8000 ∷ no-answer ∷ send-reversal ∷ no-answer ∷ send-reversal ∷ no-answer ∷ send-reversal ∷ no-answer ∷ []) (opened 1)
 
 abbrev pub afterH : Result
-afterH = run (sale 8000 ∷ no-answer ∷ send-reversal ∷ toReversal 1 0x39 0x36 ∷ []) (opened 1)
+afterH = run (sale 8000 ∷ no-answer ∷ send-reversal ∷ toReversal 2 0x39 0x36 ∷ []) (opened 1)
 
 -- *k: a silent sale is reversed before its approval comes
 abbrev pub afterK : Result
-afterK = run (sale 12000 ∷ no-answer ∷ send-reversal ∷ toReversal 1 0x32 0x35 ∷ []) (opened 1)
+afterK = run (sale 12000 ∷ no-answer ∷ send-reversal ∷ toReversal 2 0x32 0x35 ∷ []) (opened 1)
 
 abbrev pub firstSale : ℕ → Request
 firstSale amount =
     record {
-      kind = 22; amount = amount; card = record { number = 6222021234567894; length = 16 }; trace = record { 0 = 1 };
+      kind = 22; amount = amount; card = record { number = 6222021234567894; length = 16 }; trace = record { 0 = 2 };
       original = record { 0 = 0 } }
 
 -- the settlement request that would leave now, 80 bytes, as it is read
@@ -107,7 +107,7 @@ settlementOf r = readMessage (take 80 (run (settles ∷ []) r .lent .message)) .
 -- *i: n sales of the largest amount, each approved
 abbrev pub sales : ℕ → Result → Result
 sales zero r = r
-sales (suc n) r = run (sale 9999999999 ∷ approval 22 9999999999 (suc n) ∷ []) (sales n r)
+sales (suc n) r = run (sale 9999999999 ∷ approval 22 9999999999 (suc (suc n)) ∷ []) (sales n r)
 
 abbrev pub hundred : Result
 hundred = sales 100 (opened 300)
@@ -136,7 +136,7 @@ pub record Worked : Type 0 where
   pub d-fields : fieldsNamed (take 8 (drop 2 sent)) 1 64 ≡ 2 ∷ 3 ∷ 4 ∷ 11 ∷ 22 ∷ 25 ∷ 41 ∷ 42 ∷ 49 ∷ 60 ∷ 64 ∷ []
   -- *e a sale with a 16-digit card is 76 bytes
   pub e : firstSent .outcome ≡ Send 76
-  -- all fields together make 505 bytes
+  -- all fields together make 591 bytes
   pub longest : (writeMessage (messageOf 0x0510 (fullest formats)) (replicate largest 0)) .outcome ≡ Written largest
   -- *f sale 12,000 approved, sale 8,000 silent, reversal answered 25, first sale voided:
   -- debit 12,000/1, credit 12,000/1; sent 3, approved 2, reversed 1
@@ -161,4 +161,4 @@ pub record Worked : Type 0 where
   pub j-refused : run (keyed 25 100001 0 ∷ []) (opened 1) .outcome ≡ Refused 17
   -- *k late answer at rest: 14
   pub k-rest : afterK .state .phase ≡ Resting
-  pub k : run (approval 22 12000 1 ∷ []) afterK .outcome ≡ Refused 14
+  pub k : run (approval 22 12000 2 ∷ []) afterK .outcome ≡ Refused 14
