@@ -29,8 +29,8 @@ extern "C" {
 #endif
 
 /* Bytes of an image, of a message buffer and of a journal entry. */
-#define WHISTLAUREL_IMAGE_SIZE 403
-#define WHISTLAUREL_MESSAGE_SIZE 505
+#define WHISTLAUREL_IMAGE_SIZE 407
+#define WHISTLAUREL_MESSAGE_SIZE 591
 #define WHISTLAUREL_ENTRY_SIZE 48
 
 /* The largest settings: entry limit, sendings of a reversal, largest refund in fen. The smallest of each is 1. */
@@ -38,8 +38,9 @@ extern "C" {
 #define WHISTLAUREL_MOST_SENDINGS 9
 #define WHISTLAUREL_LARGEST_REFUND 9999999999
 
-/* The most bytes of field 55. */
+/* The most bytes of field 55, and of field 62, the key material of a sign-on. */
 #define WHISTLAUREL_MOST_CHIP_BYTES 255
+#define WHISTLAUREL_MOST_KEY_BYTES 84
 
 /*
  * What a function returns. WHISTLAUREL_QUIET: done, and nothing is to be sent. WHISTLAUREL_SENDS: the first *length bytes of message are
@@ -63,7 +64,7 @@ enum whistlaurel_result {
     WHISTLAUREL_BATCH_CLOSING = 13,        /* the batch is settling or uploading */
     WHISTLAUREL_NOTHING_TO_DO = 14,        /* nothing of the call's kind is awaited, pending or to be uploaded */
     WHISTLAUREL_AMOUNT = 15,
-    WHISTLAUREL_DESK_OUT_OF_FORM = 16,     /* kind, card, month, day, desk text or batch number */
+    WHISTLAUREL_DESK_OUT_OF_FORM = 16,     /* kind, card, month, day or desk text */
     WHISTLAUREL_REFUND_TOO_LARGE = 17,
     WHISTLAUREL_JOURNAL_FULL = 18,
     WHISTLAUREL_NO_ORIGINAL = 19,
@@ -71,6 +72,7 @@ enum whistlaurel_result {
     WHISTLAUREL_TOTAL_TOO_LARGE = 21,
     WHISTLAUREL_ANSWER_NOT_MATCHING = 22,
     WHISTLAUREL_CHIP_OUT_OF_FORM = 23,     /* field 55: an element that is cut off, a length that is not allowed, a tag twice */
+    WHISTLAUREL_KEYS_OUT_OF_FORM = 24,     /* field 62 has not 24, 40, 56, 60 or 84 bytes */
     WHISTLAUREL_ABSENT = 254,              /* whistlaurel_field: the message does not hold the field */
     WHISTLAUREL_SENDS = 255
 };
@@ -86,7 +88,10 @@ enum whistlaurel_kind {
     WHISTLAUREL_REFUND = 25
 };
 
-/* The numbers that whistlaurel_number gives. Those after WHISTLAUREL_PHASE belong to the phase, and are 0 where it has none of them. */
+/*
+ * The numbers that whistlaurel_number gives. Those after WHISTLAUREL_PHASE belong to the phase, and are 0 where it has none of them; the last
+ * belongs to a sign-on, which changes neither the phase nor the numbers of it.
+ */
 enum whistlaurel_row {
     WHISTLAUREL_VERSION,                   /* of the image's format */
     WHISTLAUREL_ENTRY_LIMIT,
@@ -121,9 +126,11 @@ enum whistlaurel_row {
     WHISTLAUREL_OTHER,                     /* trace of a settlement or of an upload's end; place of an upload item */
     WHISTLAUREL_CHIP_LENGTH,               /* bytes of field 55 of the request that is awaited or reversed, 0 without a chip */
     WHISTLAUREL_CARD_AWAITED,              /* 1 where the centre has approved and the card's word is awaited, else 0 */
+    WHISTLAUREL_SIGN_ON_AWAITED,           /* trace of the sign-on whose answer is awaited, 0 where none is */
     WHISTLAUREL_ROWS
 };
 
+/* What is awaited or to be done; while a sign-on's answer is awaited, what was so before it. */
 enum whistlaurel_phase {
     WHISTLAUREL_RESTING = 0,
     WHISTLAUREL_REQUEST_AWAITED = 1,       /* the centre's answer or, where WHISTLAUREL_CARD_AWAITED is 1, the card's word */
@@ -168,9 +175,15 @@ uint8_t whistlaurel_fresh(uint8_t *image, size_t image_size, uint32_t entry_limi
  * no image are refused by 2.
  */
 
-/* The outer program has signed on, and the centre has told the batch number. */
-uint8_t whistlaurel_signed_on(uint8_t *image, size_t image_size, uint8_t *journal, size_t journal_size, uint8_t *message, size_t message_size,
-                              size_t *length, uint32_t batch);
+/*
+ * A sign-on leaves. It may go signed on or off, at rest, over a pending reversal, while settling and while uploading; however it ends, the
+ * phase is what it was. Its answer goes to whistlaurel_answer. Only code 00 signs on; no other code and no silence of the line signs off. A
+ * 00 must bring the centre's batch number, other than 000000, and key material, field 62, else it is refused by 22. The number is adopted at
+ * rest where no card request has left in the batch. The keys are not kept: once the answer is taken, whistlaurel_field gives them from its
+ * bytes.
+ */
+uint8_t whistlaurel_sign_on(uint8_t *image, size_t image_size, uint8_t *journal, size_t journal_size, uint8_t *message, size_t message_size,
+                            size_t *length);
 
 /*
  * A card request leaves. card_number is the card's digits as a number and card_length how many they are; original is the trace of the
@@ -183,7 +196,7 @@ uint8_t whistlaurel_start(uint8_t *image, size_t image_size, uint8_t *journal, s
                           uint8_t month, uint8_t day, const uint8_t authorisation[6], const uint8_t reference[12], bool has_chip,
                           const uint8_t *chip, size_t chip_size);
 
-/* The centre's bytes, and the key pad's word on their MAC. */
+/* The centre's bytes, and the key pad's word on their MAC, which counts in an answer to a card request or a reversal alone. */
 uint8_t whistlaurel_answer(uint8_t *image, size_t image_size, uint8_t *journal, size_t journal_size, uint8_t *message, size_t message_size,
                            size_t *length, const uint8_t *bytes, size_t bytes_size, bool mac_is_good);
 
@@ -224,13 +237,13 @@ uint8_t whistlaurel_number(const uint8_t *image, size_t image_size, size_t row, 
  */
 uint8_t whistlaurel_totals(const uint8_t *image, size_t image_size, uint64_t totals[4]);
 
-/* Whether bytes are a well-formed message: 0, or the number 3 to 9 or 23 by which they are refused. */
+/* Whether bytes are a well-formed message: 0, or the number 3 to 9, 23 or 24 by which they are refused. */
 uint8_t whistlaurel_read(const uint8_t *bytes, size_t bytes_size);
 
 /*
  * Puts field n of a message to the front of out, as it stands on the wire without its length (digits packed two a byte), and sets *count to
- * its digits or bytes. Returns 0; 3 to 9 or 23 where the bytes are no message; WHISTLAUREL_ABSENT where it does not hold the field; 1 where
- * out is too short. Field 64 is the last eight bytes of a message that holds it.
+ * its digits or bytes. Returns 0; 3 to 9, 23 or 24 where the bytes are no message; WHISTLAUREL_ABSENT where it does not hold the field; 1
+ * where out is too short. Field 64 is the last eight bytes of a message that holds it.
  */
 uint8_t whistlaurel_field(const uint8_t *bytes, size_t bytes_size, uint8_t n, uint8_t *out, size_t out_size, size_t *count);
 

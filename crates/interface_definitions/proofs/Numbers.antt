@@ -25,14 +25,14 @@ use Rattle.state.specs.declared.Outcome.{Outcome}
 use Rattle.state.specs.declared.Outcome.the-variants.{Send, Quiet, Refused}
 use Rattle.state.specs.Calls.{Lent, Result, judged, refused}
 use Rattle.rules.specs.Rules.{rules12, due}
-use Rattle.call_definitions.specs.SignOn.{signedOnRules, signedOn}
+use Rattle.call_definitions.specs.SignOn.{signOnRules, signOn}
 use Rattle.call_definitions.specs.Start.{originalOf, entryOf, startRules, start}
 use Rattle.desk.specs.declared.Desk.{Desk}
 use Rattle.call_definitions.specs.Answer.{noAnswerRules, noAnswer, powerReturned, cardRules, cardAgrees, cardDeclines, answerRules, readIn, answer}
 use Rattle.call_definitions.specs.SendReversal.{sendReversalRules, sendFrom, sendReversal}
 use Rattle.call_definitions.specs.Settle.{settleRules, settle}
 use Rattle.call_definitions.specs.SendNextUpload.{sendNextUploadRules, sendsNext, uploadFrom, sendNextUpload}
-use Rattle.call_definitions.specs.Events.{Event, call, signed-on, starts, answers, no-answer, power-returned, card-agrees, card-declines, send-reversal, settles, send-next-upload}
+use Rattle.call_definitions.specs.Events.{Event, call, sign-on, starts, answers, no-answer, power-returned, card-agrees, card-declines, send-reversal, settles, send-next-upload}
 use Rattle.interface_definitions.specs.Theorems.{last, Numbered, NumbersApart}
 
 -- an outcome that is no refusal, or is one by such a number
@@ -71,7 +71,7 @@ module _ (s : State) (lent : Lent) where
   -- bytes that do not read are refused by a number of the reading
   reading-numbered : (n : ℕ) → among n readingRules ≡ true → Numbered n
   reading-numbered zero h = absurd (true≢false (sym h))
-  reading-numbered (suc n) h = (omega arith, omega (arith, among-below (suc n) 24 readingRules h refl))
+  reading-numbered (suc n) h = (omega arith, omega (arith, among-below (suc n) 25 readingRules h refl))
 
   read-apart : (o : Judgement) (good : Bool) (a : Message) → ((n : ℕ) → o ≡ Unread n → among n readingRules ≡ true)
       → Apart (readIn o good a s lent .outcome)
@@ -103,8 +103,8 @@ module _ (s : State) (lent : Lent) where
       judged-apart (startRules d b s es (entryOf (originalOf d es) es) lent) _ refl tt
 
   call-apart : (e : Event) → Apart (call e s lent .outcome)
-  unfolding signedOn answer noAnswer powerReturned cardAgrees cardDeclines sendReversal settle sendNextUpload
-  call-apart (signed-on batch) = judged-apart (signedOnRules batch s lent) _ refl tt
+  unfolding signOn answer noAnswer powerReturned cardAgrees cardDeclines sendReversal settle sendNextUpload
+  call-apart sign-on = judged-apart (signOnRules s lent) _ refl tt
   call-apart (starts d b) = start-apart d b
   call-apart (answers b good) =
       judged-apart (rules12 s lent) _ refl (read-apart (readMessage b .outcome) good (readMessage b .message) (read-judged-by b))

@@ -1,7 +1,6 @@
 // The terminal for C: the functions of the static library, over the bytes of an image. include/whistlaurel.h says how they are used.
 use calls::Call;
 use desk::Desk;
-use numbers::Batch;
 use numbers::Trace;
 use parts::Taken;
 use reading::ReadOutcome;
@@ -19,7 +18,7 @@ ghost use Rattle.entry.specs.Entry.{entrySize};
 ghost use Rattle.state.specs.Calls.{lend};
 ghost use Rattle.image_definitions.specs.Layout.{size};
 ghost use Rattle.image_definitions.specs.Image.{image as imageOf};
-ghost use Rattle.call_definitions.specs.Events.{eventOf, signed-on, starts, answers, no-answer, power-returned, card-agrees, card-declines, send-reversal, settles, send-next-upload};
+ghost use Rattle.call_definitions.specs.Events.{eventOf, sign-on, starts, answers, no-answer, power-returned, card-agrees, card-declines, send-reversal, settles, send-next-upload};
 ghost use Rattle.interface_definitions.specs.Interface.{gives, numberOf, lengthOf, onImage, settingsOf, deskOf, nothingKeyed, returned, freshImage, numberAt, totalsOn, readNumber, held, fieldAt};
 
 // What a function returns beside the numbers of documents 01 and 02: a message leaves; a message does not hold the field.
@@ -77,19 +76,17 @@ pub extern "C" fn whistlaurel_fresh(
     0
 }
 
-// The outer program has signed on, and the centre has told the batch number.
+// Asks the centre for a sign-on.
 #[no_mangle]
-pub extern "C" fn whistlaurel_signed_on(
+pub extern "C" fn whistlaurel_sign_on(
     image: &mut [u8],
     journal: &mut [u8],
     message: &mut [u8],
     length: &mut usize,
-    batch: u32,
 ) -> u8
-    ensures { λ r. ⌜ gives r (now (length .exit)) (now (image .exit)) (now (journal .exit)) (now (message .exit)) ≡ onImage (signed-on (record { 0 = batch })) (now (image .entry)) (lend (now (journal .entry)) (now (message .entry))) ⌝ }
+    ensures { λ r. ⌜ gives r (now (length .exit)) (now (image .exit)) (now (journal .exit)) (now (message .exit)) ≡ onImage sign-on (now (image .entry)) (lend (now (journal .entry)) (now (message .entry))) ⌝ }
 {
-    let call = Call::SignedOn(Batch(batch));
-    plain(image, journal, message, length, call)
+    plain(image, journal, message, length, Call::SignOn)
 }
 
 // A card request leaves.
