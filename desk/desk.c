@@ -10,10 +10,11 @@
 #include "key_pad.h"
 #include "trial.h"
 #include "trouble.h"
+#include "wipe.h"
 #include "wording.h"
 
-/* Sendings of an upload's end in a row, words of a command, and a second in milliseconds. */
-enum { ENDS_MOST = 5, WORDS_MOST = 8, SECOND = 1000 };
+/* Sendings of an upload's end in a row, words of a command, a second in milliseconds, and fields of an answer. */
+enum { ENDS_MOST = 5, WORDS_MOST = 8, SECOND = 1000, CODE_FIELD = 39, KEY_FIELD = 62 };
 
 /* A card request: its kind, and a letter for each datum that is keyed after its word. */
 struct card_command {
@@ -40,6 +41,7 @@ struct plain_command {
 
 static void card_agrees(struct desk *desk);
 static void card_declines(struct desk *desk);
+static void sign_on_by_hand(struct desk *desk);
 static void settle(struct desk *desk);
 static void tell_counts(struct desk *desk);
 static void tell_totals(struct desk *desk);
@@ -49,25 +51,34 @@ static void tell_doubtful(struct desk *desk);
 static void tell_help(struct desk *desk);
 
 static const struct plain_command plain_commands[] = {
-    {"card-agrees", card_agrees}, {"card-declines", card_declines}, {"settle", settle},
-    {"counts", tell_counts},      {"totals", tell_totals},          {"state", tell_state},
-    {"journal", tell_journal},    {"doubtful", tell_doubtful},      {"help", tell_help},
+    {"card-agrees", card_agrees}, {"card-declines", card_declines}, {"sign-on", sign_on_by_hand}, {"settle", settle},
+    {"counts", tell_counts},      {"totals", tell_totals},          {"state", tell_state},        {"journal", tell_journal},
+    {"doubtful", tell_doubtful},  {"help", tell_help},
 };
 
 enum { CARD_COMMANDS = sizeof card_commands / sizeof card_commands[0], PLAIN_COMMANDS = sizeof plain_commands / sizeof plain_commands[0] };
 
 static uint64_t number(const struct desk *desk, enum whistlaurel_row row);
 static uint8_t exchange(struct desk *desk, const struct call *call);
+static uint8_t exchange_signed_on(struct desk *desk, const struct call *call);
+static void await_answer(struct desk *desk, int64_t deadline);
+static void note_answer(struct desk *desk, const uint8_t *bytes, size_t size);
+static void hand_over_keys(const uint8_t *bytes, size_t size);
 static bool receive(struct desk *desk, uint8_t *bytes, size_t *size, int64_t deadline);
 static bool card_is_awaited(const struct desk *desk);
+static bool is_signed_on(const struct desk *desk);
+static bool is_approval(const struct desk *desk);
 static void end_by_card(struct desk *desk, enum call_name name);
 static void tell_end(struct desk *desk);
 static bool next_line(struct desk *desk, struct input *input, char **line, size_t *length);
 static int64_t next_second(int64_t now, int64_t deadline);
 static void tell_waiting(const char *whom, int64_t deadline);
-static void sign_on(struct desk *desk, uint32_t batch);
+static bool sign_on(struct desk *desk);
+static bool sign_on_and_go_on(struct desk *desk);
+static void tell_sign_on(const struct desk *desk);
 static void send_reversals(struct desk *desk);
-static void upload(struct desk *desk);
+static bool upload(struct desk *desk);
+static void tell_open_batch(const struct desk *desk);
 static size_t split(char *line, char *words[WORDS_MOST]);
 static void carry_out(struct desk *desk, char *words[WORDS_MOST], size_t count);
 static void request(struct desk *desk, const struct card_command *command, char *words[WORDS_MOST], size_t count);
@@ -79,7 +90,7 @@ static const char *read_text(const char *word, uint8_t *text, size_t size);
 static const char *datum_word(char letter);
 static void tell_refusal(uint8_t result);
 
-void desk_begin(struct desk *desk, uint32_t batch)
+void desk_begin(struct desk *desk)
 {
     const struct call power_returned = {.name = POWER_RETURNED};
 
@@ -87,10 +98,13 @@ void desk_begin(struct desk *desk, uint32_t batch)
         store_is_damaged(desk->terminal.store, "image and journal do not fit together");
     }
     trial_point("after-power");
-    sign_on(desk, batch == 0 ? (uint32_t)number(desk, WHISTLAUREL_BATCH) : batch);
-    send_reversals(desk);
-    if (number(desk, WHISTLAUREL_PHASE) != WHISTLAUREL_RESTING) {
-        settle(desk);
+    if (!sign_on(desk)) {
+        tell_open_batch(desk);
+    } else {
+        send_reversals(desk);
+        if (number(desk, WHISTLAUREL_PHASE) != WHISTLAUREL_RESTING) {
+            settle(desk);
+        }
     }
     printf("last request: ");
     if (desk->terminal.last.kind == 0) {
@@ -140,13 +154,15 @@ static uint64_t number(const struct desk *desk, enum whistlaurel_row row)
     return terminal_number(&desk->terminal, row);
 }
 
-/* Makes a call, sends its message and waits until that is decided by an answer or by silence. Gives the call's result back. */
+/*
+ * Makes a call, sends its message and waits until that is decided by an answer or by silence. Gives the call's result back. The answer to a
+ * sign-on that could not leave is not waited for; every other message has its time-out, so that a reversal's sendings do not go at once.
+ */
 static uint8_t exchange(struct desk *desk, const struct call *call)
 {
-    struct terminal *terminal = &desk->terminal;
-    uint8_t bytes[LINE_MESSAGE_MOST];
-    struct call answer = {.name = ANSWER, .bytes = bytes};
     const struct call no_answer = {.name = NO_ANSWER};
+    struct terminal *terminal = &desk->terminal;
+    struct sending *sending = &desk->sending;
     int64_t deadline;
     uint8_t result;
 
@@ -155,21 +171,75 @@ static uint8_t exchange(struct desk *desk, const struct call *call)
     if (result != WHISTLAUREL_SENDS) {
         return result;
     }
-    desk->awaited = number(desk, WHISTLAUREL_PHASE);
+    *sending = (struct sending){.phase = number(desk, WHISTLAUREL_PHASE), .batch = number(desk, WHISTLAUREL_BATCH)};
+    whistlaurel_totals(terminal->image, sizeof terminal->image, sending->totals);
     key_pad_write(terminal->message, terminal->length);
     deadline = line_clock() + desk->time_out;
-    line_send(&desk->line, terminal->message, terminal->length, deadline);
+    sending->has_left = line_send(&desk->line, terminal->message, terminal->length, deadline);
     trial_point("after-send");
-    while (receive(desk, bytes, &answer.size, deadline)) {
+    if (sending->has_left || call->name != SIGN_ON) {
+        await_answer(desk, deadline);
+    }
+    if (!sending->is_answered) {
+        line_break(&desk->line);
+        terminal_make(terminal, &no_answer);
+    }
+    return result;
+}
+
+/* An exchange; where the terminal is signed off, it signs on and tries the call once more. */
+static uint8_t exchange_signed_on(struct desk *desk, const struct call *call)
+{
+    uint8_t result = exchange(desk, call);
+
+    if (result == WHISTLAUREL_SIGNED_OFF && sign_on_and_go_on(desk)) {
+        result = exchange(desk, call);
+    }
+    return result;
+}
+
+/* Hands answers to the terminal until it takes one or the deadline has passed. An answer may hold keys: its bytes do not stay. */
+static void await_answer(struct desk *desk, int64_t deadline)
+{
+    uint8_t bytes[LINE_MESSAGE_MOST];
+    struct call answer = {.name = ANSWER, .bytes = bytes};
+    bool signs_on = number(desk, WHISTLAUREL_SIGN_ON_AWAITED) != 0;
+
+    while (!desk->sending.is_answered && receive(desk, bytes, &answer.size, deadline)) {
         trial_point("after-answer");
         answer.mac_is_good = key_pad_judges(bytes, answer.size);
-        if (terminal_make(terminal, &answer) == WHISTLAUREL_QUIET) {
-            return result;
+        desk->sending.refusal = terminal_make(&desk->terminal, &answer);
+        if (desk->sending.refusal == WHISTLAUREL_QUIET) {
+            note_answer(desk, bytes, answer.size);
+            if (signs_on && is_approval(desk)) {
+                hand_over_keys(bytes, answer.size);
+            }
         }
+        wipe(bytes, answer.size);
     }
-    line_break(&desk->line);
-    terminal_make(terminal, &no_answer);
-    return result;
+}
+
+static void note_answer(struct desk *desk, const uint8_t *bytes, size_t size)
+{
+    uint8_t code[2];
+    size_t count;
+
+    desk->sending.is_answered = true;
+    if (whistlaurel_field(bytes, size, CODE_FIELD, code, sizeof code, &count) == WHISTLAUREL_QUIET) {
+        copy_centre_text(desk->sending.code, code, sizeof code);
+    }
+}
+
+/* Hands the key material of a sign-on's answer to the key pad. No copy of it stays. */
+static void hand_over_keys(const uint8_t *bytes, size_t size)
+{
+    uint8_t keys[WHISTLAUREL_MOST_KEY_BYTES];
+    size_t count;
+
+    if (whistlaurel_field(bytes, size, KEY_FIELD, keys, sizeof keys, &count) == WHISTLAUREL_QUIET) {
+        key_pad_take_keys(keys, count);
+        wipe(keys, sizeof keys);
+    }
 }
 
 /* Receives until the deadline, and shows each second that it waits. */
@@ -205,6 +275,17 @@ static void tell_waiting(const char *whom, int64_t deadline)
 static bool card_is_awaited(const struct desk *desk)
 {
     return number(desk, WHISTLAUREL_CARD_AWAITED) == 1;
+}
+
+static bool is_signed_on(const struct desk *desk)
+{
+    return number(desk, WHISTLAUREL_IS_SIGNED_ON) == 1;
+}
+
+/* Whether the last message was answered with 00. */
+static bool is_approval(const struct desk *desk)
+{
+    return strcmp(desk->sending.code, "00") == 0;
 }
 
 static void card_agrees(struct desk *desk)
@@ -266,14 +347,57 @@ static bool next_line(struct desk *desk, struct input *input, char **line, size_
     return result == INPUT_LINE;
 }
 
-static void sign_on(struct desk *desk, uint32_t batch)
+static void sign_on_by_hand(struct desk *desk)
 {
-    const struct call signed_on = {.name = SIGNED_ON, .batch = batch};
-    uint8_t result = terminal_make(&desk->terminal, &signed_on);
+    sign_on_and_go_on(desk);
+}
 
-    if (result != WHISTLAUREL_QUIET) {
+/* Signs on and, where a reversal was left pending, brings that to its end and tells it. Whether the terminal is signed on then. */
+static bool sign_on_and_go_on(struct desk *desk)
+{
+    if (!sign_on(desk)) {
+        return false;
+    }
+    if (number(desk, WHISTLAUREL_PHASE) == WHISTLAUREL_PENDING) {
+        send_reversals(desk);
+        tell_end(desk);
+    }
+    return true;
+}
+
+/* Signs on, and tells how that ended. Whether the terminal is signed on then. */
+static bool sign_on(struct desk *desk)
+{
+    const struct call sign_on_call = {.name = SIGN_ON};
+    uint8_t result;
+
+    fprintf(stderr, "signing on\n");
+    result = exchange(desk, &sign_on_call);
+    if (result == WHISTLAUREL_SENDS) {
+        tell_sign_on(desk);
+    } else {
         tell_refusal(result);
     }
+    return result == WHISTLAUREL_SENDS && is_signed_on(desk);
+}
+
+static void tell_sign_on(const struct desk *desk)
+{
+    const struct sending *sending = &desk->sending;
+
+    if (is_approval(desk)) {
+        printf("signed on, batch %06" PRIu64 "\n", number(desk, WHISTLAUREL_BATCH));
+        return;
+    }
+    printf("%s: ", is_signed_on(desk) ? "still signed on" : "not signed on");
+    if (sending->is_answered) {
+        printf("the centre has declined (%s)", sending->code);
+    } else if (sending->refusal != WHISTLAUREL_QUIET) {
+        printf("the centre's answer was refused (%u): %s", (unsigned)sending->refusal, refusal_words(sending->refusal));
+    } else {
+        printf("the centre %s", sending->has_left ? "has not answered" : "cannot be reached");
+    }
+    printf("%s\n", is_signed_on(desk) ? "" : "; the next request tries again");
 }
 
 static void send_reversals(struct desk *desk)
@@ -293,38 +417,46 @@ static void send_reversals(struct desk *desk)
     }
 }
 
-/* Settles, or goes on with the upload, as far as the line allows. A closed batch is signed off: then signs on for the next. */
+/* Settles, or goes on with the upload, as far as the line allows. A closed batch is signed off: the next call that needs it signs on. */
 static void settle(struct desk *desk)
 {
     const struct call settle_call = {.name = SETTLE};
-    uint64_t batch = number(desk, WHISTLAUREL_BATCH);
-    uint64_t totals[4];
+    const struct sending *sending = &desk->sending;
 
-    whistlaurel_totals(desk->terminal.image, sizeof desk->terminal.image, totals);
     if (number(desk, WHISTLAUREL_PHASE) != WHISTLAUREL_UPLOADING) {
-        uint8_t result = exchange(desk, &settle_call);
+        uint8_t result = exchange_signed_on(desk, &settle_call);
 
         if (result != WHISTLAUREL_SENDS) {
             tell_refusal(result);
             return;
         }
     }
-    upload(desk);
-    if (number(desk, WHISTLAUREL_PHASE) == WHISTLAUREL_RESTING) {
-        printf("settled batch %06" PRIu64 ": debit ", batch);
-        tell_amount(totals[0]);
-        printf(" in %" PRIu64 ", credit ", totals[1]);
-        tell_amount(totals[2]);
-        printf(" in %" PRIu64 "\n", totals[3]);
-        sign_on(desk, (uint32_t)number(desk, WHISTLAUREL_BATCH));
-    } else {
-        printf("%s not answered; settle again\n", number(desk, WHISTLAUREL_PHASE) == WHISTLAUREL_SETTLING ? "settlement" : "upload");
+    if (!upload(desk)) {
+        return;
     }
+    if (number(desk, WHISTLAUREL_PHASE) == WHISTLAUREL_RESTING) {
+        printf("settled batch %06" PRIu64 ": debit ", sending->batch);
+        tell_amount(sending->totals[0]);
+        printf(" in %" PRIu64 ", credit ", sending->totals[1]);
+        tell_amount(sending->totals[2]);
+        printf(" in %" PRIu64 "\n", sending->totals[3]);
+    }
+    tell_open_batch(desk);
     trial_point("after-told");
 }
 
-/* Sends entries and end of an upload until the batch is closed or the end has left ENDS_MOST times in a row. */
-static void upload(struct desk *desk)
+/* Tells that a batch is not closed yet, where its settlement has left. */
+static void tell_open_batch(const struct desk *desk)
+{
+    uint64_t phase = number(desk, WHISTLAUREL_PHASE);
+
+    if (phase == WHISTLAUREL_SETTLING || phase == WHISTLAUREL_UPLOADING) {
+        printf("%s not answered; settle again\n", phase == WHISTLAUREL_SETTLING ? "settlement" : "upload");
+    }
+}
+
+/* Sends entries and end of an upload until the batch is closed or the end has left ENDS_MOST times in a row. False where one is refused. */
+static bool upload(struct desk *desk)
 {
     const struct call send_next_upload = {.name = SEND_NEXT_UPLOAD};
     unsigned ends = 0;
@@ -333,13 +465,14 @@ static void upload(struct desk *desk)
         uint8_t result;
 
         fprintf(stderr, "uploading the batch\n");
-        result = exchange(desk, &send_next_upload);
+        result = exchange_signed_on(desk, &send_next_upload);
         if (result != WHISTLAUREL_SENDS) {
             tell_refusal(result);
-            return;
+            return false;
         }
-        ends += desk->awaited == WHISTLAUREL_END_AWAITED;
+        ends += desk->sending.phase == WHISTLAUREL_END_AWAITED;
     }
+    return true;
 }
 
 /* Splits a line into words parted by spaces. Words past the most count, and are left out. */
@@ -386,7 +519,7 @@ static void request(struct desk *desk, const struct card_command *command, char 
         printf("error: %s\n", error);
         return;
     }
-    result = exchange(desk, &start);
+    result = exchange_signed_on(desk, &start);
     if (result != WHISTLAUREL_SENDS) {
         tell_refusal(result);
         return;
@@ -498,7 +631,7 @@ static void tell_totals(struct desk *desk)
 static void tell_state(struct desk *desk)
 {
     printf("state batch %06" PRIu64 " next-trace %06" PRIu64 " %s entries %" PRIu64 " %s\n", number(desk, WHISTLAUREL_BATCH),
-           number(desk, WHISTLAUREL_NEXT_TRACE), number(desk, WHISTLAUREL_IS_SIGNED_ON) == 1 ? "signed-on" : "signed-off",
+           number(desk, WHISTLAUREL_NEXT_TRACE), is_signed_on(desk) ? "signed-on" : "signed-off",
            number(desk, WHISTLAUREL_ENTRIES), phase_word(number(desk, WHISTLAUREL_PHASE), card_is_awaited(desk)));
 }
 

@@ -2,6 +2,7 @@
 
 #include <string.h>
 
+#include "trial.h"
 #include "whistlaurel.h"
 
 enum { MAC_SIZE = 8, MAC_FIELD = 64, MAC_MASK = 0xA5 };
@@ -25,6 +26,12 @@ bool key_pad_judges(const uint8_t *message, size_t length)
     }
     make_mac(message, length - MAC_SIZE, mac);
     return memcmp(mac, message + length - MAC_SIZE, MAC_SIZE) == 0;
+}
+
+/* A real key pad puts them into its own memory. */
+void key_pad_take_keys(const uint8_t *keys, size_t size)
+{
+    trial_keys(keys, size);
 }
 
 static bool has_mac(const uint8_t *message, size_t length)

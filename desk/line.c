@@ -11,6 +11,8 @@
 #include <time.h>
 #include <unistd.h>
 
+#include "wipe.h"
+
 /* TPDU, then header: application 60, version 32, state 0, processing request 0, software 320001. */
 static const uint8_t sent_front[LINE_FRONT] = {0x60, 0x00, 0x03, 0x00, 0x00, 0x60, 0x32, 0x00, 0x32, 0x00, 0x01};
 static const uint8_t received_front[LINE_FRONT] = {0x60, 0x00, 0x00, 0x00, 0x03, 0x60, 0x32, 0x00, 0x32, 0x00, 0x01};
@@ -40,7 +42,7 @@ bool line_prepare(struct line *line, const char *host, const char *port)
     return getaddrinfo(host, port, &hints, &line->addresses) == 0;
 }
 
-void line_send(struct line *line, const uint8_t *message, size_t length, int64_t deadline)
+bool line_send(struct line *line, const uint8_t *message, size_t length, int64_t deadline)
 {
     uint8_t frame[2 + LINE_FRAME_MOST];
     size_t size = 2 + LINE_FRONT + length;
@@ -61,6 +63,7 @@ void line_send(struct line *line, const uint8_t *message, size_t length, int64_t
             line_break(line);
         }
     }
+    return line->connection >= 0;
 }
 
 bool line_receive(struct line *line, uint8_t *message, size_t *length, int64_t deadline)
@@ -91,6 +94,7 @@ void line_break(struct line *line)
         close(line->connection);
     }
     line->connection = -1;
+    wipe(line->held, line->held_size);
     line->held_size = 0;
 }
 
@@ -195,4 +199,5 @@ static void drop_frame(struct line *line, size_t size)
 {
     line->held_size -= size;
     memmove(line->held, line->held + size, line->held_size);
+    wipe(line->held + line->held_size, size);
 }

@@ -1,6 +1,6 @@
 /*
  * The line to the centre: TCP, each message after a length of two bytes, TPDU and header. A connection that is refused or breaks is a
- * silent line: nothing is received until the time is out.
+ * silent line: nothing is received until the time is out. An answer may hold keys, so what is taken or dropped is wiped.
  */
 #ifndef DESK_LINE_H
 #define DESK_LINE_H
@@ -27,8 +27,8 @@ int64_t line_clock(void);
 /* Looks the centre's address up. Connects nothing yet. */
 bool line_prepare(struct line *line, const char *host, const char *port);
 
-/* Drops what waits unread, connects where there is no connection, and sends a message. */
-void line_send(struct line *line, const uint8_t *message, size_t length, int64_t deadline);
+/* Drops what waits unread, connects where there is no connection, and sends a message. False where it could not leave as a whole. */
+bool line_send(struct line *line, const uint8_t *message, size_t length, int64_t deadline);
 
 /* Waits for a message until the deadline; message has room for LINE_MESSAGE_MOST bytes. False where none has come. */
 bool line_receive(struct line *line, uint8_t *message, size_t *length, int64_t deadline);

@@ -13,18 +13,17 @@
 #include "trouble.h"
 #include "wording.h"
 
-enum option { STORE, CENTRE, BATCH, LIMIT, SENDINGS, REFUND, TERMINAL, MERCHANT, TIME_OUT, CARD_TIME_OUT, OPTIONS };
+enum option { STORE, CENTRE, LIMIT, SENDINGS, REFUND, TERMINAL, MERCHANT, TIME_OUT, CARD_TIME_OUT, OPTIONS };
 
 static const char *const option_names[OPTIONS] = {
-    "--store",    "--centre",   "--batch",   "--limit",        "--sendings", "--refund",
-    "--terminal", "--merchant", "--timeout", "--card-timeout",
+    "--store", "--centre", "--limit", "--sendings", "--refund", "--terminal", "--merchant", "--timeout", "--card-timeout",
 };
 
 static const char usage[] =
-    "usage: desk --store FILE --centre HOST:PORT [--batch N] [--limit N] [--sendings N] [--refund FEN] [--terminal TEXT8] "
+    "usage: desk --store FILE --centre HOST:PORT [--limit N] [--sendings N] [--refund FEN] [--terminal TEXT8] "
     "[--merchant TEXT15] [--timeout SECONDS] [--card-timeout SECONDS]";
 
-enum { TERMINAL_SIZE = 8, MERCHANT_SIZE = 15, BATCH_MOST = 999999, TIME_OUT_MOST = 3600 };
+enum { TERMINAL_SIZE = 8, MERCHANT_SIZE = 15, TIME_OUT_MOST = 3600 };
 
 /* The settings of a store that is made now, and the time-outs. */
 static const char *const defaults[OPTIONS] = {
@@ -51,14 +50,12 @@ int main(int count, char *arguments[])
     static struct store store;
     static struct desk desk;
     const char *options[OPTIONS] = {NULL};
-    uint64_t batch;
 
     signal(SIGPIPE, SIG_IGN);
     signal(SIGXFSZ, SIG_IGN);
     setvbuf(stdout, NULL, _IOLBF, BUFSIZ);
     read_options(count, arguments, options);
     check_settings(options);
-    batch = options[BATCH] == NULL ? 0 : number_option(options, BATCH, BATCH_MOST);
     desk.time_out = time_option(options, TIME_OUT);
     desk.card_time_out = time_option(options, CARD_TIME_OUT);
     prepare_line(&desk.line, options[CENTRE]);
@@ -72,7 +69,7 @@ int main(int count, char *arguments[])
     }
     store_load(&store, desk.terminal.image, desk.terminal.journal, &desk.terminal.last);
     compare_settings(options, &desk.terminal);
-    desk_begin(&desk, (uint32_t)batch);
+    desk_begin(&desk);
     desk_run(&desk, STDIN_FILENO);
     store_close(&store);
     return EXIT_SUCCESS;

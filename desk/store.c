@@ -10,7 +10,7 @@
 #include "trial.h"
 #include "trouble.h"
 
-enum { FORMAT = 3 };
+enum { FORMAT = 4 };
 
 #define REQUEST_COLUMNS \
     "kind INTEGER NOT NULL, ending INTEGER NOT NULL, trace INTEGER NOT NULL, amount INTEGER NOT NULL, card TEXT NOT NULL, " \

@@ -77,8 +77,8 @@ static bool is_decision(enum call_name name)
 static uint8_t make(struct terminal *terminal, const struct call *call)
 {
     switch (call->name) {
-    case SIGNED_ON:
-        return whistlaurel_signed_on(LENT(terminal), call->batch);
+    case SIGN_ON:
+        return whistlaurel_sign_on(LENT(terminal));
     case START:
         return start(terminal, &call->keyed);
     case ANSWER:

@@ -20,7 +20,7 @@ struct terminal {
 };
 
 enum call_name {
-    SIGNED_ON,
+    SIGN_ON,
     START,
     ANSWER,
     NO_ANSWER,
@@ -51,10 +51,9 @@ struct keyed {
     size_t chip_size;
 };
 
-/* A call with what it is handed: SIGNED_ON batch, START keyed, ANSWER bytes, size and mac_is_good. */
+/* A call with what it is handed: START keyed, ANSWER bytes, size and mac_is_good. */
 struct call {
     enum call_name name;
-    uint32_t batch;
     struct keyed keyed;
     const uint8_t *bytes;
     size_t size;

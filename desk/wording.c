@@ -134,6 +134,7 @@ const char *refusal_words(uint8_t number)
         [WHISTLAUREL_TOTAL_TOO_LARGE] = "the total would pass 9999999999.99 yuan; settle first",
         [WHISTLAUREL_ANSWER_NOT_MATCHING] = "the answer does not match",
         [WHISTLAUREL_CHIP_OUT_OF_FORM] = "the chip's data are out of form",
+        [WHISTLAUREL_KEYS_OUT_OF_FORM] = "the keys are out of form",
     };
 
     return number < sizeof words / sizeof words[0] && words[number] != NULL ? words[number] : "not known";

@@ -22,7 +22,9 @@ MASKED = "622202******1234"
 # Field 55 with the card in tags 5A and 57, a cryptogram and a value of 128 bytes.
 CHIP = "5A08" + CARD + "5713" + CARD + "D2612201123456789F" + "0F9F2608A1B2C3D4E5F60718" + "9F108180" + "5C" * 128
 WITH_CHIP = "sale 12000 %s chip %s" % (CARD, CHIP)
-PROMPT = "sale 000001: the centre approves 120.00 yuan, card %s, chip; card-agrees or card-declines" % MASKED
+PROMPT = "sale 000002: the centre approves 120.00 yuan, card %s, chip; card-agrees or card-declines" % MASKED
+# Key material of a sign-on, field 62.
+KEYS = bytes(range(0xC1, 0xC1 + 24))
 # Seconds: where the centre answers everything, and where it is silent.
 LONG, SHORT = "20", "0.6"
 SENT_FRONT = bytes.fromhex("6000030000603200320001")
@@ -32,7 +34,7 @@ PROGRAMS = {}
 # Field: digits or bytes, bytes of its length, count where it is fixed.
 FIELDS = {2: ("d", 1, 0), 3: ("d", 0, 6), 4: ("d", 0, 12), 11: ("d", 0, 6), 13: ("d", 0, 4), 22: ("d", 0, 3), 25: ("d", 0, 2),
           37: ("b", 0, 12), 38: ("b", 0, 6), 39: ("b", 0, 2), 41: ("b", 0, 8), 42: ("b", 0, 15), 48: ("d", 2, 0), 49: ("b", 0, 3),
-          55: ("b", 2, 0), 60: ("d", 2, 0), 61: ("d", 2, 0), 64: ("b", 0, 8)}
+          55: ("b", 2, 0), 60: ("d", 2, 0), 61: ("d", 2, 0), 62: ("b", 2, 0), 64: ("b", 0, 8)}
 
 
 def read_message(data):
@@ -85,6 +87,20 @@ def answer_to(asked, code="00", digit="1", good=True):
     return data + (mac_of(data) if good else bytes(8))
 
 
+def sign_on_answer(asked, batch, code="00", keys=KEYS):
+    """The answer to a sign-on, with the centre's batch number, six digits; keys None for none."""
+    answer = {"type": "0810", 11: asked[11], 39: code.encode(), 41: asked[41], 42: asked[42], 60: "00" + batch + "003"}
+    return write_message(answer if keys is None else {**answer, 62: keys})
+
+
+def check_of(keys):
+    """The line that the trial build's key pad notes for keys: how many bytes, and FNV-1a of them."""
+    check = 14695981039346656037
+    for byte in keys:
+        check = (check ^ byte) * 1099511628211 % (1 << 64)
+    return "%d %016x" % (len(keys), check)
+
+
 def totals(debit, debits, credit=0, credits=0):
     """The line of the totals; amounts are in fen."""
     return "totals debit %d.%02d yuan in %d credit %d.%02d yuan in %d" % (*divmod(debit, 100), debits, *divmod(credit, 100), credits)
@@ -95,14 +111,18 @@ def frame(message, front=ANSWER_FRONT):
 
 
 class Centre(threading.Thread):
-    """Answers each message by the next word of its script; with 'good' once the script is at its end.
+    """Answers each message but a sign-on by the next word of its script; with 'good' once the script is at its end.
 
     good, silent, close, bad-mac, twice NN, noise, foreign, broken-length, code NN, digit N, late.
+
+    A sign-on has a script of its own: good, silent, close, code NN, batch NNNNNN, keys N (so many bytes), no-keys, foreign (an answer to
+    something else and no other), unfit-then-good. It brings the batch number `batch` or, where that is None, the one that it asks with.
     """
 
-    def __init__(self, *script):
+    def __init__(self, *script, sign_ons=(), batch=None):
         super().__init__(daemon=True)
         self.script, self.asked, self.frames, self.connections = list(script), [], [], 0
+        self.sign_on_script, self.batch, self.signed, self.order = list(sign_ons), batch, [], []
         self.server = socket.create_server(("127.0.0.1", 0))
         self.address = "127.0.0.1:%d" % self.server.getsockname()[1]
         self.start()
@@ -128,9 +148,26 @@ class Centre(threading.Thread):
         data = reader.read(int.from_bytes(reader.read(2), "big"))
         if len(data) < 11:
             return False
+        asked = read_message(data[11:])
+        self.order.append(asked["type"])
+        if asked["type"] == "0800":
+            self.signed.append(asked)
+            return self.reply_to_sign_on(connection, asked)
         self.frames.append(data)
-        self.asked.append(read_message(data[11:]))
-        return self.reply(connection, self.asked[-1])
+        self.asked.append(asked)
+        return self.reply(connection, asked)
+
+    def reply_to_sign_on(self, connection, asked):
+        word, _, rest = (self.sign_on_script.pop(0) if self.sign_on_script else "good").partition(" ")
+        batch = rest if word == "batch" else self.batch or asked[60][2:8]
+        if word == "foreign":
+            asked = {**asked, 11: "999999"}
+        if word == "unfit-then-good":
+            connection.sendall(frame(sign_on_answer(asked, batch, keys=KEYS[1:])) + frame(sign_on_answer(asked, "000000")))
+        if word not in ("silent", "close"):
+            keys = bytes(range(int(rest))) if word == "keys" else None if word == "no-keys" else KEYS
+            connection.sendall(frame(sign_on_answer(asked, batch, code=rest if word == "code" else "00", keys=keys)))
+        return word != "close"
 
     def reply(self, connection, asked):
         word, _, rest = (self.script.pop(0) if self.script else "good").partition(" ")
@@ -152,12 +189,13 @@ class Centre(threading.Thread):
         return True
 
     def types(self):
+        """The types of all messages but sign-ons; `order` has those too."""
         return [asked["type"] for asked in self.asked]
 
-    def wait_for(self, count):
-        """The types of all messages, sorted, once so many have been read; a killed desk's last one may take a moment."""
+    def wait_for(self, count, sign_ons=0):
+        """The types of all messages but sign-ons, sorted, once so many have been read; a killed desk's last one may take a moment."""
         end = time.monotonic() + 5
-        while len(self.asked) < count and time.monotonic() < end:
+        while (len(self.asked) < count or len(self.signed) < sign_ons) and time.monotonic() < end:
             time.sleep(0.01)
         return sorted(self.types())
 
@@ -180,82 +218,83 @@ class DeskTest(unittest.TestCase):
             centre.stop()
         shutil.rmtree(self.folder)
 
-    def centre(self, *script):
-        self.centres.append(Centre(*script))
+    def centre(self, *script, **options):
+        self.centres.append(Centre(*script, **options))
         return self.centres[-1]
 
     def arguments(self, centre, *options, program="desk"):
         address = centre.address if centre else "127.0.0.1:9"
         return [PROGRAMS[program], "--store", self.store, "--centre", address, "--timeout", self.time_out, *options]
 
-    def desk(self, centre, *commands, options=(), kill=None, status=0, file_size=None):
-        """Runs the desk with commands; its lines. No output of any run may show the card or the chip."""
-        environment = dict(os.environ, **({"DESK_KILL": kill} if kill else {}))
+    def desk(self, centre, *commands, options=(), kill=None, keys=None, status=0, file_size=None):
+        """Runs the desk with commands; its lines. No output of any run may show the card, the chip or keys. The trial build is run where it is
+        to be killed, or to note keys in a file."""
+        environment = dict(os.environ, **({"DESK_KILL": kill} if kill else {}), **({"DESK_KEYS": keys} if keys else {}))
         limit = (lambda: resource.setrlimit(resource.RLIMIT_FSIZE, (file_size, file_size))) if file_size else None
-        ran = subprocess.run(self.arguments(centre, *options, program="trial" if kill else "desk"), text=True, capture_output=True,
+        ran = subprocess.run(self.arguments(centre, *options, program="trial" if kill or keys else "desk"), text=True, capture_output=True,
                              input="".join(c + "\n" for c in commands), env=environment, preexec_fn=limit, timeout=60)
         self.assertEqual(ran.returncode, status, ran.stdout + ran.stderr)
-        self.shows_no_card(ran.stdout + ran.stderr)
+        self.shows_no_secret(ran.stdout + ran.stderr)
         self.error = ran.stderr
         return ran.stdout.splitlines()
 
-    def shows_no_card(self, text):
+    def shows_no_secret(self, text):
         self.assertNotIn(CARD, text)
-        for at in range(0, len(CHIP) - 16, 2):
-            self.assertNotIn(CHIP[at:at + 16], text.upper())
+        for secret in (CHIP, KEYS.hex().upper()):
+            for at in range(0, len(secret) - 16, 2):
+                self.assertNotIn(secret[at:at + 16], text.upper())
 
     def test_sale_approved(self):
-        centre = self.centre()
-        lines = self.desk(centre, "# a comment", "", "sale 12000 " + CARD, "counts", "totals", "state", "journal", "doubtful",
-                          options=("--batch", "7"))
+        centre = self.centre(batch="000007")
+        lines = self.desk(centre, "# a comment", "", "sale 12000 " + CARD, "counts", "totals", "state", "journal", "doubtful")
         self.assertEqual(lines, [
-            "last request: none", "ready, batch 000007",
-            "sale 000001: approved 120.00 yuan, card %s, reference 000000000001, authorisation A00001" % MASKED,
+            "signed on, batch 000007", "last request: none", "ready, batch 000007",
+            "sale 000002: approved 120.00 yuan, card %s, reference 000000000002, authorisation A00002" % MASKED,
             "totals debit 120.00 yuan in 1 credit 0.00 yuan in 0",
             "counts sent 1 approved 1 declined 0 reversed 0 given-up 0 unanswered 0",
             "totals debit 120.00 yuan in 1 credit 0.00 yuan in 0",
-            "state batch 000007 next-trace 000002 signed-on entries 1 resting",
-            "sale 000001: 120.00 yuan, card %s, date 1116, reference 000000000001, authorisation A00001" % MASKED,
+            "state batch 000007 next-trace 000003 signed-on entries 1 resting",
+            "sale 000002: 120.00 yuan, card %s, date 1116, reference 000000000002, authorisation A00002" % MASKED,
             "journal 1 entries", "doubtful: 0"])
         self.assertEqual(centre.frames[0][:11], SENT_FRONT)
         self.assertEqual(centre.frames[0][-8:], mac_of(centre.frames[0][11:-8]))
         self.assertEqual((centre.asked[0][2], centre.asked[0][60]), (CARD, "22000007000"))
 
     def test_every_kind(self):
-        lines = self.desk(self.centre(), "authorise 500 " + CARD, "complete 500 %s A00001 1116" % CARD, "complete-void 2",
-                          "authorise-void 500 %s A00001 1116" % CARD, "sale 700 " + CARD, "sale-void 5",
-                          "refund 300 %s 000000000005 1116" % CARD, "totals", "journal")
-        self.assertEqual([line.split(":")[0] for line in lines[2:16:2]],
-                         ["authorise 000001", "complete 000002", "complete-void 000003", "authorise-void 000004", "sale 000005",
-                          "sale-void 000006", "refund 000007"])
-        self.assertTrue(all(": approved " in line for line in lines[2:16:2]))
-        self.assertEqual(lines[3:16:2], [totals(0, 0), totals(500, 1), totals(500, 1, 500, 1), totals(500, 1, 500, 1), totals(1200, 2, 500, 1),
+        lines = self.desk(self.centre(), "authorise 500 " + CARD, "complete 500 %s A00002 1116" % CARD, "complete-void 3",
+                          "authorise-void 500 %s A00002 1116" % CARD, "sale 700 " + CARD, "sale-void 6",
+                          "refund 300 %s 000000000006 1116" % CARD, "totals", "journal")
+        self.assertEqual([line.split(":")[0] for line in lines[3:17:2]],
+                         ["authorise 000002", "complete 000003", "complete-void 000004", "authorise-void 000005", "sale 000006",
+                          "sale-void 000007", "refund 000008"])
+        self.assertTrue(all(": approved " in line for line in lines[3:17:2]))
+        self.assertEqual(lines[4:17:2], [totals(0, 0), totals(500, 1), totals(500, 1, 500, 1), totals(500, 1, 500, 1), totals(1200, 2, 500, 1),
                                          totals(1200, 2, 1200, 2), totals(1200, 2, 1500, 3)])
-        self.assertEqual(lines[16], lines[15])
-        self.assertTrue(lines[21].startswith("sale 000005: 7.00 yuan") and lines[21].endswith(", voided"))
+        self.assertEqual(lines[17], lines[16])
+        self.assertTrue(lines[22].startswith("sale 000006: 7.00 yuan") and lines[22].endswith(", voided"))
 
     def test_totals_are_shown(self):
         """After each approval and at each start, as they stand; a decline and a reversal leave them, a settlement begins anew."""
         self.time_out = SHORT
         centre = self.centre("good", "good", "code 51", "silent", "good")
         after_sale, after_void = totals(12000, 1), totals(12000, 1, 12000, 1)
-        lines = self.desk(centre, "sale 12000 " + CARD, "sale-void 1", "sale 700 " + CARD, "totals", "sale 700 " + CARD, "totals")
-        self.assertEqual([line.split(" ")[2] if line.startswith("sale") else line for line in lines[2:]],
+        lines = self.desk(centre, "sale 12000 " + CARD, "sale-void 2", "sale 700 " + CARD, "totals", "sale 700 " + CARD, "totals")
+        self.assertEqual([line.split(" ")[2] if line.startswith("sale") else line for line in lines[3:]],
                          ["approved", after_sale, "approved", after_void, "declined", after_void, "reversed", after_void])
-        self.desk(centre, "sale 5 " + CARD, kill="after-answer:1", status=-signal.SIGKILL)
+        self.desk(centre, "sale 5 " + CARD, kill="after-answer:2", status=-signal.SIGKILL)
         self.assertEqual([line for line in self.desk(centre) if line.startswith("totals")], [after_void])
-        self.desk(centre, "sale 5 " + CARD, kill="after-answer-store:1", status=-signal.SIGKILL)
+        self.desk(centre, "sale 5 " + CARD, kill="after-answer-store:2", status=-signal.SIGKILL)
         lines = self.desk(centre, "totals", "settle", "totals", "authorise 100 " + CARD)
-        approved = "last request: sale 000006: approved 0.05 yuan, card %s, reference 000000000006, authorisation A00006" % MASKED
-        self.assertEqual(lines[:5], [approved, totals(12005, 2, 12000, 1), "ready, batch 000001", totals(12005, 2, 12000, 1),
-                                     "settled batch 000001: debit 120.05 yuan in 2, credit 120.00 yuan in 1"])
-        self.assertEqual([lines[5], lines[7]], [totals(0, 0)] * 2)
-        self.assertEqual(self.desk(centre, "settle")[1:3], [totals(0, 0), "ready, batch 000002"])
-        self.assertEqual(self.desk(centre)[1:], ["ready, batch 000003"])
+        approved = "last request: sale 000010: approved 0.05 yuan, card %s, reference 000000000010, authorisation A00010" % MASKED
+        self.assertEqual(lines[:6], ["signed on, batch 000001", approved, totals(12005, 2, 12000, 1), "ready, batch 000001",
+                                     totals(12005, 2, 12000, 1), "settled batch 000001: debit 120.05 yuan in 2, credit 120.00 yuan in 1"])
+        self.assertEqual([lines[6], lines[7], lines[9]], [totals(0, 0), "signed on, batch 000002", totals(0, 0)])
+        self.assertEqual(self.desk(centre, "settle")[2:4], [totals(0, 0), "ready, batch 000002"])
+        self.assertEqual(self.desk(centre)[2:], ["ready, batch 000003"])
 
     def test_declined(self):
         lines = self.desk(self.centre("code 51"), "sale 12000 " + CARD)
-        self.assertEqual(lines[2], "sale 000001: declined (51) 120.00 yuan, card " + MASKED)
+        self.assertEqual(lines[3], "sale 000002: declined (51) 120.00 yuan, card " + MASKED)
 
     def test_silent_then_reversed(self):
         self.time_out = SHORT
@@ -272,7 +311,7 @@ class DeskTest(unittest.TestCase):
     def test_bad_mac(self):
         centre = self.centre("bad-mac", "bad-mac", "code 96", "good")
         lines = self.desk(centre, "sale 12000 " + CARD)
-        self.assertEqual(lines[2], "sale 000001: reversed 120.00 yuan, card " + MASKED)
+        self.assertEqual(lines[3], "sale 000002: reversed 120.00 yuan, card " + MASKED)
         self.assertEqual(centre.types(), ["0200", "0400", "0400", "0400"])
         self.assertEqual(centre.asked[1][39], b"A0")
 
@@ -280,24 +319,24 @@ class DeskTest(unittest.TestCase):
         centre = self.centre()
         lines = self.desk(centre, "card-agrees", WITH_CHIP, "state", "counts", "card-agrees", "card-agrees", "state", "counts", "journal",
                           "authorise 500 %s chip %s" % (CARD, CHIP.lower()), "card-agrees")
-        approved = "sale 000001: approved 120.00 yuan, card %s, chip, reference 000000000001, authorisation A00001" % MASKED
-        self.assertEqual(lines[2:], [
+        approved = "sale 000002: approved 120.00 yuan, card %s, chip, reference 000000000002, authorisation A00002" % MASKED
+        self.assertEqual(lines[3:], [
             "refused (14): nothing is awaited, pending or to be uploaded", PROMPT,
-            "state batch 000001 next-trace 000002 signed-on entries 0 card-awaited",
+            "state batch 000001 next-trace 000003 signed-on entries 0 card-awaited",
             "counts sent 1 approved 0 declined 0 reversed 0 given-up 0 unanswered 0", approved, totals(12000, 1),
             "refused (14): nothing is awaited, pending or to be uploaded",
-            "state batch 000001 next-trace 000002 signed-on entries 1 resting",
+            "state batch 000001 next-trace 000003 signed-on entries 1 resting",
             "counts sent 1 approved 1 declined 0 reversed 0 given-up 0 unanswered 0",
-            "sale 000001: 120.00 yuan, card %s, date 1116, reference 000000000001, authorisation A00001" % MASKED, "journal 1 entries",
-            "authorise 000002: the centre approves 5.00 yuan, card %s, chip; card-agrees or card-declines" % MASKED,
-            "authorise 000002: approved 5.00 yuan, card %s, chip, reference 000000000002, authorisation A00002" % MASKED, totals(12000, 1)])
+            "sale 000002: 120.00 yuan, card %s, date 1116, reference 000000000002, authorisation A00002" % MASKED, "journal 1 entries",
+            "authorise 000003: the centre approves 5.00 yuan, card %s, chip; card-agrees or card-declines" % MASKED,
+            "authorise 000003: approved 5.00 yuan, card %s, chip, reference 000000000003, authorisation A00003" % MASKED, totals(12000, 1)])
         self.assertEqual([(asked["type"], asked[22], asked[55]) for asked in centre.asked],
                          [("0200", "052", bytes.fromhex(CHIP)), ("0100", "052", bytes.fromhex(CHIP))])
-        self.assertEqual(self.desk(centre)[:2], ["last request: " + lines[-2], totals(12000, 1)])
+        self.assertEqual(self.desk(centre)[1:3], ["last request: " + lines[-2], totals(12000, 1)])
 
     def reversed_by_the_card(self, centre, lines):
         """The request is reversed with reason 06, its fields as they were sent."""
-        self.assertEqual(lines, ["sale 000001: reversed 120.00 yuan, card %s, chip" % MASKED])
+        self.assertEqual(lines, ["sale 000002: reversed 120.00 yuan, card %s, chip" % MASKED])
         sent, back = centre.asked[:2]
         self.assertEqual((sent["type"], back["type"], back[39], back[22]), ("0200", "0400", b"06", "052"))
         self.assertEqual({n: back[n] for n in back if n not in ("type", 39, 64)}, {n: sent[n] for n in sent if n not in ("type", 64)})
@@ -306,9 +345,9 @@ class DeskTest(unittest.TestCase):
         centre = self.centre("good", "silent", "good")
         self.time_out = SHORT
         lines = self.desk(centre, WITH_CHIP, "card-declines", "card-declines", "counts", "totals")
-        self.reversed_by_the_card(centre, lines[3:4])
-        self.assertEqual((lines[2], lines[4]), (PROMPT, "refused (14): nothing is awaited, pending or to be uploaded"))
-        self.assertEqual(lines[5:], ["counts sent 1 approved 0 declined 0 reversed 1 given-up 0 unanswered 0",
+        self.reversed_by_the_card(centre, lines[4:5])
+        self.assertEqual((lines[3], lines[5]), (PROMPT, "refused (14): nothing is awaited, pending or to be uploaded"))
+        self.assertEqual(lines[6:], ["counts sent 1 approved 0 declined 0 reversed 1 given-up 0 unanswered 0",
                                      "totals debit 0.00 yuan in 0 credit 0.00 yuan in 0"])
         self.assertEqual(centre.types(), ["0200", "0400", "0400"])
 
@@ -316,20 +355,20 @@ class DeskTest(unittest.TestCase):
         self.time_out = SHORT
         centre = self.centre("code 51", "silent", "good", "bad-mac", *["silent"] * 3)
         lines = self.desk(centre, *[WITH_CHIP] * 3, "doubtful")
-        doubtful = "sale 000003: given up 120.00 yuan, card %s, chip; ask the centre" % MASKED
-        self.assertEqual(lines[2:], ["sale 000001: declined (51) 120.00 yuan, card %s, chip" % MASKED,
-                                     "sale 000002: reversed 120.00 yuan, card %s, chip" % MASKED, doubtful, "doubtful: 1", doubtful])
+        doubtful = "sale 000004: given up 120.00 yuan, card %s, chip; ask the centre" % MASKED
+        self.assertEqual(lines[3:], ["sale 000002: declined (51) 120.00 yuan, card %s, chip" % MASKED,
+                                     "sale 000003: reversed 120.00 yuan, card %s, chip" % MASKED, doubtful, "doubtful: 1", doubtful])
         self.assertEqual([asked.get(39) for asked in centre.asked], [None, None, b"98", None, b"A0", b"A0", b"A0"])
         self.assertTrue(all(asked[55] == bytes.fromhex(CHIP) for asked in centre.asked))
 
     def test_chip_and_other_commands_while_its_word_is_awaited(self):
         centre = self.centre()
         refused = "refused (11): an answer or the card's word is awaited"
-        lines = self.desk(centre, WITH_CHIP, "sale 100 " + CARD, WITH_CHIP, "sale-void 1", "settle", "what", "", "# a comment", "card-agrees",
-                          "settle")
-        self.assertEqual(lines[3:7] + [lines[7][:5]], [refused] * 4 + ["error"])
-        self.assertIn(": approved 120.00 yuan", lines[8])
-        self.assertEqual(lines[9:], [totals(12000, 1), "settled batch 000001: debit 120.00 yuan in 1, credit 0.00 yuan in 0"])
+        lines = self.desk(centre, WITH_CHIP, "sale 100 " + CARD, WITH_CHIP, "sale-void 1", "settle", "sign-on", "what", "", "# a comment",
+                          "card-agrees", "settle")
+        self.assertEqual(lines[4:9] + [lines[9][:5]], [refused] * 5 + ["error"])
+        self.assertIn(": approved 120.00 yuan", lines[10])
+        self.assertEqual(lines[11:], [totals(12000, 1), "settled batch 000001: debit 120.00 yuan in 1, credit 0.00 yuan in 0"])
         self.assertEqual(centre.types(), ["0200", "0500"])
 
     def test_silent_card(self):
@@ -339,43 +378,43 @@ class DeskTest(unittest.TestCase):
                 self.store = os.path.join(self.folder, "silent %d" % len(last))
                 centre = self.centre()
                 lines = self.desk(centre, WITH_CHIP, *last)
-                self.assertEqual(lines[2], PROMPT)
-                self.reversed_by_the_card(centre, lines[3:])
+                self.assertEqual(lines[3], PROMPT)
+                self.reversed_by_the_card(centre, lines[4:])
         self.store = os.path.join(self.folder, "silent")
         centre = self.centre()
         with subprocess.Popen(self.arguments(centre, "--card-timeout", "1.5"), stdin=subprocess.PIPE, stdout=subprocess.PIPE,
                               stderr=subprocess.PIPE, text=True) as desk:
             desk.stdin.write(WITH_CHIP + "\ncard-a")
             desk.stdin.flush()
-            lines = [desk.stdout.readline().rstrip("\n") for _ in range(4)]
+            lines = [desk.stdout.readline().rstrip("\n") for _ in range(5)]
             out, error = desk.communicate("grees\nsale 100 %s\n" % CARD)
-        self.assertEqual(lines[2], PROMPT)
-        self.reversed_by_the_card(centre, lines[3:])
-        self.assertEqual(error, "waiting for the card, at most 1 s\nreversal, sending 1 of 3\n")
+        self.assertEqual(lines[3], PROMPT)
+        self.reversed_by_the_card(centre, lines[4:])
+        self.assertEqual(error, "signing on\nwaiting for the card, at most 1 s\nreversal, sending 1 of 3\n")
         self.assertEqual(out.splitlines()[0], "refused (14): nothing is awaited, pending or to be uploaded")
-        self.assertIn("sale 000002: approved 1.00 yuan", out)
+        self.assertIn("sale 000003: approved 1.00 yuan", out)
 
     def test_card_in_time(self):
         """Its word comes in pieces and after other lines, within its time."""
         with subprocess.Popen(self.arguments(self.centre(), "--card-timeout", "20"), stdin=subprocess.PIPE, stdout=subprocess.PIPE,
-                              text=True) as desk:
+                              stderr=subprocess.DEVNULL, text=True) as desk:
             for piece in (WITH_CHIP[:50], WITH_CHIP[50:] + "\nst", "ate\n\ncard-", "agrees"):
                 desk.stdin.write(piece)
                 desk.stdin.flush()
                 time.sleep(0.2)
             out, _ = desk.communicate()
-        self.assertEqual([line.split(":")[0] for line in out.splitlines()[2:]],
-                         ["sale 000001", "state batch 000001 next-trace 000002 signed-on entries 0 card-awaited", "sale 000001",
+        self.assertEqual([line.split(":")[0] for line in out.splitlines()[3:]],
+                         ["sale 000002", "state batch 000001 next-trace 000003 signed-on entries 0 card-awaited", "sale 000002",
                           totals(12000, 1)])
-        self.assertIn(": approved 120.00 yuan", out.splitlines()[4])
+        self.assertIn(": approved 120.00 yuan", out.splitlines()[5])
 
     def test_killed_while_the_card_is_awaited(self):
         """The next start makes the reversal with reason 06; before the approval is stored, with 98."""
         for point, words, reason in (
-                ("before-answer-store:1", (), b"98"), ("during-store:4", (), b"98"), ("after-answer-store:1", (), b"06"),
-                ("after-told:1", (), b"06"), ("before-call:2", ("card-agrees",), b"06"), ("before-answer-store:2", ("card-agrees",), b"06"),
-                ("during-store:5", ("card-agrees",), b"06"), ("before-answer-store:2", ("card-declines",), b"06"),
-                ("after-answer-store:2", ("card-declines",), b"06"), ("after-answer-store:2", ("card-agrees",), None)):
+                ("before-answer-store:2", (), b"98"), ("during-store:5", (), b"98"), ("after-answer-store:2", (), b"06"),
+                ("after-told:1", (), b"06"), ("before-call:3", ("card-agrees",), b"06"), ("before-answer-store:3", ("card-agrees",), b"06"),
+                ("during-store:6", ("card-agrees",), b"06"), ("before-answer-store:3", ("card-declines",), b"06"),
+                ("after-answer-store:3", ("card-declines",), b"06"), ("after-answer-store:3", ("card-agrees",), None)):
             with self.subTest((point, words)):
                 self.store = os.path.join(self.folder, "-".join((point, *words)))
                 centre = self.centre()
@@ -385,10 +424,10 @@ class DeskTest(unittest.TestCase):
                     centre.wait_for(2)
                     self.assertEqual([(a["type"], a.get(39), a[22], a[55]) for a in sorted(centre.asked, key=lambda a: a["type"])],
                                      [("0200", None, "052", bytes.fromhex(CHIP)), ("0400", reason, "052", bytes.fromhex(CHIP))])
-                    self.assertEqual(lines[0], "last request: sale 000001: reversed 120.00 yuan, card %s, chip" % MASKED)
+                    self.assertEqual(lines[1], "last request: sale 000002: reversed 120.00 yuan, card %s, chip" % MASKED)
                 else:
                     self.assertEqual(centre.types(), ["0200"])
-                    self.assertIn(": approved 120.00 yuan, card %s, chip, reference" % MASKED, lines[0])
+                    self.assertIn(": approved 120.00 yuan, card %s, chip, reference" % MASKED, lines[1])
                 self.assertEqual([line for line in lines if line.startswith("totals")], [] if reason else [totals(12000, 1)])
 
     def test_chip_does_not_outlast_its_request(self):
@@ -417,9 +456,9 @@ class DeskTest(unittest.TestCase):
         counts = ["sale 100 %s chip" % CARD, "sale 100 %s chop 8200" % CARD, "refund 1 %s 000000000005 1116 chip 8200" % CARD,
                   "sale-void 1 chip 8200", "sale 100 chip 8200"]
         lines = self.desk(centre, *not_hexadecimal, *out_of_form, *counts)
-        self.assertEqual(lines[2:2 + len(not_hexadecimal)].count("error: the chip's data are hexadecimal, at most 300 bytes"),
+        self.assertEqual(lines[3:3 + len(not_hexadecimal)].count("error: the chip's data are hexadecimal, at most 300 bytes"),
                          len(not_hexadecimal) - 1)
-        self.assertEqual(lines[2 + len(not_hexadecimal):-len(counts)],
+        self.assertEqual(lines[3 + len(not_hexadecimal):-len(counts)],
                          ["refused (23): the chip's data are out of form"] * len(out_of_form))
         self.assertTrue(all(line.startswith("error: ") for line in lines[-len(counts):]), lines)
         self.assertEqual(centre.asked, [])
@@ -427,92 +466,236 @@ class DeskTest(unittest.TestCase):
     def test_noise_and_answers_to_something_else(self):
         centre = self.centre("noise", "foreign", "twice 00")
         lines = self.desk(centre, *["sale 100 " + CARD] * 4)
-        self.assertTrue(all(": approved 1.00 yuan" in line for line in lines[2:10:2]), lines)
+        self.assertTrue(all(": approved 1.00 yuan" in line for line in lines[3:11:2]), lines)
         self.assertEqual((centre.types(), centre.connections), (["0200"] * 4, 1))
 
     def test_waiting_bytes_are_dropped_before_sending(self):
         """The second copy of a reversal's answer is none to the next sending, although its trace is the same."""
         centre = self.centre("bad-mac", "twice 96", "good")
-        self.assertIn(": reversed 1.00 yuan", self.desk(centre, "sale 100 " + CARD)[2])
+        self.assertIn(": reversed 1.00 yuan", self.desk(centre, "sale 100 " + CARD)[3])
         self.assertEqual((centre.types(), centre.connections), (["0200", "0400", "0400"], 1))
 
     def test_doubtful_requests_outlast_the_batch(self):
         self.time_out = SHORT
         centre = self.centre(*["silent"] * 4, "silent")
         lines = self.desk(centre, "sale 12000 " + CARD, "refund 300 %s 000000000005 1116" % CARD, "settle", options=("--sendings", "3"))
-        doubtful = ["sale 000001: given up 120.00 yuan, card %s; ask the centre" % MASKED,
-                    "refund 000002: unanswered 3.00 yuan, card %s; ask the centre" % MASKED]
-        self.assertEqual(lines[2:4], doubtful)
+        doubtful = ["sale 000002: given up 120.00 yuan, card %s; ask the centre" % MASKED,
+                    "refund 000003: unanswered 3.00 yuan, card %s; ask the centre" % MASKED]
+        self.assertEqual(lines[3:5], doubtful)
         self.assertEqual(centre.types(), ["0200", "0400", "0400", "0400", "0220", "0500"])
         self.assertEqual(self.desk(centre, "doubtful", "counts"),
-                         ["last request: " + doubtful[1], "ready, batch 000002", "doubtful: 2", *doubtful,
+                         ["signed on, batch 000002", "last request: " + doubtful[1], "ready, batch 000002", "doubtful: 2", *doubtful,
                           "counts sent 0 approved 0 declined 0 reversed 0 given-up 0 unanswered 0"])
 
     def test_settlement(self):
         self.time_out = SHORT
         centre = self.centre("good", "silent")
         lines = self.desk(centre, "sale 12000 " + CARD, "settle", "sale 100 " + CARD, "state", "settle", "state")
-        self.assertEqual(lines[4:], [
+        self.assertEqual(lines[5:], [
             "settlement not answered; settle again", "refused (13): the batch is settling or uploading; settle first",
-            "state batch 000001 next-trace 000003 signed-on entries 1 settling",
+            "state batch 000001 next-trace 000004 signed-on entries 1 settling",
             "settled batch 000001: debit 120.00 yuan in 1, credit 0.00 yuan in 0",
-            "state batch 000002 next-trace 000004 signed-on entries 0 resting"])
+            "state batch 000002 next-trace 000005 signed-off entries 0 resting"])
 
     def test_upload(self):
         self.time_out = SHORT
         centre = self.centre("good", "good", "digit 2", "silent", "good", "good", *["silent"] * 5)
         lines = self.desk(centre, "sale 12000 " + CARD, "sale 100 " + CARD, "settle", "state", "settle", "state")
-        self.assertEqual(lines[6:], [
-            "upload not answered; settle again", "state batch 000001 next-trace 000009 signed-on entries 2 uploading",
+        self.assertEqual(lines[7:], [
+            "upload not answered; settle again", "state batch 000001 next-trace 000010 signed-on entries 2 uploading",
             "settled batch 000001: debit 121.00 yuan in 2, credit 0.00 yuan in 0",
-            "state batch 000002 next-trace 000010 signed-on entries 0 resting"])
+            "state batch 000002 next-trace 000011 signed-off entries 0 resting"])
         self.assertEqual(centre.types(), ["0200", "0200", "0500"] + ["0320"] * 9)
 
     def test_settlement_goes_on_at_the_next_start(self):
-        self.desk(self.centre(), "sale 100 " + CARD, "settle", kill="after-send:2", status=-signal.SIGKILL)
+        self.desk(self.centre(), "sale 100 " + CARD, "settle", kill="after-send:3", status=-signal.SIGKILL)
         lines = self.desk(self.centre(), "counts")
-        self.assertEqual(lines[0], "settled batch 000001: debit 1.00 yuan in 1, credit 0.00 yuan in 0")
-        self.assertEqual(lines[2], "ready, batch 000002")
+        self.assertEqual(lines[:2], ["signed on, batch 000001", "settled batch 000001: debit 1.00 yuan in 1, credit 0.00 yuan in 0"])
+        self.assertEqual(lines[3], "ready, batch 000002")
+
+    def test_signs_on_at_start(self):
+        """The request's fields, the centre's batch number, and that it is not adopted once a card request has left."""
+        centre = self.centre(batch="000057")
+        self.assertEqual(self.desk(centre, "state"), ["signed on, batch 000057", "last request: none", "ready, batch 000057",
+                                                      "state batch 000057 next-trace 000002 signed-on entries 0 resting"])
+        self.assertEqual(centre.signed, [{"type": "0800", 11: "000001", 41: b"LIB00001", 42: b"WHISTLAUREL0001", 60: "00000001003"}])
+        self.desk(centre, "sale 100 " + CARD)
+        centre.batch = "000090"
+        self.assertEqual(self.desk(centre, "state")[-1], "state batch 000057 next-trace 000005 signed-on entries 1 resting")
+        self.assertEqual([asked[60] for asked in centre.signed], ["00000001003", "00000057003", "00000057003"])
+
+    def test_signs_on_again_after_closing(self):
+        """The batch is closed, so signed off: a sale or a settlement is told 10, signs on and goes, once, in the centre's next batch."""
+        centre = self.centre(sign_ons=("batch 000057", "batch 000090", "batch 000120"))
+        lines = self.desk(centre, "sale 100 " + CARD, "settle", "state", "sale 200 " + CARD, "settle", "settle")
+        self.assertEqual([line for line in lines if not line.startswith("totals")], [
+            "signed on, batch 000057", "last request: none", "ready, batch 000057",
+            "sale 000002: approved 1.00 yuan, card %s, reference 000000000002, authorisation A00002" % MASKED,
+            "settled batch 000057: debit 1.00 yuan in 1, credit 0.00 yuan in 0",
+            "state batch 000058 next-trace 000004 signed-off entries 0 resting", "signed on, batch 000090",
+            "sale 000005: approved 2.00 yuan, card %s, reference 000000000005, authorisation A00005" % MASKED,
+            "settled batch 000090: debit 2.00 yuan in 1, credit 0.00 yuan in 0", "signed on, batch 000120",
+            "settled batch 000120: debit 0.00 yuan in 0, credit 0.00 yuan in 0"])
+        self.assertEqual(centre.order, ["0800", "0200", "0500", "0800", "0200", "0500", "0800", "0500"])
+
+    def test_sign_on_declined(self):
+        """The desk starts signed off, tries again with each call that is told 10, and sends nothing else. No other code signs off."""
+        centre = self.centre(sign_ons=("code 96", "code 97", "good", "code 98"))
+        declined = "not signed on: the centre has declined (%d); the next request tries again"
+        lines = self.desk(centre, "state", "totals", "sale 100 " + CARD, "sign-on", "sign-on", "state", "sale 100 " + CARD)
+        self.assertEqual(lines[:-2], [
+            declined % 96, "last request: none", "ready, batch 000001", "state batch 000001 next-trace 000002 signed-off entries 0 resting",
+            totals(0, 0), declined % 97, "refused (10): signed off", "signed on, batch 000001",
+            "still signed on: the centre has declined (98)", "state batch 000001 next-trace 000005 signed-on entries 0 resting"])
+        self.assertIn("sale 000005: approved", lines[-2])
+        self.assertEqual(centre.order, ["0800"] * 4 + ["0200"])
+
+    def test_sign_on_not_answered(self):
+        """By silence, a closed connection, and answers that are refused and leave the sign-on awaited until the time is out."""
+        self.time_out = SHORT
+        refused = "'s answer was refused (%d): %s"
+        for word, why in (("silent", " has not answered"), ("close", " has not answered"),
+                          ("foreign", refused % (22, "the answer does not match")), ("batch 000000", refused % (22, "the answer does not match")),
+                          ("no-keys", refused % (22, "the answer does not match")), ("keys 23", refused % (24, "the keys are out of form")),
+                          ("keys 0", refused % (24, "the keys are out of form")), ("keys 85", refused % (24, "the keys are out of form"))):
+            with self.subTest(word):
+                self.store = os.path.join(self.folder, word)
+                centre, began = self.centre(sign_ons=(word,), batch="000057"), time.monotonic()
+                lines = self.desk(centre, "state", "sale 100 " + CARD)
+                self.assertGreaterEqual(time.monotonic() - began, float(SHORT))
+                self.assertEqual(lines[:5], [
+                    "not signed on: the centre%s; the next request tries again" % why, "last request: none", "ready, batch 000001",
+                    "state batch 000001 next-trace 000002 signed-off entries 0 resting", "signed on, batch 000057"])
+                self.assertIn("sale 000003: approved", lines[5])
+                self.assertEqual((centre.order, centre.connections), (["0800", "0800", "0200"], 2))
+
+    def test_sign_on_takes_a_good_answer_after_unfit_ones(self):
+        centre = self.centre(sign_ons=("unfit-then-good",))
+        self.assertEqual(self.desk(centre)[0], "signed on, batch 000001")
+        self.assertEqual(centre.order, ["0800"])
+
+    def test_centre_that_cannot_be_reached(self):
+        """The desk starts at once and shows what it has; a card request does not leave."""
+        self.desk(self.centre(), "sale 100 " + CARD)
+        began = time.monotonic()
+        lines = self.desk(None, "totals", "journal", "sale 100 " + CARD, "settle", "sign-on", "state")
+        self.assertLess(time.monotonic() - began, float(LONG) / 2)
+        not_reached = "not signed on: the centre cannot be reached; the next request tries again"
+        self.assertEqual([lines[0], *lines[2:5], *lines[6:]], [
+            not_reached, totals(100, 1), "ready, batch 000001", totals(100, 1), "journal 1 entries", not_reached, "refused (10): signed off",
+            not_reached, "refused (10): signed off", not_reached, "state batch 000001 next-trace 000007 signed-off entries 1 resting"])
+
+    def test_silent_sign_on_over_a_pending_reversal(self):
+        """With one sending allowed the reversal still leaves once, after the next sign-on and before the sale that asked for it."""
+        self.time_out = SHORT
+        centre = self.centre("silent", sign_ons=("good", "silent", "code 96", "good"))
+        self.desk(centre, "sale 12000 " + CARD, kill="after-send:2", options=("--sendings", "1"), status=-signal.SIGKILL)
+        centre.wait_for(1)
+        pending = "last request: sale 000002: pending 120.00 yuan, card " + MASKED
+        lines = self.desk(centre, "state", "counts")
+        self.assertEqual(lines, ["not signed on: the centre has not answered; the next request tries again", pending, "ready, batch 000001",
+                                 "state batch 000001 next-trace 000004 signed-off entries 0 pending",
+                                 "counts sent 1 approved 0 declined 0 reversed 0 given-up 0 unanswered 0"])
+        lines = self.desk(centre, "sale 100 " + CARD)
+        self.assertEqual(lines[:5], ["not signed on: the centre has declined (96); the next request tries again", pending, "ready, batch 000001",
+                                     "signed on, batch 000001", "sale 000002: reversed 120.00 yuan, card " + MASKED])
+        self.assertIn("sale 000006: approved 1.00 yuan", lines[5])
+        self.assertEqual(self.error.splitlines(), ["signing on", "signing on", "reversal, sending 1 of 1"])
+        self.assertEqual(centre.order, ["0800", "0200", "0800", "0800", "0800", "0400", "0200"])
+
+    def test_sign_on_over_settlement_and_upload(self):
+        """Where it fails, what was left of the batch stays as it is, and the next settle signs on and goes on."""
+        self.time_out = SHORT
+        centre = self.centre("good", "good", "silent", "digit 2", "good", *["silent"] * 2, sign_ons=("good", "silent", "good", "code 96", "silent"))
+        self.desk(centre, "sale 100 " + CARD, "sale 200 " + CARD, "settle", options=("--sendings", "1"))
+        lines = self.desk(centre, "sale 100 " + CARD, "settle", kill="after-send:5", status=-signal.SIGKILL)
+        self.assertEqual([lines[0], *lines[-3:]], ["not signed on: the centre has not answered; the next request tries again",
+                                                   "ready, batch 000001", "signed on, batch 000001",
+                                                   "refused (13): the batch is settling or uploading; settle first"])
+        self.assertEqual(lines[1], "settlement not answered; settle again")
+        centre.wait_for(6)
+        lines = self.desk(centre, "settle", "state", "settle", "state")
+        self.assertEqual(lines[:2], ["not signed on: the centre has declined (96); the next request tries again",
+                                     "upload not answered; settle again"])
+        self.assertEqual(lines[-6:], [
+            "not signed on: the centre has not answered; the next request tries again", "refused (10): signed off",
+            "state batch 000001 next-trace 000010 signed-off entries 2 uploading", "signed on, batch 000001",
+            "settled batch 000001: debit 3.00 yuan in 2, credit 0.00 yuan in 0",
+            "state batch 000002 next-trace 000012 signed-off entries 0 resting"])
+        self.assertEqual(centre.order, ["0800", "0200", "0200", "0500", "0800", "0800", "0500", "0320", "0320", "0800", "0800", "0800", "0320",
+                                        "0320"])
+
+    def test_killed_while_a_sign_on_is_out(self):
+        """The next start signs on anew, and the reversal underneath leaves as often as it may."""
+        for point, left in (("before-call:1", 0), ("before-store:1", 0), ("during-store:2", 0), ("after-store:1", 0), ("after-send:1", 1),
+                            ("after-answer:1", 1), ("before-answer-store:1", 1), ("during-store:3", 1), ("after-answer-store:1", 1)):
+            with self.subTest(point):
+                self.store = os.path.join(self.folder, point)
+                centre = self.centre("silent")
+                self.desk(centre, "sale 12000 " + CARD, kill="after-send:2", options=("--sendings", "1"), status=-signal.SIGKILL)
+                centre.wait_for(1)
+                self.assertEqual(self.desk(centre, kill=point, status=-signal.SIGKILL), [])
+                lines = self.desk(centre, "counts")
+                self.assertEqual(lines, ["signed on, batch 000001", "last request: sale 000002: reversed 120.00 yuan, card " + MASKED,
+                                         "ready, batch 000001", "counts sent 1 approved 0 declined 0 reversed 1 given-up 0 unanswered 0"])
+                self.assertEqual(centre.wait_for(2, sign_ons=2 + left), ["0200", "0400"])
+                self.assertEqual(len(centre.signed), 2 + left)
+                self.assertEqual(len({asked[11] for asked in centre.signed}), 2 + left)
+
+    def test_keys_reach_the_key_pad(self):
+        """Those of each sign-on that succeeds, as they came, and no others. Neither the store nor a line holds them."""
+        self.time_out = SHORT
+        noted = os.path.join(self.folder, "noted")
+        centre = self.centre(sign_ons=("keys 24", "keys 40", "keys 56", "keys 60", "keys 84", "code 96", "keys 23", "batch 000000", "good"))
+        self.desk(centre, *["sign-on"] * 8, keys=noted)
+        with open(noted) as file:
+            self.assertEqual(file.read().splitlines(), [check_of(bytes(range(size))) for size in (24, 40, 56, 60, 84)] + [check_of(KEYS)])
+        self.desk(centre)
+        for name in os.listdir(self.folder):
+            with open(os.path.join(self.folder, name), "rb") as file:
+                self.assertNotIn(KEYS[:8], file.read())
 
     def test_killed_at_each_point(self):
-        approved = "approved 120.00 yuan, card %s, reference 000000000001, authorisation A00001" % MASKED
+        approved = "approved 120.00 yuan, card %s, reference 000000000002, authorisation A00002" % MASKED
         reversed_ = "reversed 120.00 yuan, card " + MASKED
         for point, told, ending in (
-                ("after-power:1", False, None), ("before-call:1", False, None), ("before-store:1", False, None),
-                ("during-store:3", False, None), ("after-store:1", False, reversed_), ("after-send:1", False, reversed_),
-                ("after-answer:1", False, reversed_), ("before-answer-store:1", False, reversed_), ("during-store:4", False, reversed_),
-                ("after-answer-store:1", False, approved), ("after-told:1", True, approved)):
+                ("after-power:1", False, None), ("before-call:2", False, None), ("before-store:2", False, None),
+                ("during-store:4", False, None), ("after-store:2", False, reversed_), ("after-send:2", False, reversed_),
+                ("after-answer:2", False, reversed_), ("before-answer-store:2", False, reversed_), ("during-store:5", False, reversed_),
+                ("after-answer-store:2", False, approved), ("after-told:1", True, approved)):
             with self.subTest(point):
                 self.store = os.path.join(self.folder, point)
                 centre = self.centre()
                 lines = self.desk(centre, "sale 12000 " + CARD, kill=point, status=-signal.SIGKILL)
-                self.assertEqual([line for line in lines if line.startswith("sale")], ["sale 000001: " + approved] if told else [])
+                self.assertEqual([line for line in lines if line.startswith("sale")], ["sale 000002: " + approved] if told else [])
                 lines = self.desk(centre, "counts")
-                self.assertEqual(lines[:-1], ["last request: " + ("sale 000001: " + ending if ending else "none"),
+                self.assertEqual(lines[:-1], ["signed on, batch 000001", "last request: " + ("sale 000002: " + ending if ending else "none"),
                                               *[totals(12000, 1)] * (ending == approved), "ready, batch 000001"])
-                left = ["0200"] * (ending is not None and point != "after-store:1") + ["0400"] * (ending == reversed_)
+                left = ["0200"] * (ending is not None and point != "after-store:2") + ["0400"] * (ending == reversed_)
                 self.assertEqual(centre.wait_for(len(left)), left)
 
     def test_killed_while_a_reversal_is_sent(self):
         self.time_out = SHORT
         centre = self.centre("silent", "silent", "silent", "silent")
-        self.desk(centre, "sale 12000 " + CARD, kill="after-send:3", status=-signal.SIGKILL)
+        self.desk(centre, "sale 12000 " + CARD, kill="after-send:4", status=-signal.SIGKILL)
         lines = self.desk(centre)
-        self.assertEqual(lines[0], "last request: sale 000001: given up 120.00 yuan, card %s; ask the centre" % MASKED)
+        self.assertEqual(lines[1], "last request: sale 000002: given up 120.00 yuan, card %s; ask the centre" % MASKED)
         self.assertEqual(centre.types(), ["0200", "0400", "0400", "0400"])
 
     def test_named_points_only_in_the_trial_build(self):
         with open(PROGRAMS["desk"], "rb") as program:
-            self.assertFalse(b"DESK_KILL" in program.read())
+            self.assertFalse(re.search(b"DESK_(KILL|KEYS)", program.read()))
 
     def test_second_desk_on_the_same_store(self):
         centre = self.centre()
-        with subprocess.Popen(self.arguments(centre), stdin=subprocess.PIPE, stdout=subprocess.PIPE, text=True) as first:
-            self.assertEqual([first.stdout.readline() for _ in range(2)], ["last request: none\n", "ready, batch 000001\n"])
+        with subprocess.Popen(self.arguments(centre), stdin=subprocess.PIPE, stdout=subprocess.PIPE, stderr=subprocess.DEVNULL,
+                              text=True) as first:
+            self.assertEqual([first.stdout.readline() for _ in range(3)],
+                             ["signed on, batch 000001\n", "last request: none\n", "ready, batch 000001\n"])
             self.assertEqual(self.desk(centre, "sale 1 " + CARD, status=3), [])
             self.assertEqual(self.error, "desk: %s: the store is in use by another desk or program\n" % self.store)
             out, _ = first.communicate("sale 100 %s\n" % CARD)
-            self.assertIn("sale 000001: approved 1.00 yuan", out)
+            self.assertIn("sale 000002: approved 1.00 yuan", out)
         self.assertEqual(first.returncode, 0)
 
     def test_store_writes_what_changed(self):
@@ -522,10 +705,10 @@ class DeskTest(unittest.TestCase):
         self.change("CREATE TABLE written (what)")
         self.change("CREATE TRIGGER entry AFTER INSERT ON journal BEGIN INSERT INTO written VALUES (new.place); END")
         self.change("CREATE TRIGGER image AFTER INSERT ON state BEGIN INSERT INTO written VALUES ('image'); END")
-        self.desk(centre, "sale 300 " + CARD, "sale 0 " + CARD, "sale-void 2", "sale-void 2")
+        self.desk(centre, "sale 300 " + CARD, "sale 0 " + CARD, "sale-void 3", "sale-void 3")
         self.assertEqual(self.change("SELECT what FROM written"),
-                         [("image",), ("image",), ("image",), ("image",), (2,), ("image",), ("image",), (1,), (3,)])
-        self.assertEqual(self.change("SELECT version FROM format"), [(3,)])
+                         [("image",), ("image",), ("image",), ("image",), ("image",), (2,), ("image",), ("image",), (1,), (3,)])
+        self.assertEqual(self.change("SELECT version FROM format"), [(4,)])
         self.assertEqual(os.stat(self.store).st_mode & 0o077, 0)
 
     def change(self, sql, *values):
@@ -547,7 +730,7 @@ class DeskTest(unittest.TestCase):
         self.assertEqual(self.desk(centre, "sale 100 " + CARD, status=3), [])
         self.assertEqual(self.error.count("\n"), 1)
         self.assertIn(message, self.error)
-        self.assertEqual(centre.asked, [])
+        self.assertEqual(centre.order, [])
         with open(self.store, "rb") as file:
             self.assertEqual(file.read(), before)
 
@@ -557,12 +740,12 @@ class DeskTest(unittest.TestCase):
                 ("cut", lambda: os.truncate(self.store, 9000), "the store is damaged"),
                 ("page", lambda: self.overwrite(b"\xff" * 4096, os.path.getsize(self.store) - 4096), "its integrity check fails"),
                 ("entry", lambda: self.change("UPDATE journal SET entry = ?", bytes.fromhex(
-                    "16000000 000001 000000012001 10 62220212345612340000 1116 413030303031 303030303030303030303031 00000000")),
+                    "16000000 000002 000000012001 10 62220212345612340000 1116 413030303032 303030303030303030303032 00000000")),
                  "have changed since they were stored"),
                 ("lost entry", lambda: self.change("DELETE FROM journal"), "have changed since they were stored"),
                 ("gap", lambda: self.change("UPDATE journal SET place = 5"), "its journal has gaps"),
                 ("no image", lambda: self.change("DELETE FROM state"), "it holds no image"),
-                ("format", lambda: self.change("UPDATE format SET version = 2"), "another format"),
+                ("format", lambda: self.change("UPDATE format SET version = 3"), "another format"),
                 ("other file", lambda: self.change("DROP TABLE format"), "no store of a desk")):
             with self.subTest(name):
                 self.store = os.path.join(self.folder, name)
@@ -581,12 +764,11 @@ class DeskTest(unittest.TestCase):
         self.assertEqual(self.desk(centre, status=3, file_size=1000), [])
         self.desk(centre, "sale 100 " + CARD)
         lines = self.desk(centre, *["sale 100 " + CARD] * 200, status=3, file_size=os.path.getsize(self.store))
-        self.assertEqual(self.error.count("\n"), 1)
-        self.assertIn("cannot be read or written", self.error)
+        self.assertRegex(self.error, r"\Asigning on\ndesk: .*cannot be read or written.*\n\Z")
         told = [line for line in lines if ": approved" in line and line.startswith("sale")]
-        self.assertEqual(len(lines), 3 + 2 * len(told))
+        self.assertEqual(len(lines), 4 + 2 * len(told))
         lines = self.desk(centre, "journal", "counts")
-        self.assertIn("reversed", lines[0])
+        self.assertIn("reversed", lines[1])
         self.assertIn("journal %d entries" % (1 + len(told)), lines)
 
     def test_settings_stay(self):
@@ -599,11 +781,11 @@ class DeskTest(unittest.TestCase):
             self.desk(None, options=(name, value), status=2)
             self.assertEqual(self.error, "desk: %s is not the setting with which the store was made\n" % name)
         lines = self.desk(self.centre(), "refund 501 %s 000000000005 1116" % CARD)
-        self.assertEqual(lines[2], "refused (17): a refund is above the setting")
+        self.assertEqual(lines[3], "refused (17): a refund is above the setting")
 
     def test_bad_options(self):
         for options in (("--limit", "0"), ("--limit", "301"), ("--sendings", "10"), ("--refund", "x"), ("--terminal", "short"),
-                        ("--merchant", "\x7f" * 15), ("--batch", "1000000"), ("--batch", ""), ("--batch", "0"), ("--limit",),
+                        ("--merchant", "\x7f" * 15), ("--batch", "1"), ("--limit",),
                         ("--what", "1"), ("--store", "again")):
             with self.subTest(options):
                 self.desk(None, options=options, status=2)
@@ -626,26 +808,27 @@ class DeskTest(unittest.TestCase):
                     "refund 1 %s 000000000005 116" % CARD, "settle now", "quit now",
                     "sale 100 %s" % CARD + " x" * 50, "x" * 10000, "sale 9" + "9" * 19 + " " + CARD, "sa\0le"]
         lines = self.desk(self.centre(), *commands)
-        self.assertEqual(len(lines), 2 + len(commands))
-        self.assertTrue(all(line.startswith("error: ") for line in lines[2:]), lines)
-        self.assertEqual(self.desk(self.centre(), "sale 0 " + CARD, "sale 1 123456789012", "sale-void 1", "quit", "counts")[2:], [
+        self.assertEqual(len(lines), 3 + len(commands))
+        self.assertTrue(all(line.startswith("error: ") for line in lines[3:]), lines)
+        self.assertEqual(self.desk(self.centre(), "sale 0 " + CARD, "sale 1 123456789012", "sale-void 1", "quit", "counts")[3:], [
             "refused (15): the amount is 0 or above 99999999.99 yuan", "refused (16): card, month, day or text is out of form",
             "refused (19): no sale or completion of this batch has that trace"])
 
     def test_help_names_every_command(self):
-        words = [line.split()[0] for line in self.desk(None, "help")[2:]]
+        words = [line.split()[0] for line in self.desk(None, "help")[3:]]
         self.assertEqual(words, ["sale", "sale-void", "refund", "authorise", "authorise-void", "complete", "complete-void",
-                                 "card-agrees", "card-declines", "settle", "counts", "totals", "state", "journal", "doubtful", "help", "quit", "#"])
+                                 "card-agrees", "card-declines", "sign-on", "settle", "counts", "totals", "state", "journal", "doubtful", "help",
+                                 "quit", "#"])
 
     def test_progress_while_it_waits(self):
         self.time_out = "1.5"
         self.desk(self.centre("silent"), "sale 100 " + CARD, options=("--sendings", "1"))
-        self.assertEqual(self.error, "waiting for the centre, at most 1 s\nreversal, sending 1 of 1\n")
+        self.assertEqual(self.error, "signing on\nwaiting for the centre, at most 1 s\nreversal, sending 1 of 1\n")
 
     def test_output_that_cannot_be_written(self):
         with open("/dev/full", "w") as full:
             ran = subprocess.run(self.arguments(None), stdout=full, stderr=subprocess.PIPE, text=True, input="counts\n")
-        self.assertEqual((ran.returncode, ran.stderr), (1, "desk: standard output cannot be written\n"))
+        self.assertEqual((ran.returncode, ran.stderr), (1, "signing on\ndesk: standard output cannot be written\n"))
 
 
 class HeaderTest(unittest.TestCase):

@@ -31,11 +31,16 @@ static const uint8_t authorisation[6] = {'B', '0', '0', '0', '0', '1'};
 static const uint8_t reference[12] = {'0', '0', '0', '0', '0', '0', '0', '0', '0', '0', '7', '7'};
 /* Field 55: two elements. */
 static const uint8_t field_55[8] = {0x9F, 0x26, 0x02, 0xA1, 0xB2, 0x95, 0x01, 0x00};
+/* The lengths of field 62. */
+static const size_t key_sizes[5] = {24, 40, 56, 60, WHISTLAUREL_MOST_KEY_BYTES};
 static unsigned failures;
 
 static void sizes(void);
 static void settings(void);
 static void first_rows(void);
+static void sign_on_at_rest(void);
+static void sign_on_over_a_reversal(void);
+static void sign_on_over_a_closing(void);
 static void reversal_phases(void);
 static void card_phases(void);
 static void closing_phases(void);
@@ -46,6 +51,7 @@ static void refusals_of_messages(void);
 static void refusals_of_phase(void);
 static void refusals_of_requests(void);
 static void refusals_of_chips(void);
+static void refusals_of_sign_ons(void);
 static void refusal_of_totals(void);
 static void refusals_of_sums(void);
 
@@ -54,6 +60,9 @@ int main(void)
     sizes();
     settings();
     first_rows();
+    sign_on_at_rest();
+    sign_on_over_a_reversal();
+    sign_on_over_a_closing();
     reversal_phases();
     card_phases();
     closing_phases();
@@ -64,6 +73,7 @@ int main(void)
     refusals_of_phase();
     refusals_of_requests();
     refusals_of_chips();
+    refusals_of_sign_ons();
     refusal_of_totals();
     refusals_of_sums();
     printf("header_test: %s\n", failures == 0 ? "every constant holds" : "failed");
@@ -88,14 +98,12 @@ static uint64_t number(const struct terminal *t, enum whistlaurel_row row)
     return n;
 }
 
-/* A fresh terminal, signed on. */
-static struct terminal terminal_of(uint32_t limit, uint8_t sendings)
+/* A fresh terminal, signed off. */
+static struct terminal fresh_terminal(uint32_t limit, uint8_t sendings)
 {
     struct terminal t = {.length = 1};
 
     HOLDS(whistlaurel_fresh(t.image, sizeof t.image, limit, sendings, 100000, field_41, field_42) == 0);
-    HOLDS(whistlaurel_signed_on(LENT(&t), FIRST_BATCH) == WHISTLAUREL_QUIET);
-    HOLDS(t.length == 0);
     return t;
 }
 
@@ -165,6 +173,50 @@ static uint8_t reply(struct terminal *t, const char *code, unsigned digit, bool 
 
     HOLDS(whistlaurel_read(a.bytes, a.size) == WHISTLAUREL_QUIET);
     return whistlaurel_answer(LENT(t), a.bytes, a.size, mac_is_good);
+}
+
+/* The answer to a sign-on that left, with a code, a batch number below 10 and a field 62 of so many bytes, none for 0. */
+static struct answer sign_on_answer(const struct terminal *t, const char *code, unsigned batch, size_t keys_size)
+{
+    struct answer a = {.bytes = {0x08, 0x10}, .size = 10};
+    const uint8_t field_60[8] = {0x00, 0x11, 0x00, 0x00, 0x00, (uint8_t)batch, 0x00, 0x30};
+    uint8_t field_62[2 + 99] = {0x00, (uint8_t)(keys_size / 10 * 16 + keys_size % 10)};
+
+    for (size_t i = 0; i < keys_size; i++) {
+        field_62[2 + i] = (uint8_t)(0xFF - i);
+    }
+    copy(&a, t, 11);
+    put(&a, 39, code, 2);
+    copy(&a, t, 41);
+    copy(&a, t, 42);
+    put(&a, 60, field_60, sizeof field_60);
+    if (keys_size > 0) {
+        put(&a, 62, field_62, 2 + keys_size);
+    }
+    return a;
+}
+
+static uint8_t reply_to_sign_on(struct terminal *t, const char *code, unsigned batch, size_t keys_size)
+{
+    struct answer a = sign_on_answer(t, code, batch, keys_size);
+
+    return whistlaurel_answer(LENT(t), a.bytes, a.size, false);
+}
+
+static void sign_on(struct terminal *t, unsigned batch)
+{
+    HOLDS(whistlaurel_sign_on(LENT(t)) == WHISTLAUREL_SENDS);
+    HOLDS(reply_to_sign_on(t, "00", batch, key_sizes[0]) == WHISTLAUREL_QUIET && t->length == 0);
+    HOLDS(number(t, WHISTLAUREL_IS_SIGNED_ON) == 1);
+}
+
+/* A fresh terminal, signed on. Its next trace is 2. */
+static struct terminal terminal_of(uint32_t limit, uint8_t sendings)
+{
+    struct terminal t = fresh_terminal(limit, sendings);
+
+    sign_on(&t, FIRST_BATCH);
+    return t;
 }
 
 static void approve(struct terminal *t, enum whistlaurel_kind kind, uint64_t amount, uint32_t original)
@@ -252,7 +304,7 @@ static void first_rows(void)
     struct terminal t = terminal_of(10, 2);
     uint64_t n;
 
-    HOLDS(number(&t, WHISTLAUREL_VERSION) == 3 && word_of(t.image, 2) == 3);
+    HOLDS(number(&t, WHISTLAUREL_VERSION) == 4 && word_of(t.image, 2) == 4);
     HOLDS(number(&t, WHISTLAUREL_ENTRY_LIMIT) == 10);
     HOLDS(number(&t, WHISTLAUREL_SENDINGS) == 2);
     HOLDS(number(&t, WHISTLAUREL_REFUND_LIMIT) == 100000);
@@ -261,18 +313,121 @@ static void first_rows(void)
     HOLDS(number(&t, WHISTLAUREL_FIELD_42_REST) == word_of(field_42 + 8, 7));
     HOLDS(number(&t, WHISTLAUREL_IS_SIGNED_ON) == 1);
     HOLDS(number(&t, WHISTLAUREL_BATCH) == FIRST_BATCH);
-    HOLDS(number(&t, WHISTLAUREL_NEXT_TRACE) == 1);
+    HOLDS(number(&t, WHISTLAUREL_NEXT_TRACE) == 2);
     HOLDS(number(&t, WHISTLAUREL_ENTRIES) == 0);
     totals_are(&t, (uint64_t[4]){0});
     phase_is(&t, WHISTLAUREL_RESTING, (uint64_t[WHISTLAUREL_ROWS]){0});
     HOLDS(whistlaurel_number(t.image, sizeof t.image, WHISTLAUREL_ROWS, &n) == WHISTLAUREL_OUT_OF_FORM);
     approve(&t, WHISTLAUREL_SALE, 12000, 0);
-    HOLDS(number(&t, WHISTLAUREL_NEXT_TRACE) == 2);
+    HOLDS(number(&t, WHISTLAUREL_NEXT_TRACE) == 3);
     HOLDS(number(&t, WHISTLAUREL_ENTRIES) == 1);
     totals_are(&t, (uint64_t[4]){12000, 1, 0, 0});
     HOLDS(whistlaurel_power_returned(LENT(&t)) == WHISTLAUREL_QUIET);
     HOLDS(number(&t, WHISTLAUREL_IS_SIGNED_ON) == 0);
     totals_are(&t, (uint64_t[4]){12000, 1, 0, 0});
+}
+
+/* A sign-on is awaited with this trace, and leaves the phase and its rows as they are. */
+static void sign_on_awaited(struct terminal *t, uint64_t trace, enum whistlaurel_phase phase, uint64_t rows[WHISTLAUREL_ROWS])
+{
+    HOLDS(whistlaurel_sign_on(LENT(t)) == WHISTLAUREL_SENDS && word_of(t->message, 2) == 0x0800);
+    rows[WHISTLAUREL_SIGN_ON_AWAITED] = trace;
+    phase_is(t, phase, rows);
+    rows[WHISTLAUREL_SIGN_ON_AWAITED] = 0;
+}
+
+/* The message, each way in which a sign-on ends, and the keys in each length. */
+static void sign_on_at_rest(void)
+{
+    struct terminal t = fresh_terminal(10, 2);
+    uint64_t rows[WHISTLAUREL_ROWS] = {0};
+    uint8_t field[WHISTLAUREL_MOST_KEY_BYTES];
+    size_t count = 0;
+
+    sign_on_awaited(&t, 1, WHISTLAUREL_RESTING, rows);
+    HOLDS(t.length == 44 && whistlaurel_field(t.message, t.length, 60, field, sizeof field, &count) == 0 && count == 11);
+    HOLDS(memcmp(field, "\x00\x00\x00\x01\x00\x30", 6) == 0);
+    HOLDS(reply_to_sign_on(&t, "96", 0, 0) == WHISTLAUREL_QUIET);
+    phase_is(&t, WHISTLAUREL_RESTING, rows);
+    sign_on_awaited(&t, 2, WHISTLAUREL_RESTING, rows);
+    HOLDS(whistlaurel_no_answer(LENT(&t)) == WHISTLAUREL_QUIET);
+    HOLDS(number(&t, WHISTLAUREL_IS_SIGNED_ON) == 0 && number(&t, WHISTLAUREL_BATCH) == 1);
+    for (unsigned i = 0; i < 5; i++) {
+        struct answer a;
+
+        sign_on_awaited(&t, 3 + i, WHISTLAUREL_RESTING, rows);
+        a = sign_on_answer(&t, "00", 2 + i, key_sizes[i]);
+        HOLDS(whistlaurel_answer(LENT(&t), a.bytes, a.size, i % 2 == 0) == WHISTLAUREL_QUIET);
+        HOLDS(number(&t, WHISTLAUREL_IS_SIGNED_ON) == 1 && number(&t, WHISTLAUREL_BATCH) == 2 + i);
+        HOLDS(whistlaurel_field(a.bytes, a.size, 62, field, key_sizes[i] - 1, &count) == WHISTLAUREL_BUFFER_TOO_SHORT);
+        HOLDS(whistlaurel_field(a.bytes, a.size, 62, field, key_sizes[i], &count) == 0 && count == key_sizes[i]);
+        HOLDS(memcmp(field, a.bytes + a.size - count, count) == 0);
+    }
+    sign_on_awaited(&t, 8, WHISTLAUREL_RESTING, rows);
+    HOLDS(reply_to_sign_on(&t, "96", 0, 0) == WHISTLAUREL_QUIET && number(&t, WHISTLAUREL_IS_SIGNED_ON) == 1);
+    counts_are(&t, (uint64_t[6]){0});
+}
+
+/* Over a pending reversal: silence, power and an answer leave it as it is, and the batch number stays. */
+static void sign_on_over_a_reversal(void)
+{
+    struct terminal t = terminal_of(10, 2);
+    uint64_t rows[WHISTLAUREL_ROWS] = {
+        [WHISTLAUREL_REQUEST_KIND] = WHISTLAUREL_SALE,   [WHISTLAUREL_REQUEST_AMOUNT] = 100,
+        [WHISTLAUREL_REQUEST_CARD_NUMBER] = CARD,        [WHISTLAUREL_REQUEST_CARD_LENGTH] = CARD_LENGTH,
+        [WHISTLAUREL_REQUEST_TRACE] = 2,                 [WHISTLAUREL_REVERSAL_SENDINGS] = 1,
+    };
+
+    HOLDS(start(&t, WHISTLAUREL_SALE, 100, 0) == WHISTLAUREL_SENDS);
+    HOLDS(whistlaurel_no_answer(LENT(&t)) == WHISTLAUREL_QUIET);
+    HOLDS(whistlaurel_send_reversal(LENT(&t)) == WHISTLAUREL_SENDS);
+    HOLDS(whistlaurel_power_returned(LENT(&t)) == WHISTLAUREL_QUIET);
+    HOLDS(whistlaurel_send_reversal(LENT(&t)) == WHISTLAUREL_SIGNED_OFF);
+    sign_on_awaited(&t, 3, WHISTLAUREL_PENDING, rows);
+    HOLDS(whistlaurel_no_answer(LENT(&t)) == WHISTLAUREL_QUIET);
+    phase_is(&t, WHISTLAUREL_PENDING, rows);
+    sign_on_awaited(&t, 4, WHISTLAUREL_PENDING, rows);
+    HOLDS(reply_to_sign_on(&t, "00", FIRST_BATCH + 1, 24) == WHISTLAUREL_QUIET);
+    phase_is(&t, WHISTLAUREL_PENDING, rows);
+    HOLDS(number(&t, WHISTLAUREL_IS_SIGNED_ON) == 1 && number(&t, WHISTLAUREL_BATCH) == FIRST_BATCH);
+    sign_on_awaited(&t, 5, WHISTLAUREL_PENDING, rows);
+    HOLDS(whistlaurel_power_returned(LENT(&t)) == WHISTLAUREL_QUIET);
+    phase_is(&t, WHISTLAUREL_PENDING, rows);
+    HOLDS(number(&t, WHISTLAUREL_IS_SIGNED_ON) == 0);
+    sign_on(&t, FIRST_BATCH + 1);
+    HOLDS(whistlaurel_send_reversal(LENT(&t)) == WHISTLAUREL_SENDS);
+    HOLDS(reply(&t, "00", 0, true) == WHISTLAUREL_QUIET);
+    counts_are(&t, (uint64_t[]){1, 0, 0, 1, 0, 0});
+    sign_on(&t, FIRST_BATCH + 1);
+    HOLDS(number(&t, WHISTLAUREL_BATCH) == FIRST_BATCH);
+}
+
+/* While settling and while uploading; a closed batch takes the centre's number. */
+static void sign_on_over_a_closing(void)
+{
+    struct terminal t = terminal_of(10, 2);
+    uint64_t rows[WHISTLAUREL_ROWS] = {0};
+
+    approve(&t, WHISTLAUREL_SALE, 100, 0);
+    HOLDS(whistlaurel_settle(LENT(&t)) == WHISTLAUREL_SENDS);
+    HOLDS(whistlaurel_power_returned(LENT(&t)) == WHISTLAUREL_QUIET);
+    sign_on_awaited(&t, 4, WHISTLAUREL_SETTLING, rows);
+    HOLDS(reply_to_sign_on(&t, "00", FIRST_BATCH + 1, 24) == WHISTLAUREL_QUIET);
+    HOLDS(whistlaurel_settle(LENT(&t)) == WHISTLAUREL_SENDS);
+    HOLDS(reply(&t, "00", 2, true) == WHISTLAUREL_QUIET);
+    HOLDS(whistlaurel_send_next_upload(LENT(&t)) == WHISTLAUREL_SENDS);
+    HOLDS(whistlaurel_power_returned(LENT(&t)) == WHISTLAUREL_QUIET);
+    sign_on_awaited(&t, 6, WHISTLAUREL_UPLOADING, rows);
+    HOLDS(reply_to_sign_on(&t, "00", FIRST_BATCH + 1, 24) == WHISTLAUREL_QUIET);
+    phase_is(&t, WHISTLAUREL_UPLOADING, rows);
+    HOLDS(t.journal[WHISTLAUREL_ENTRY_MARK] == 1 && number(&t, WHISTLAUREL_BATCH) == FIRST_BATCH);
+    for (int message = 0; message < 2; message++) {
+        HOLDS(whistlaurel_send_next_upload(LENT(&t)) == WHISTLAUREL_SENDS);
+        HOLDS(reply(&t, "00", 0, true) == WHISTLAUREL_QUIET);
+    }
+    HOLDS(number(&t, WHISTLAUREL_IS_SIGNED_ON) == 0 && number(&t, WHISTLAUREL_BATCH) == FIRST_BATCH + 1);
+    sign_on(&t, 9);
+    HOLDS(number(&t, WHISTLAUREL_BATCH) == 9);
 }
 
 /* A request and its reversal: awaited, pending, reversal awaited; by silence and by a bad MAC. */
@@ -282,11 +437,11 @@ static void reversal_phases(void)
     uint64_t rows[WHISTLAUREL_ROWS] = {
         [WHISTLAUREL_REQUEST_KIND] = WHISTLAUREL_SALE_VOID,      [WHISTLAUREL_REQUEST_AMOUNT] = 12000,
         [WHISTLAUREL_REQUEST_CARD_NUMBER] = CARD,                [WHISTLAUREL_REQUEST_CARD_LENGTH] = CARD_LENGTH,
-        [WHISTLAUREL_REQUEST_TRACE] = 2,                         [WHISTLAUREL_REQUEST_ORIGINAL] = 1,
+        [WHISTLAUREL_REQUEST_TRACE] = 3,                         [WHISTLAUREL_REQUEST_ORIGINAL] = 2,
     };
 
     approve(&t, WHISTLAUREL_SALE, 12000, 0);
-    HOLDS(start(&t, WHISTLAUREL_SALE_VOID, 0, 1) == WHISTLAUREL_SENDS);
+    HOLDS(start(&t, WHISTLAUREL_SALE_VOID, 0, 2) == WHISTLAUREL_SENDS);
     phase_is(&t, WHISTLAUREL_REQUEST_AWAITED, rows);
     HOLDS(whistlaurel_no_answer(LENT(&t)) == WHISTLAUREL_QUIET);
     phase_is(&t, WHISTLAUREL_PENDING, rows);
@@ -332,7 +487,7 @@ static void card_phases(void)
     uint64_t rows[WHISTLAUREL_ROWS] = {
         [WHISTLAUREL_REQUEST_KIND] = WHISTLAUREL_SALE,   [WHISTLAUREL_REQUEST_AMOUNT] = 100,
         [WHISTLAUREL_REQUEST_CARD_NUMBER] = CARD,        [WHISTLAUREL_REQUEST_CARD_LENGTH] = CARD_LENGTH,
-        [WHISTLAUREL_REQUEST_TRACE] = 1,                 [WHISTLAUREL_CHIP_LENGTH] = sizeof field_55,
+        [WHISTLAUREL_REQUEST_TRACE] = 2,                 [WHISTLAUREL_CHIP_LENGTH] = sizeof field_55,
     };
 
     HOLDS(start_chip(&t, WHISTLAUREL_SALE, field_55, sizeof field_55) == WHISTLAUREL_SENDS);
@@ -350,7 +505,7 @@ static void card_phases(void)
     HOLDS(start_chip(&t, WHISTLAUREL_SALE, field_55, sizeof field_55) == WHISTLAUREL_SENDS);
     HOLDS(reply(&t, "00", 0, true) == WHISTLAUREL_QUIET);
     HOLDS(whistlaurel_card_declines(LENT(&t)) == WHISTLAUREL_QUIET);
-    rows[WHISTLAUREL_REQUEST_TRACE] = 2;
+    rows[WHISTLAUREL_REQUEST_TRACE] = 3;
     rows[WHISTLAUREL_REVERSAL_REASON] = 2;
     rows[WHISTLAUREL_CARD_AWAITED] = 0;
     phase_is(&t, WHISTLAUREL_PENDING, rows);
@@ -380,7 +535,7 @@ static void settlement_carries(const struct terminal *t, const char sums[15])
 static void closing_phases(void)
 {
     struct terminal t = terminal_of(10, 1);
-    uint64_t rows[WHISTLAUREL_ROWS] = {[WHISTLAUREL_OTHER] = 4};
+    uint64_t rows[WHISTLAUREL_ROWS] = {[WHISTLAUREL_OTHER] = 5};
     const uint8_t *second = t.journal + WHISTLAUREL_ENTRY_SIZE;
     const uint8_t *third = second + WHISTLAUREL_ENTRY_SIZE;
 
@@ -412,7 +567,7 @@ static void closing_phases(void)
     HOLDS(whistlaurel_no_answer(LENT(&t)) == WHISTLAUREL_QUIET);
     HOLDS(second[WHISTLAUREL_ENTRY_MARK] == 4);
     HOLDS(whistlaurel_send_next_upload(LENT(&t)) == WHISTLAUREL_SENDS);
-    rows[WHISTLAUREL_OTHER] = 6;
+    rows[WHISTLAUREL_OTHER] = 7;
     phase_is(&t, WHISTLAUREL_END_AWAITED, rows);
     totals_are(&t, (uint64_t[4]){300, 2, 300, 1});
     HOLDS(reply(&t, "00", 0, true) == WHISTLAUREL_QUIET);
@@ -448,8 +603,8 @@ static void kinds(void)
 
     kind_leaves(&t, WHISTLAUREL_SALE, 0, 0x0200, 1);
     kind_leaves(&t, WHISTLAUREL_COMPLETION, 0, 0x0200, 1);
-    kind_leaves(&t, WHISTLAUREL_SALE_VOID, 1, 0x0200, 2);
-    kind_leaves(&t, WHISTLAUREL_COMPLETION_VOID, 2, 0x0200, 2);
+    kind_leaves(&t, WHISTLAUREL_SALE_VOID, 2, 0x0200, 2);
+    kind_leaves(&t, WHISTLAUREL_COMPLETION_VOID, 3, 0x0200, 2);
     kind_leaves(&t, WHISTLAUREL_REFUND, 0, 0x0220, 2);
     kind_leaves(&t, WHISTLAUREL_AUTHORISATION, 0, 0x0100, 0);
     kind_leaves(&t, WHISTLAUREL_AUTHORISATION_VOID, 0, 0x0100, 0);
@@ -463,7 +618,7 @@ static void entries(void)
     approve(&t, WHISTLAUREL_SALE, 12000, 0);
     HOLDS(e[WHISTLAUREL_ENTRY_KIND] == WHISTLAUREL_SALE);
     HOLDS(e[WHISTLAUREL_ENTRY_VOIDED] == 0);
-    HOLDS(memcmp(e + WHISTLAUREL_ENTRY_TRACE, "\x00\x00\x01", 3) == 0);
+    HOLDS(memcmp(e + WHISTLAUREL_ENTRY_TRACE, "\x00\x00\x02", 3) == 0);
     HOLDS(memcmp(e + WHISTLAUREL_ENTRY_AMOUNT, "\x00\x00\x00\x01\x20\x00", 6) == 0);
     HOLDS(e[WHISTLAUREL_ENTRY_CARD_LENGTH] == CARD_LENGTH);
     HOLDS(memcmp(e + WHISTLAUREL_ENTRY_CARD, "\x62\x22\x02\x12\x34\x56\x12\x34\x00\x00", 10) == 0);
@@ -471,7 +626,7 @@ static void entries(void)
     HOLDS(memcmp(e + WHISTLAUREL_ENTRY_AUTHORISATION, "A00012", 6) == 0);
     HOLDS(memcmp(e + WHISTLAUREL_ENTRY_REFERENCE, "000000000012", 12) == 0);
     HOLDS(WHISTLAUREL_ENTRY_REFERENCE + 12 + 4 == WHISTLAUREL_ENTRY_SIZE);
-    approve(&t, WHISTLAUREL_SALE_VOID, 0, 1);
+    approve(&t, WHISTLAUREL_SALE_VOID, 0, 2);
     HOLDS(e[WHISTLAUREL_ENTRY_VOIDED] == 1);
 }
 
@@ -520,6 +675,8 @@ static void refusals_of_messages(void)
     refused_message(&t, 39, "000", 3, WHISTLAUREL_BYTES_FOLLOW);
     refused_message(&t, 55, "\x00\x00", 2, WHISTLAUREL_LENGTH_NOT_ALLOWED);
     refused_message(&t, 55, "\x00\x02\x95\x01", 4, WHISTLAUREL_CHIP_OUT_OF_FORM);
+    refused_message(&t, 62, "\x00\x00", 2, WHISTLAUREL_KEYS_OUT_OF_FORM);
+    refused_message(&t, 62, "\x00\x24", 2, WHISTLAUREL_MESSAGE_ENDS);
 }
 
 static void refusals_of_phase(void)
@@ -541,7 +698,7 @@ static void refusals_of_phase(void)
     HOLDS(whistlaurel_settle(LENT(&t)) == WHISTLAUREL_SENDS);
     HOLDS(whistlaurel_power_returned(LENT(&t)) == WHISTLAUREL_QUIET);
     HOLDS(start(&t, WHISTLAUREL_SALE, 100, 0) == WHISTLAUREL_SIGNED_OFF);
-    HOLDS(whistlaurel_signed_on(LENT(&t), FIRST_BATCH) == WHISTLAUREL_QUIET);
+    sign_on(&t, FIRST_BATCH);
     HOLDS(start(&t, WHISTLAUREL_SALE, 100, 0) == WHISTLAUREL_BATCH_CLOSING);
 }
 
@@ -558,8 +715,8 @@ static void refusals_of_requests(void)
     HOLDS(start(&t, WHISTLAUREL_SALE_VOID, 0, 1) == WHISTLAUREL_NO_ORIGINAL);
     HOLDS(memcmp(image, t.image, sizeof image) == 0 && t.length == 0);
     approve(&t, WHISTLAUREL_SALE, AMOUNT_MOST, 0);
-    approve(&t, WHISTLAUREL_SALE_VOID, 0, 1);
-    HOLDS(start(&t, WHISTLAUREL_SALE_VOID, 0, 1) == WHISTLAUREL_VOIDED_ALREADY);
+    approve(&t, WHISTLAUREL_SALE_VOID, 0, 2);
+    HOLDS(start(&t, WHISTLAUREL_SALE_VOID, 0, 2) == WHISTLAUREL_VOIDED_ALREADY);
     approve(&t, WHISTLAUREL_REFUND, 100000, 0);
     HOLDS(start(&t, WHISTLAUREL_SALE, 100, 0) == WHISTLAUREL_JOURNAL_FULL);
 }
@@ -589,6 +746,34 @@ static void refusals_of_chips(void)
     HOLDS(start(&t, WHISTLAUREL_SALE, 100, 0) == WHISTLAUREL_AWAITED);
     HOLDS(whistlaurel_card_agrees(LENT(&t)) == WHISTLAUREL_QUIET);
     HOLDS(whistlaurel_card_declines(LENT(&t)) == WHISTLAUREL_NOTHING_TO_DO);
+}
+
+/* A sign-on is refused while something is awaited, its own answer too; an answer to it that is refused leaves it awaited. */
+static void refusals_of_sign_ons(void)
+{
+    struct terminal t = terminal_of(10, 3);
+    uint8_t image[WHISTLAUREL_IMAGE_SIZE];
+    struct answer declined;
+    struct answer unfit[4];
+
+    HOLDS(start(&t, WHISTLAUREL_SALE, 100, 0) == WHISTLAUREL_SENDS);
+    declined = answer_to(&t, "51", 0);
+    HOLDS(whistlaurel_sign_on(LENT(&t)) == WHISTLAUREL_AWAITED);
+    HOLDS(whistlaurel_answer(LENT(&t), declined.bytes, declined.size, true) == WHISTLAUREL_QUIET);
+    HOLDS(whistlaurel_sign_on(LENT(&t)) == WHISTLAUREL_SENDS);
+    memcpy(image, t.image, sizeof image);
+    unfit[0] = sign_on_answer(&t, "00", 0, 24);
+    unfit[1] = sign_on_answer(&t, "00", FIRST_BATCH, 0);
+    unfit[2] = sign_on_answer(&t, "00", FIRST_BATCH, 23);
+    unfit[3] = sign_on_answer(&t, "96", FIRST_BATCH, WHISTLAUREL_MOST_KEY_BYTES + 1);
+    for (int i = 0; i < 4; i++) {
+        HOLDS(whistlaurel_answer(LENT(&t), unfit[i].bytes, unfit[i].size, true) ==
+              (i < 2 ? WHISTLAUREL_ANSWER_NOT_MATCHING : WHISTLAUREL_KEYS_OUT_OF_FORM));
+    }
+    HOLDS(whistlaurel_sign_on(LENT(&t)) == WHISTLAUREL_AWAITED);
+    HOLDS(start(&t, WHISTLAUREL_SALE, 100, 0) == WHISTLAUREL_AWAITED);
+    HOLDS(whistlaurel_settle(LENT(&t)) == WHISTLAUREL_AWAITED);
+    HOLDS(memcmp(image, t.image, sizeof image) == 0 && number(&t, WHISTLAUREL_SIGN_ON_AWAITED) == 3);
 }
 
 static void refusal_of_totals(void)

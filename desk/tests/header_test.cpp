@@ -14,18 +14,21 @@ int main()
     std::vector<uint8_t> journal(WHISTLAUREL_ENTRY_SIZE * WHISTLAUREL_MOST_ENTRIES);
     size_t length = 0;
     uint64_t phase = WHISTLAUREL_PENDING;
+    uint64_t trace = 0;
 
     bool good = whistlaurel_fresh(image.data(), image.size(), WHISTLAUREL_MOST_ENTRIES, WHISTLAUREL_MOST_SENDINGS,
                                   WHISTLAUREL_LARGEST_REFUND, terminal.data(), merchant.data()) == WHISTLAUREL_QUIET;
-    good = good && whistlaurel_signed_on(image.data(), image.size(), journal.data(), journal.size(), message.data(), message.size(),
-                                         &length, 1) == WHISTLAUREL_QUIET;
     good = good && whistlaurel_card_agrees(image.data(), image.size(), journal.data(), journal.size(), message.data(), message.size(),
                                            &length) == WHISTLAUREL_NOTHING_TO_DO;
     good = good && whistlaurel_settle(image.data(), image.size(), journal.data(), journal.size(), message.data(), message.size(),
-                                      &length) == WHISTLAUREL_SENDS;
+                                      &length) == WHISTLAUREL_SIGNED_OFF;
+    good = good && whistlaurel_sign_on(image.data(), image.size(), journal.data(), journal.size(), message.data(), message.size(),
+                                       &length) == WHISTLAUREL_SENDS;
     good = good && whistlaurel_read(message.data(), length) == WHISTLAUREL_QUIET;
     good = good && whistlaurel_number(image.data(), image.size(), WHISTLAUREL_PHASE, &phase) == WHISTLAUREL_QUIET;
-    good = good && phase == WHISTLAUREL_SETTLEMENT_AWAITED;
+    good = good && phase == WHISTLAUREL_RESTING;
+    good = good && whistlaurel_number(image.data(), image.size(), WHISTLAUREL_SIGN_ON_AWAITED, &trace) == WHISTLAUREL_QUIET;
+    good = good && trace == 1;
     std::printf("header_test_cpp: %s\n", good ? "compiles and links" : "failed");
     return good ? 0 : 1;
 }
