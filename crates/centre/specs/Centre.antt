@@ -1,7 +1,8 @@
 -- The simulated centre: what it answers to a message that left.
 use mathlib.Core.List.{List, [], _∷_, _++_}
 use mathlib.Core.Bool.{cond}
-use Prim.Native.Nat.{ℕ}
+use Prim.Native.Nat.{ℕ, _+_, _*_}
+use lib.Dec.{leb, eqb}
 use lib.ListN.{replicate}
 use Rattle.digits.specs.Digits.{pack}
 use Rattle.digits.specs.Numbers.{digitsOf}
@@ -14,7 +15,7 @@ use Rattle.compose.specs.Compose.{withAll}
 use Rattle.hexadecimal.specs.Hexadecimal.{toHex}
 use Rattle.centre_types.specs.Types.{leftAs, answerType, isApproval}
 use Rattle.centre_types.specs.declared.Left.{Left}
-use Rattle.centre_types.specs.declared.Left.the-variants.{Nothing, Request, Reversal, Settlement, Upload}
+use Rattle.centre_types.specs.declared.Left.the-variants.{Nothing, Request, Reversal, Settlement, Upload, SignOn}
 use Rattle.centre_totals.specs.Totals.{field48With}
 
 -- k digits of field n as a number, from digit i on
@@ -28,9 +29,13 @@ digitsSent n k m = digits n (digitsOf k (sentNumber n 0 k m))
 abbrev pub bytesSent : ℕ → ℕ → Message → Item
 bytesSent n k m = bytes n (cond (copies m n k) (fieldOf m n .bytes) (replicate k 0x20))
 
+-- fields 11, 41, 42 as sent
+abbrev pub ownFields : Message → List Item
+ownFields m = digitsSent 11 6 m ∷ bytesSent 41 8 m ∷ bytesSent 42 15 m ∷ []
+
 -- fields 11, 41, 42, 60 as sent
 abbrev pub sentFields : Message → List Item
-sentFields m = digitsSent 11 6 m ∷ bytesSent 41 8 m ∷ bytesSent 42 15 m ∷ digitsSent 60 11 m ∷ []
+sentFields m = ownFields m ++ (digitsSent 60 11 m ∷ [])
 
 -- the trace as so many digits
 abbrev pub traceFigures : ℕ → Message → List ℕ
@@ -59,13 +64,33 @@ alsoTo Request m date code = approvalFields m date code
 alsoTo Reversal m date code = macField
 alsoTo Settlement m date code = []
 alsoTo Upload m date code = []
+alsoTo SignOn m date code = []
 
 -- its type plus 10, fields 11, 41, 42, 60 as sent, 39 = code
 abbrev pub replyFields : Message → ℕ → List ℕ → List Item
 replyFields m date code = sentFields m ++ (bytes 39 code ∷ alsoTo (leftAs (m .indicator)) m date code)
 
-unfoldable pub reply : Message → ℕ → List ℕ → Message
-reply m date code = withAll (replyFields m date code) (messageOf (answerType (m .indicator)) [])
+unfoldable pub usualReply : Message → ℕ → List ℕ → Message
+usualReply m date code = withAll (replyFields m date code) (messageOf (answerType (m .indicator)) [])
+
+-- document 02, request 3: field 60 of the answer to a sign-on is 00, the centre's batch number, 003; a batch number above 999999 stands for
+-- the number that the request carried
+unfoldable pub broughtNumber : ℕ → Message → ℕ
+broughtNumber batch m = cond (leb batch 999999) (batch * 1000 + 3) (sentNumber 60 0 11 m)
+
+-- 62 when the code is 00: key material of 24 zero bytes
+abbrev pub keyField : List ℕ → List Item
+keyField code = cond (isApproval code) (bytes 62 (replicate 24 0) ∷ []) []
+
+-- 0810 with 11, 41, 42 as sent, 39 = code, 60 and 62
+abbrev pub signOnFields : Message → ℕ → List ℕ → List Item
+signOnFields m batch code = ownFields m ++ (digits 60 (digitsOf 11 (broughtNumber batch m)) ∷ bytes 39 code ∷ keyField code)
+
+unfoldable pub signOnReply : Message → ℕ → List ℕ → Message
+signOnReply m batch code = withAll (signOnFields m batch code) (messageOf 0x0810 [])
+
+unfoldable pub reply : Message → ℕ → ℕ → List ℕ → Message
+reply m date batch code = cond (eqb (m .indicator) 0x0800) (signOnReply m batch code) (usualReply m date code)
 
 -- 11, 41, 42, 48 as sent with this digit, 60
 abbrev pub reconciliationFields : Message → ℕ → List Item

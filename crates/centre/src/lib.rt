@@ -9,11 +9,22 @@ ghost use Rattle.message.specs.Message.{whole};
 ghost use Rattle.message.specs.Build.{digits, bytes};
 ghost use Rattle.compose.specs.Compose.{withItem, withAll};
 ghost use Rattle.centre_totals.specs.Totals.{field48With};
-ghost use Rattle.centre.specs.Centre.{sentNumber, digitsSent, bytesSent, sentFields, traceFigures, macField, authorisationField, approvalFields, alsoTo, reply, reconciliation};
+ghost use Rattle.centre.specs.Centre.{sentNumber, digitsSent, bytesSent, ownFields, sentFields, traceFigures, macField, authorisationField, approvalFields, alsoTo, usualReply, broughtNumber, keyField, signOnReply, reply, reconciliation};
 
-// The answer to a message that left, with this code and on this date.
-pub fn reply(sent: Message, date: u16, code: [u8; 2]) -> Message
-    ensures { λ r. ⌜ r ≡ reply sent date code ⌝ }
+// The answer to a message that left, with this code: to a card request on this date, to a sign-on with this batch number, where one
+// above 999999 stands for the number as sent.
+pub fn reply(sent: Message, date: u16, batch: u32, code: [u8; 2]) -> Message
+    ensures { λ r. ⌜ r ≡ reply sent date batch code ⌝ }
+{
+    if sent.indicator == 0x0800 {
+        return sign_on_reply(sent, batch, code);
+    }
+    usual_reply(sent, date, code)
+}
+
+// The answer to anything but a sign-on.
+fn usual_reply(sent: Message, date: u16, code: [u8; 2]) -> Message
+    ensures { λ r. ⌜ r ≡ usualReply sent date code ⌝ }
 {
     let left = centre_types::left_as(sent.indicator);
     let mut contents = [0u8; message::ROOM];
@@ -21,6 +32,18 @@ pub fn reply(sent: Message, date: u16, code: [u8; 2]) -> Message
     let as_sent = with_sent_fields(h, sent, &mut contents);
     let h39 = compose::with_bytes(as_sent, 39, &code, &mut contents);
     let all = with_also(h39, left, sent, date, code, &mut contents);
+    message::joined(all, contents)
+}
+
+fn sign_on_reply(sent: Message, batch: u32, code: [u8; 2]) -> Message
+    ensures { λ r. ⌜ r ≡ signOnReply sent batch code ⌝ }
+{
+    let mut contents = [0u8; message::ROOM];
+    let own = with_own_fields(compose::typed(0x0810), sent, &mut contents);
+    let number = brought_number(sent, batch);
+    let h60 = compose::with_number(own, 60, 11, number, &mut contents);
+    let h39 = compose::with_bytes(h60, 39, &code, &mut contents);
+    let all = with_key(h39, code, &mut contents);
     message::joined(all, contents)
 }
 
@@ -39,9 +62,7 @@ pub fn reconciliation(sent: Message, digit: u8) -> Message
 fn with_digits_sent(h: Head, n: u8, count: u8, sent: Message, contents: &mut Contents) -> Head
     ensures { λ r. ⌜ whole r (now (contents .exit)) ≡ withItem (digitsSent n count sent) (whole h (now (contents .entry))) ⌝ }
 {
-    let as_sent = message::head_of(sent);
-    let x = digits::numeral(parts::number_in(as_sent, &sent.contents, n, 0, count as usize));
-    compose::with_number(h, n, count, x, contents)
+    compose::with_number(h, n, count, number_sent(sent, n, count), contents)
 }
 
 // The head with field n as sent, of so many bytes.
@@ -54,21 +75,50 @@ fn with_bytes_sent(h: Head, n: u8, count: usize, sent: Message, contents: &mut C
     compose::with_bytes(h, n, &b[..count], contents)
 }
 
+// Fields 11, 41, 42 as sent.
+fn with_own_fields(h: Head, sent: Message, contents: &mut Contents) -> Head
+    ensures { λ r. ⌜ whole r (now (contents .exit)) ≡ withAll (ownFields sent) (whole h (now (contents .entry))) ⌝ }
+{
+    let h11 = with_digits_sent(h, 11, 6, sent, contents);
+    let h41 = with_bytes_sent(h11, 41, 8, sent, contents);
+    with_bytes_sent(h41, 42, 15, sent, contents)
+}
+
 // Fields 11, 41, 42, 60 as sent.
 fn with_sent_fields(h: Head, sent: Message, contents: &mut Contents) -> Head
     ensures { λ r. ⌜ whole r (now (contents .exit)) ≡ withAll (sentFields sent) (whole h (now (contents .entry))) ⌝ }
 {
-    let h11 = with_digits_sent(h, 11, 6, sent, contents);
-    let h41 = with_bytes_sent(h11, 41, 8, sent, contents);
-    let h42 = with_bytes_sent(h41, 42, 15, sent, contents);
-    with_digits_sent(h42, 60, 11, sent, contents)
+    let own = with_own_fields(h, sent, contents);
+    with_digits_sent(own, 60, 11, sent, contents)
 }
 
-fn trace_sent(sent: Message) -> u64
-    ensures { λ r. ⌜ r ≡ sentNumber 11 0 6 sent ⌝ }
+// So many digits of field n as a number.
+fn number_sent(sent: Message, n: u8, count: u8) -> u64
+    ensures { λ r. ⌜ r ≡ sentNumber n 0 count sent ⌝ }
 {
     let h = message::head_of(sent);
-    digits::numeral(parts::number_in(h, &sent.contents, 11, 0, 6))
+    digits::numeral(parts::number_in(h, &sent.contents, n, 0, count as usize))
+}
+
+// Field 60 of the answer to a sign-on as a number: 00, the batch number, 003.
+fn brought_number(sent: Message, batch: u32) -> u64
+    ensures { λ r. ⌜ r ≡ broughtNumber batch sent ⌝ }
+{
+    if batch <= 999999 {
+        return batch as u64 * 1000 + 3;
+    }
+    number_sent(sent, 60, 11)
+}
+
+// Key material where the code is 00.
+fn with_key(h: Head, code: [u8; 2], contents: &mut Contents) -> Head
+    ensures { λ r. ⌜ whole r (now (contents .exit)) ≡ withAll (keyField code) (whole h (now (contents .entry))) ⌝ }
+{
+    if centre_types::is_approval(code) {
+        let key = [0u8; 24];
+        return compose::with_bytes(h, 62, &key, contents);
+    }
+    h
 }
 
 // The head with field n holding the trace as digits, two for each of so many bytes.
@@ -79,7 +129,7 @@ fn with_trace_figures(h: Head, n: u8, pairs: usize, sent: Message, contents: &mu
     let end = 2 * pairs;
     let mut figures = [0u8; 6];
     let mut text = [0u8; 12];
-    digits::put_number(trace_sent(sent), &mut figures[..pairs]);
+    digits::put_number(number_sent(sent, 11, 6), &mut figures[..pairs]);
     hexadecimal::put_hex(&figures[..pairs], &mut text[..end]);
     compose::with_bytes(h, n, &text[..end], contents)
 }
@@ -133,6 +183,7 @@ fn with_also(
         Left::Reversal => with_mac(h, contents),
         Left::Settlement => h,
         Left::Upload => h,
+        Left::SignOn => h,
     }
 }
 

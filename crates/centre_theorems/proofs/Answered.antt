@@ -1,7 +1,7 @@
 -- An answer that repeats the fields of what left is written, and what is written matches.
 use mathlib.Core.Path.{_≡_, refl, _∙_}
 use mathlib.Core.List.{List}
-use mathlib.Core.Bool.{true}
+use mathlib.Core.Bool.{true, _||_, or-true}
 use Prim.Native.Nat.{ℕ, _+_, _≤_, _<_}
 use native.Mathlib.Omega.{arith}
 use lib.ListN.{length}
@@ -28,7 +28,7 @@ use Rattle.outgoing_theorems.proofs.Theorems.{sent-reads-back}
 use Rattle.message.specs.Located.{located, formatOf}
 use Rattle.message_theorems.proofs.Readable.{read-keeps-formats}
 use Rattle.centre.specs.Centre.{digitsSent, bytesSent}
-use Rattle.history.specs.Words.{messageIn, sameField, sameNumber, matchesMessage, holdsItsFields, isMatching}
+use Rattle.history.specs.Words.{messageIn, isSignOn, sameField, sameNumber, matchesMessage, holdsItsFields, isMatching}
 use Rattle.centre_theorems.specs.Theorems.{HasLeft, Answers}
 use Rattle.centre_theorems.proofs.Kept.{OfDigits, OfText, of-digits, of-text, part-is, digits-sent, bytes-sent}
 
@@ -78,12 +78,15 @@ module _ (b : List ℕ) (h : HasLeft b) where
 abbrev pub Holds : List Item → ℕ → Field → Type 0
 Holds xs n x = (has xs n ≡ true) × (find xs n ≡ x)
 
--- the fields that an answer repeats
+-- the fields that every answer repeats
 pub record Repeats (m : Message) (xs : List Item) : Type 0 where
   pub trace : Holds xs 11 (digitsSent 11 6 m .field)
   pub terminal : Holds xs 41 (bytesSent 41 8 m .field)
   pub merchant : Holds xs 42 (bytesSent 42 15 m .field)
-  pub batch : Holds xs 60 (digitsSent 60 11 m .field)
+
+-- what is written says the batch number sent; to a sign-on it need not
+abbrev pub BatchMatches : List ℕ → List ℕ → Type 0
+BatchMatches b s = (isSignOn (messageIn b) || sameNumber (partOf (messageIn s) part.Batch) (partOf (messageIn b) part.Batch)) ≡ true
 
 module _ (s : List ℕ) {i : ℕ} {xs : List Item} (r : Reads i xs (readMessage s)) (m : Message) where
   -- a field is repeated
@@ -101,14 +104,23 @@ same-number x y n e q = rw (e, q) (eq-eqb n n refl)
 
 -- what is written of an answer to b
 module _ (b : List ℕ) (left : HasLeft b) (s : List ℕ) {i : ℕ} {xs : List Item} (r : Reads i xs (readMessage s)) where
-  pub repeated : i ≡ messageIn b .indicator + 0x10 → Repeats (messageIn b) xs → matchesMessage (messageIn b) (messageIn s) ≡ true
-  unfolding matchesMessage
-  repeated e t =
+  pub batch-repeated : Holds xs 60 (digitsSent 60 11 (messageIn b) .field) → BatchMatches b s
+  batch-repeated h =
       let m = messageIn b in
       let f = in-form b left in
-      let p : Holds xs 60 (fieldOf m 60) = (t .batch .0, t .batch .1 ∙ digits-sent m 60 (left .batch) 11 (f .batch) (omega arith)) in
+      let p : Holds xs 60 (fieldOf m 60) = (h .0, h .1 ∙ digits-sent m 60 (left .batch) 11 (f .batch) (omega arith)) in
       let n : numberIn (messageIn s) 60 2 6 ≡ numberIn m 60 2 6 =
       number-repeated s r m 60 2 6 (omega arith) (omega arith) p (left .batch) in
+      rw (same-number (partOf (messageIn s) part.Batch) (partOf m part.Batch) _ n
+      (part-is m 60 (left .batch) 11 2 6 (f .batch) (omega arith) (omega arith)))
+      (or-true (isSignOn m))
+
+  pub repeated : i ≡ messageIn b .indicator + 0x10 → Repeats (messageIn b) xs → BatchMatches b s
+      → matchesMessage (messageIn b) (messageIn s) ≡ true
+  unfolding matchesMessage
+  repeated e t q =
+      let m = messageIn b in
+      let f = in-form b left in
       let field = field-repeated s r m in
       rw (
         eq-eqb (messageIn s .indicator) (m .indicator + 0x10) (r .indicator ∙ e),
@@ -116,8 +128,7 @@ module _ (b : List ℕ) (left : HasLeft b) (s : List ℕ) {i : ℕ} {xs : List I
         field 41 (omega arith) (omega arith) (t .terminal .0, t .terminal .1 ∙ bytes-sent m 41 (left .terminal) 8 (f .terminal)),
         field 42 (omega arith) (omega arith) (t .merchant .0, t .merchant .1 ∙ bytes-sent m 42 (left .merchant) 15 (f .merchant)),
       )
-      (same-number (partOf (messageIn s) part.Batch) (partOf m part.Batch) _ n
-      (part-is m 60 (left .batch) 11 2 6 (f .batch) (omega arith) (omega arith)))
+      q
 
   pub matching : matchesMessage (messageIn b) (messageIn s) ≡ true → holdsItsFields (messageIn b) (messageIn s) ≡ true
       → isMatching (messageIn b) s ≡ true
@@ -134,10 +145,10 @@ module _ (o : List ℕ) {a : Message} (i : ℕ) (xs : List Item) (e : a ≡ mess
   is-written = rw (e, written-is i xs o l h room)
 
   pub answers : (b : List ℕ) → HasLeft b → i ≡ messageIn b .indicator + 0x10 → Repeats (messageIn b) xs
-      → holdsItsFields (messageIn b) (messageIn (outgoingBytes a o)) ≡ true → Answers b o a
-  answers b left q t g =
+      → BatchMatches b (outgoingBytes a o) → holdsItsFields (messageIn b) (messageIn (outgoingBytes a o)) ≡ true → Answers b o a
+  answers b left q t n g =
       record {
         size = length (messageBytes (messageOf i xs));
         accepted = is-written;
-        matching = matching b left (outgoingBytes a o) reads-back (repeated b left (outgoingBytes a o) reads-back q t) g;
+        matching = matching b left (outgoingBytes a o) reads-back (repeated b left (outgoingBytes a o) reads-back q t n) g;
       }

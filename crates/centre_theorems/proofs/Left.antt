@@ -39,19 +39,19 @@ use Rattle.compose.proofs.Bitmaps.{names-has}
 use Rattle.rules.specs.Rules.{rules12, due}
 use Rattle.outgoing.specs.declared.Original.{Original}
 use Rattle.outgoing.specs.Outgoing.{requestFields, reversalFields, requestMessage, reversalMessage}
-use Rattle.call_definitions.specs.SignOn.{signedOnRules, signedOn}
+use Rattle.call_definitions.specs.SignOn.{signOnRules, signOn}
 use Rattle.call_definitions.specs.Start.{originalOf, entryOf, namedBy, startRules, start}
 use Rattle.desk.specs.DeskRules.{chipFrom, requestOf}
 use Rattle.call_definitions.specs.SendReversal.{sendFrom, sendReversalRules, sendReversal}
 use Rattle.effect_definitions.specs.StateEffects.{again}
 use Rattle.call_definitions.specs.Settle.{settleRules, settle}
-use Rattle.batch_messages.specs.BatchMessages.{settlementFields, settlementMessage, itemFields, itemMessage, endFields, endMessage}
+use Rattle.batch_messages.specs.BatchMessages.{settlementFields, settlementMessage, itemFields, itemMessage, endFields, endMessage, signOnFields, signOnMessage}
 use Rattle.call_definitions.specs.SendNextUpload.{sendsNext, uploadFrom, sendNextUploadRules, sendNextUpload}
 use Rattle.call_definitions.specs.Answer.{noAnswerRules, noAnswer, powerReturned, cardRules, cardAgrees, cardDeclines, answerRules, readIn, answer}
-use Rattle.call_definitions.specs.Events.{Event, signed-on, starts, answers, no-answer, power-returned, card-agrees, card-declines, send-reversal, settles, send-next-upload, call}
+use Rattle.call_definitions.specs.Events.{Event, sign-on, starts, answers, no-answer, power-returned, card-agrees, card-declines, send-reversal, settles, send-next-upload, call}
 use Rattle.centre_types.specs.Types.{leftAs}
 use Rattle.centre_types.specs.declared.Left.{Left}
-use Rattle.centre_types.specs.declared.Left.the-variants.{Nothing, Request, Reversal, Settlement, Upload}
+use Rattle.centre_types.specs.declared.Left.the-variants.{Nothing, Request, Reversal, Settlement, Upload, SignOn}
 use Rattle.history.specs.Words.{messageIn}
 use Rattle.centre_theorems.specs.Theorems.{HoldsIts, HasLeft}
 
@@ -66,6 +66,7 @@ Has Request xs = has xs 4 ≡ true
 Has Reversal xs = Unit {0}
 Has Settlement xs = has xs 48 ≡ true
 Has Upload xs = Unit {0}
+Has SignOn xs = Unit {0}
 
 holds : (l : Left) (m : Message) (xs : List Item) → ((n : ℕ) → 0 < n → n ≤ 64 → names (m .bitmap) n ≡ has xs n) → Has l xs → HoldsIts l m
 holds Nothing m xs e h = h
@@ -73,6 +74,7 @@ holds Request m xs e h = e 4 (omega arith) (omega arith) ∙ h
 holds Reversal m xs e h = h
 holds Settlement m xs e h = e 48 (omega arith) (omega arith) ∙ h
 holds Upload m xs e h = h
+holds SignOn m xs e h = h
 
 -- bytes that, where they read, have left
 abbrev pub Sound : List ℕ → Type 0
@@ -98,7 +100,7 @@ sound i xs a b c d h q =
       its = rw t (holds (leftAs i) (messageIn (messageBytes m)) xs named h);
     }
 
--- the five messages
+-- the six messages
 request-left : (kind : ℕ) → leftAs (indicatorOf kind) ≡ Request
 unfolding leftAs
 request-left kind = each-type (λ i. leftAs i ≡ Request) refl refl refl kind
@@ -123,6 +125,10 @@ module _ (x : Settings) (batch : Batch) where
   end-sound : (trace : Trace) → Sound (messageBytes (endMessage x batch trace))
   unfolding endMessage leftAs
   end-sound trace = sound 0x0320 (endFields x batch trace) refl refl refl refl tt
+
+  sign-on-sound : (trace : Trace) → Sound (messageBytes (signOnMessage x batch trace))
+  unfolding signOnMessage leftAs
+  sign-on-sound trace = sound 0x0800 (signOnFields x batch trace) refl refl refl refl tt
 
 -- what a call sends, if anything
 pub record Sends (r : Result) : Type 0 where
@@ -173,8 +179,11 @@ module _ (s : State) (lent : Lent) where
   upload-from Uploading = next-leaves (nextDue (due Uploading) (entriesOf (s .entries) (lent .journal)))
 
 pub call-sends : (e : Event) (s : State) (lent : Lent) → Sends (call e s lent)
-unfolding signedOn start answer noAnswer powerReturned cardAgrees cardDeclines sendReversal settle sendNextUpload
-call-sends (signed-on batch) s lent = judges s lent (firstBroken (signedOnRules batch s lent)) _ is-quiet
+unfolding signOn start answer noAnswer powerReturned cardAgrees cardDeclines sendReversal settle sendNextUpload
+call-sends sign-on s lent =
+    let es = entriesOf (s .entries) (lent .journal) in
+    judges s lent (firstBroken (signOnRules s lent)) _
+    (sends-bytes _ lent (sign-on-sound (s .settings) (s .batch) (record { 0 = taken es (s .next .0) })))
 call-sends (starts d b) s lent =
     let es = entriesOf (s .entries) (lent .journal) in
     let e = entryOf (originalOf d es) es in

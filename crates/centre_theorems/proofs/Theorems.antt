@@ -1,17 +1,21 @@
 -- The theorems on the answers of the simulated centre.
-use mathlib.Core.Path.{_≡_, refl, ap}
+use mathlib.Core.Path.{_≡_, refl, ap, _∙_}
 use mathlib.Core.List.{List, [], _∷_, _++_}
-use mathlib.Core.Bool.{Bool, true, false, cond, not, _&&_, or-true}
-use Prim.Native.Nat.{ℕ}
+use mathlib.Core.Bool.{Bool, true, false, cond, not, _&&_, or-true, and-false, and-eq-true-iff}
+use Prim.Native.Nat.{ℕ, _/_, _≤_}
 use native.Mathlib.Omega.{arith}
-use lib.ListN.{take, drop}
+use lib.ListN.{take, drop, replicate}
 use lib.Seq.{take-at}
-use borrow.Author.Tests.{le-leb}
+use borrow.Author.Tests.{le-leb, eqb-true}
+use Rattle.digits.specs.Lists.{sameBytes}
 use Rattle.digits.specs.Digits.{allDigits}
 use Rattle.digits.specs.Numbers.{digitsOf}
 use Rattle.digits.specs.Packed.{numeral}
+use Rattle.digits.proofs.Lists.{same-list}
+use Rattle.digits.proofs.Numbers.{digitsOf-digits}
+use Rattle.field.specs.Bitmap.{names}
 use Rattle.field.specs.Contents.{allowed}
-use Rattle.field.specs.Table.{formats}
+use Rattle.field.specs.Table.{formats, indicators}
 use Rattle.message.specs.Build.{Item, digits, bytes, messageOf}
 use Rattle.message.specs.Message.{fieldOf}
 use Rattle.message.specs.declared.Message.{Message}
@@ -20,7 +24,7 @@ use Rattle.parts.specs.Layout.{widths}
 use Rattle.parts.specs.declared.Part.the-variants as part
 use Rattle.parts.proofs.Laid.{laid-digits}
 use Rattle.compose.specs.Compose.{mayHold, allHeld}
-use Rattle.compose.proofs.Items.{number-held, digits-held}
+use Rattle.compose.proofs.Items.{number-held, digits-held, bytes-held}
 use Rattle.compose.proofs.Composed.{all-composed}
 use Rattle.compose.proofs.Held.{apart, held-append}
 use Rattle.outgoing.proofs.Fields.{amount-held, trace-held, reference-held, authorisation-held, reason-held, terminal-held, merchant-held, mac-held}
@@ -29,17 +33,17 @@ use Rattle.call_definitions.specs.Events.{call}
 use Rattle.call_theorems.proofs.Facts.{sent-reads}
 use Rattle.centre_types.specs.Types.{leftAs, answerType, isApproval}
 use Rattle.centre_totals.specs.Totals.{sentPart, field48With}
-use Rattle.centre.specs.Centre.{sentNumber, digitsSent, sentFields, traceFigures, macField, alsoTo, replyFields, reply, reconciliationFields, reconciliation}
+use Rattle.centre.specs.Centre.{sentNumber, digitsSent, ownFields, sentFields, traceFigures, macField, alsoTo, replyFields, usualReply, broughtNumber, signOnFields, signOnReply, reply, reconciliationFields, reconciliation}
 use Rattle.centre_types.specs.declared.Left.{Left}
-use Rattle.centre_types.specs.declared.Left.the-variants.{Nothing, Request, Reversal, Settlement, Upload}
+use Rattle.centre_types.specs.declared.Left.the-variants.{Nothing, Request, Reversal, Settlement, Upload, SignOn}
 use Rattle.history.specs.Words as words
 use Rattle.history.specs.Words.{messageIn, holdsItsFields, digitIn}
 use Rattle.history.proofs.Said.{number-read}
-use Rattle.centre_theorems.specs.Theorems.{HoldsIts, HasLeft, IsCode, SentHasLeft, ReplyAnswers, ReconciliationAnswers}
+use Rattle.centre_theorems.specs.Theorems.{HoldsIts, HasLeft, IsCode, SentHasLeft, ReplyAnswers, SignOnReplyAnswers, ReconciliationAnswers}
 use Rattle.centre_theorems.proofs.Kept.{copies-all, digits-sent}
 use Rattle.centre_theorems.proofs.Figures.{figures-length, figures-printable}
 use Rattle.centre_theorems.proofs.Types.{isRequest, Leaves, leaves}
-use Rattle.centre_theorems.proofs.Answered.{in-form, amount-in-form, field-repeated, reads-back, answers}
+use Rattle.centre_theorems.proofs.Answered.{in-form, amount-in-form, field-repeated, batch-repeated, reads-back, answers}
 use Rattle.centre_theorems.proofs.Left.{call-sends}
 
 -- the fields of an answer may be held
@@ -60,9 +64,13 @@ field48-held : (m : Message) (d : ℕ) → mayHold formats (digits 48 (field48Wi
 unfolding formats allowed
 field48-held m d = digits-held 48 (field48With m d) refl (field48-digits m d)
 
--- fields 11, 41, 42 and 60
-sent-held : (b : List ℕ) → HasLeft b → allHeld (sentFields (messageIn b)) ≡ true
-sent-held b left =
+keys-held : mayHold formats (bytes 62 (replicate 24 0)) ≡ true
+unfolding formats allowed
+keys-held = bytes-held 62 (replicate 24 0) refl
+
+-- fields 11, 41 and 42
+own-held : (b : List ℕ) → HasLeft b → allHeld (ownFields (messageIn b)) ≡ true
+own-held b left =
     let m = messageIn b in
     let f = in-form b left in
     rw (
@@ -71,8 +79,13 @@ sent-held b left =
       trace-held (sentNumber 11 0 6 m),
       terminal-held (fieldOf m 41 .bytes) (f .terminal .size) (f .terminal .printable),
       merchant-held (fieldOf m 42 .bytes) (f .merchant .size) (f .merchant .printable),
-      batch-held (sentNumber 60 0 11 m),
     )
+
+-- fields 11, 41, 42 and 60
+sent-held : (b : List ℕ) → HasLeft b → allHeld (sentFields (messageIn b)) ≡ true
+sent-held b left =
+    let m = messageIn b in
+    held-append (ownFields m) (digitsSent 60 11 m ∷ []) refl (own-held b left) (rw (batch-held (sentNumber 60 0 11 m)))
 
 -- the fields beside them, and those of an approval or of another answer to a card request
 abbrev approvals : Message → ℕ → Bool → List Item
@@ -105,6 +118,7 @@ also-held Request m date code = approvals-held m date (isApproval code)
 also-held Reversal m date code = rw mac-held
 also-held Settlement m date code = refl
 also-held Upload m date code = refl
+also-held SignOn m date code = refl
 
 approvals-apart : (m : Message) (date : ℕ) (code : List ℕ) (t : Bool) → apart (sentFields m ++ (bytes 39 code ∷ [])) (approvals m date t) ≡ true
 approvals-apart m date code true = refl
@@ -116,6 +130,7 @@ also-apart Request m date code = approvals-apart m date code (isApproval code)
 also-apart Reversal m date code = refl
 also-apart Settlement m date code = refl
 also-apart Upload m date code = refl
+also-apart SignOn m date code = refl
 
 reply-held : (b : List ℕ) (date : ℕ) (code : List ℕ) → HasLeft b → IsCode code → allHeld (replyFields (messageIn b) date code) ≡ true
 reply-held b date code left c =
@@ -132,41 +147,127 @@ not-nothing l m h e = rw e at h
 left-leaves : (b : List ℕ) → HasLeft b → Leaves (messageIn b .indicator)
 left-leaves b left = leaves (messageIn b .indicator) (not-nothing (leftAs (messageIn b .indicator)) (messageIn b) (left .its))
 
--- a reply holds 39, and to a card request also 4 as outgoingBytes, 13 and 37
+-- a reply holds 39, and to a card request also 4 as sent, 13 and 37
 reply-holds : (b : List ℕ) (date : ℕ) (code : List ℕ) → HasLeft b → (l : Left) → HoldsIts l (messageIn b)
-    → words.isSettlement (messageIn b) ≡ false → words.isRequest (messageIn b) ≡ isRequest l → (i : ℕ) (s : List ℕ)
+    → words.isSettlement (messageIn b) ≡ false → words.isSignOn (messageIn b) ≡ false → words.isRequest (messageIn b) ≡ isRequest l
+    → (i : ℕ) (s : List ℕ)
     → Reads i (sentFields (messageIn b) ++ (bytes 39 code ∷ alsoTo l (messageIn b) date code)) (readMessage s)
     → holdsItsFields (messageIn b) (messageIn s) ≡ true
 unfolding holdsItsFields
-reply-holds b date code left Nothing h t q i s r = absurd h
-reply-holds b date code left Request h t q i s r =
+reply-holds b date code left Nothing h t u q i s r = absurd h
+reply-holds b date code left Request h t u q i s r =
     let m = messageIn b in
     rw (
       t,
+      u,
       r .named 39 (omega arith) (omega arith),
       field-repeated s r m 4 (omega arith) (omega arith) (refl, digits-sent m 4 h 12 (amount-in-form b left h) (omega arith)),
       r .named 13 (omega arith) (omega arith),
       r .named 37 (omega arith) (omega arith),
       or-true (not (words.isRequest m && words.isApproval (messageIn s))),
     )
-reply-holds b date code left Reversal h t q i s r = rw (t, r .named 39 (omega arith) (omega arith), q)
-reply-holds b date code left Settlement h t q i s r = rw (t, r .named 39 (omega arith) (omega arith), q)
-reply-holds b date code left Upload h t q i s r = rw (t, r .named 39 (omega arith) (omega arith), q)
+reply-holds b date code left Reversal h t u q i s r = rw (t, u, r .named 39 (omega arith) (omega arith), q)
+reply-holds b date code left Settlement h t u q i s r = rw (t, u, r .named 39 (omega arith) (omega arith), q)
+reply-holds b date code left Upload h t u q i s r = rw (t, u, r .named 39 (omega arith) (omega arith), q)
+reply-holds b date code left SignOn h t u q i s r = rw (t, u, r .named 39 (omega arith) (omega arith), q)
 
 -- a reply
 pub reply-answers : ReplyAnswers
-unfolding reply words.isSettlement words.isRequest
-reply-answers b o date code left t c room =
+unfolding reply usualReply words.isSettlement words.isSignOn words.isRequest
+reply-answers b o date batch code left t u c room =
     let m = messageIn b in
     let i = answerType (m .indicator) in
     let xs = replyFields m date code in
     let l = left-leaves b left in
     let h = reply-held b date code left c in
-    let e : reply m date code ≡ messageOf i xs = all-composed i xs h in
+    let e : reply m date batch code ≡ messageOf i xs = rw u (all-composed i xs h) in
+    let s = outgoingBytes (reply m date batch code) o in
+    let r = reads-back o i xs e (l .answer-listed) h room in
     answers o i xs e (l .answer-listed) h room b left (l .answer)
-    (record { trace = (refl, refl); terminal = (refl, refl); merchant = (refl, refl); batch = (refl, refl) })
-    (reply-holds b date code left (leftAs (m .indicator)) (left .its) t (l .requests) i (outgoingBytes (reply m date code) o)
-    (reads-back o i xs e (l .answer-listed) h room))
+    (record { trace = (refl, refl); terminal = (refl, refl); merchant = (refl, refl) })
+    (batch-repeated b left s r (refl, refl))
+    (reply-holds b date code left (leftAs (m .indicator)) (left .its) t u (l .requests) i s r)
+
+-- the fields of a sign-on's answer beside 11, 41 and 42
+abbrev brought : ℕ → List ℕ → Bool → List Item
+brought x code t = digits 60 (digitsOf 11 x) ∷ bytes 39 code ∷ cond t (bytes 62 (replicate 24 0) ∷ []) []
+
+brought-held : (x : ℕ) (code : List ℕ) → IsCode code → (t : Bool) → allHeld (brought x code t) ≡ true
+brought-held x code c true = rw (batch-held x, reason-held code (c .two) (c .printable), keys-held)
+brought-held x code c false = rw (batch-held x, reason-held code (c .two) (c .printable))
+
+brought-apart : (m : Message) (x : ℕ) (code : List ℕ) (t : Bool) → apart (ownFields m) (brought x code t) ≡ true
+brought-apart m x code true = refl
+brought-apart m x code false = refl
+
+sign-on-held : (b : List ℕ) (batch : ℕ) (code : List ℕ) → HasLeft b → IsCode code → allHeld (signOnFields (messageIn b) batch code) ≡ true
+sign-on-held b batch code left c =
+    let m = messageIn b in
+    let x = broughtNumber batch m in
+    held-append (ownFields m) (brought x code (isApproval code)) (brought-apart m x code (isApproval code)) (own-held b left)
+    (brought-held x code c (isApproval code))
+
+-- 60.2 of it
+brought-digits : (x : ℕ) → take 6 (drop 2 (digitsOf 11 x)) ≡ digitsOf 6 (x / 10 / 10 / 10)
+brought-digits x = refl
+
+-- what is written of it
+module _ (m : Message) (batch : ℕ) (code : List ℕ) (i : ℕ) (s : List ℕ) (r : Reads i (signOnFields m batch code) (readMessage s)) where
+  batch-brought : batch ≤ 999999 → words.batchIn (messageIn s) ≡ batch
+  unfolding words.batchIn broughtNumber
+  batch-brought high =
+      let x = broughtNumber batch m in
+      let e : x / 10 / 10 / 10 ≡ batch = rw (le-leb batch 999999 high) (omega arith) in
+      ap numeral
+      (number-read s i (signOnFields m batch code) r 60 (digitsOf 11 x) (omega arith) (omega arith) refl refl (digitsOf-digits 11 x) 2 6 batch
+      (omega arith) (brought-digits x ∙ rw e) (omega arith) (omega arith))
+
+  -- an answer that says 00 was given the code 00
+  code-said : words.isApproval (messageIn s) ≡ true → isApproval code ≡ true
+  unfolding words.codeIs isApproval
+  code-said h =
+      let t = and-eq-true-iff (names (messageIn s .bitmap) 39) (sameBytes (fieldOf (messageIn s) 39 .bytes) (0x30 ∷ 0x30 ∷ [])) .0 h in
+      let e : sameBytes code (0x30 ∷ 0x30 ∷ []) ≡ true = rw (r .fields 39 refl) at (t .1) in
+      rw (same-list code (0x30 ∷ 0x30 ∷ []) e)
+
+  sign-on-holds : words.isSettlement m ≡ false → words.isRequest m ≡ false → 1 ≤ batch → batch ≤ 999999 → holdsItsFields m (messageIn s) ≡ true
+  unfolding holdsItsFields
+  sign-on-holds t q low high = go (words.isApproval (messageIn s)) refl
+    where
+      go : (a : Bool) → words.isApproval (messageIn s) ≡ a → holdsItsFields m (messageIn s) ≡ true
+      go true e =
+          rw (
+            t,
+            q,
+            r .named 39 (omega arith) (omega arith),
+            batch-brought high,
+            le-leb 1 batch low,
+            le-leb batch 999999 high,
+            r .named 62 (omega arith) (omega arith),
+            code-said e,
+          )
+          (or-true (not (words.isSignOn m && words.isApproval (messageIn s))))
+      go false e = rw (t, q, r .named 39 (omega arith) (omega arith), e, and-false (words.isSignOn m))
+
+-- a sign-on's answer
+pub sign-on-reply-answers : SignOnReplyAnswers
+unfolding reply signOnReply words.isSettlement words.isSignOn words.isRequest indicators
+sign-on-reply-answers b o date batch code left u low high c room =
+    let m = messageIn b in
+    let xs = signOnFields m batch code in
+    let k : m .indicator ≡ 0x0800 = eqb-true (m .indicator) 0x0800 u in
+    let h = sign-on-held b batch code left c in
+    let e : reply m date batch code ≡ messageOf 0x0810 xs = rw u (all-composed 0x0810 xs h) in
+    let s = outgoingBytes (reply m date batch code) o in
+    let r = reads-back o 0x0810 xs e refl h room in
+    record {
+      answers =
+          answers o 0x0810 xs e refl h room b left (rw k)
+          (record { trace = (refl, refl); terminal = (refl, refl); merchant = (refl, refl) })
+          (rw u)
+          (sign-on-holds m batch code 0x0810 s r (rw k) (rw k) low high);
+      brought = batch-brought m batch code 0x0810 s r high;
+    }
 
 -- a settlement's answer
 pub reconciliation-answers : ReconciliationAnswers
@@ -187,7 +288,8 @@ reconciliation-answers b o d left t low high room =
     record {
       answers =
           answers o i xs e (l .answer-listed) h room b left (l .answer)
-          (record { trace = (refl, refl); terminal = (refl, refl); merchant = (refl, refl); batch = (refl, refl) })
+          (record { trace = (refl, refl); terminal = (refl, refl); merchant = (refl, refl) })
+          (batch-repeated b left s r (refl, refl))
           (rw (t, v, le-leb 1 d low, le-leb d 3 high));
       carried = v;
     }

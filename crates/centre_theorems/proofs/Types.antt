@@ -9,7 +9,7 @@ use borrow.Author.Tests.{ne-eqb}
 use Rattle.field.specs.Table.{among, indicators}
 use Rattle.centre_types.specs.Types.{leftAs, answerType}
 use Rattle.centre_types.specs.declared.Left.{Left}
-use Rattle.centre_types.specs.declared.Left.the-variants.{Nothing, Request, Reversal, Settlement, Upload}
+use Rattle.centre_types.specs.declared.Left.the-variants.{Nothing, Request, Reversal, Settlement, Upload, SignOn}
 
 -- a card request
 abbrev pub isRequest : Left → Bool
@@ -18,6 +18,7 @@ isRequest Request = true
 isRequest Reversal = false
 isRequest Settlement = false
 isRequest Upload = false
+isRequest SignOn = false
 
 -- a type that leaves
 pub record Leaves (i : ℕ) : Type 0 where
@@ -29,16 +30,28 @@ pub leaves : (i : ℕ) → (leftAs i ≡ Nothing → ⊥) → Leaves i
 unfolding leftAs answerType indicators
 leaves i h =
     go (ℕ-discrete i 0x0100) (ℕ-discrete i 0x0200) (ℕ-discrete i 0x0220) (ℕ-discrete i 0x0320) (ℕ-discrete i 0x0400) (ℕ-discrete i 0x0500)
+    (ℕ-discrete i 0x0800)
   where
     other : (n : ℕ) → (i ≡ n → ⊥) → eqb n i ≡ false
     other n e = ne-eqb n i (λ q. e (sym q))
 
-    go : Dec (i ≡ 0x0100) → Dec (i ≡ 0x0200) → Dec (i ≡ 0x0220) → Dec (i ≡ 0x0320) → Dec (i ≡ 0x0400) → Dec (i ≡ 0x0500) → Leaves i
-    go (yes e) b c d f g = rw e (record { answer = refl; answer-listed = refl; requests = refl })
-    go (no a) (yes e) c d f g = rw e (record { answer = refl; answer-listed = refl; requests = refl })
-    go (no a) (no b) (yes e) d f g = rw e (record { answer = refl; answer-listed = refl; requests = refl })
-    go (no a) (no b) (no c) (yes e) f g = rw e (record { answer = refl; answer-listed = refl; requests = refl })
-    go (no a) (no b) (no c) (no d) (yes e) g = rw e (record { answer = refl; answer-listed = refl; requests = refl })
-    go (no a) (no b) (no c) (no d) (no f) (yes e) = rw e (record { answer = refl; answer-listed = refl; requests = refl })
-    go (no a) (no b) (no c) (no d) (no f) (no g) =
-        absurd (h (rw (other 0x0100 a, other 0x0200 b, other 0x0220 c, ne-eqb i 0x0320 d, ne-eqb i 0x0400 f, ne-eqb i 0x0500 g)))
+    go : Dec (i ≡ 0x0100) → Dec (i ≡ 0x0200) → Dec (i ≡ 0x0220) → Dec (i ≡ 0x0320) → Dec (i ≡ 0x0400) → Dec (i ≡ 0x0500)
+        → Dec (i ≡ 0x0800) → Leaves i
+    go (yes e) b c d f g k = rw e (record { answer = refl; answer-listed = refl; requests = refl })
+    go (no a) (yes e) c d f g k = rw e (record { answer = refl; answer-listed = refl; requests = refl })
+    go (no a) (no b) (yes e) d f g k = rw e (record { answer = refl; answer-listed = refl; requests = refl })
+    go (no a) (no b) (no c) (yes e) f g k = rw e (record { answer = refl; answer-listed = refl; requests = refl })
+    go (no a) (no b) (no c) (no d) (yes e) g k = rw e (record { answer = refl; answer-listed = refl; requests = refl })
+    go (no a) (no b) (no c) (no d) (no f) (yes e) k = rw e (record { answer = refl; answer-listed = refl; requests = refl })
+    go (no a) (no b) (no c) (no d) (no f) (no g) (yes e) = rw e (record { answer = refl; answer-listed = refl; requests = refl })
+    go (no a) (no b) (no c) (no d) (no f) (no g) (no k) =
+        absurd
+        (h (rw (
+          other 0x0100 a,
+          other 0x0200 b,
+          other 0x0220 c,
+          ne-eqb i 0x0320 d,
+          ne-eqb i 0x0400 f,
+          ne-eqb i 0x0500 g,
+          ne-eqb i 0x0800 k,
+        )))

@@ -23,7 +23,7 @@ use Rattle.centre_types.specs.Types.{leftAs}
 use Rattle.centre.specs.Centre.{reply, reconciliation}
 use Rattle.centre_types.specs.declared.Left.{Left}
 use Rattle.centre_types.specs.declared.Left.the-variants as left
-use Rattle.history.specs.Words.{messageIn, isMatching, digitIn}
+use Rattle.history.specs.Words.{messageIn, isMatching, digitIn, batchIn}
 
 -- what a message that left holds beside the fields of all: a card request its amount, a settlement its totals
 abbrev pub HoldsIts : Left → Message → Type 0
@@ -32,6 +32,7 @@ HoldsIts left.Request m = names (m .bitmap) 4 ≡ true
 HoldsIts left.Reversal m = Unit {0}
 HoldsIts left.Settlement m = names (m .bitmap) 48 ≡ true
 HoldsIts left.Upload m = Unit {0}
+HoldsIts left.SignOn m = Unit {0}
 
 -- bytes that left: they read, and hold the fields of every message that leaves
 pub record HasLeft (b : List ℕ) : Type 0 where
@@ -58,10 +59,19 @@ pub record Answers (b o : List ℕ) (answer : Message) : Type 0 where
   pub accepted : writeMessage answer o .outcome ≡ Written size
   pub matching : isMatching (messageIn b) (outgoingBytes answer o) ≡ true
 
--- a reply answers all that left but a settlement, whatever its code and date
+-- a reply answers all that left but a settlement and a sign-on, whatever its code, its date and the centre's batch number
 abbrev pub ReplyAnswers : Type 0
-ReplyAnswers = (b o : List ℕ) (date : ℕ) (code : List ℕ) → HasLeft b → eqb (messageIn b .indicator) 0x0500 ≡ false → IsCode code
-    → largest ≤ length o → Answers b o (reply (messageIn b) date code)
+ReplyAnswers = (b o : List ℕ) (date batch : ℕ) (code : List ℕ) → HasLeft b → eqb (messageIn b .indicator) 0x0500 ≡ false
+    → eqb (messageIn b .indicator) 0x0800 ≡ false → IsCode code → largest ≤ length o → Answers b o (reply (messageIn b) date batch code)
+
+-- a reply answers a sign-on, whatever its code, and brings the batch number that the centre gives
+pub record SignsOnIn (b o : List ℕ) (batch : ℕ) (answer : Message) : Type 0 where
+  pub answers : Answers b o answer
+  pub brought : batchIn (messageIn (outgoingBytes answer o)) ≡ batch
+
+abbrev pub SignOnReplyAnswers : Type 0
+SignOnReplyAnswers = (b o : List ℕ) (date batch : ℕ) (code : List ℕ) → HasLeft b → eqb (messageIn b .indicator) 0x0800 ≡ true → 1 ≤ batch
+    → batch ≤ 999999 → IsCode code → largest ≤ length o → SignsOnIn b o batch (reply (messageIn b) date batch code)
 
 -- a reconciliation of digit 1, 2 or 3 answers a settlement, and carries that digit
 pub record Reconciles (b o : List ℕ) (digit : ℕ) : Type 0 where

@@ -9,6 +9,7 @@ pub enum Left {
     Reversal,
     Settlement,
     Upload,
+    SignOn,
 }
 
 // What left, by its type.
@@ -22,6 +23,7 @@ pub fn left_as(indicator: u16) -> Left
         0x0400 => Left::Reversal,
         0x0500 => Left::Settlement,
         0x0320 => Left::Upload,
+        0x0800 => Left::SignOn,
         _ => Left::Nothing,
     }
 }
@@ -37,6 +39,7 @@ pub fn answer_type(indicator: u16) -> u16
         0x0320 => 0x0330,
         0x0400 => 0x0410,
         0x0500 => 0x0510,
+        0x0800 => 0x0810,
         _ => 0,
     }
 }

@@ -12,7 +12,7 @@ use Rattle.grammar.specs.declared.Shape.the-variants.{Number as Numeral,
 abbrev pub commands : List ℕ
 commands =
     text "terminal word32 word8 amount text8 text15\n"
-    ++ text "signed-on word32\n"
+    ++ text "sign-on\n"
     ++ text "sale amount card chip? field55\n"
     ++ text "authorise amount card chip? field55\n"
     ++ text "sale-void word32\n"
@@ -25,6 +25,7 @@ commands =
     ++ text "reply code bad?\n"
     ++ text "reconcile digit\n"
     ++ text "date date\n"
+    ++ text "centre-batch batch\n"
     ++ text "echo switch\n"
     ++ text "no-answer\n"
     ++ text "power\n"
@@ -47,6 +48,7 @@ shapeNames =
     text "word32\n"
     ++ text "word8\n"
     ++ text "digit\n"
+    ++ text "batch\n"
     ++ text "amount\n"
     ++ text "card\n"
     ++ text "card?\n"
@@ -72,6 +74,7 @@ shapes =
     Numeral 4294967295
     ∷ Numeral 255
     ∷ Numeral 9
+    ∷ Numeral 999999
     ∷ Numeral 999999999999999999
     ∷ Card
     ∷ CardOrNone
@@ -95,7 +98,7 @@ shapes =
     ∷ []
 
 unfoldable pub shapeNamed : List ℕ → Shape
-shapeNamed w = getD shapes (rowNamed 22 w shapeNames) End
+shapeNamed w = getD shapes (rowNamed 23 w shapeNames) End
 
 -- what word i of a line must be, where the line has row k
 unfoldable pub shapeAt : ℕ → ℕ → Shape

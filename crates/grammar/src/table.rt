@@ -5,8 +5,8 @@ ghost use Rattle.words.specs.Rows.{rowNamed};
 ghost use Rattle.grammar.specs.Table.{commands, shapeNamed, shapeAt};
 
 // A row for each command, and what its words must be; the last row is for all other lines.
-const COMMANDS: [u8; 565] = *b"terminal word32 word8 amount text8 text15
-signed-on word32
+const COMMANDS: [u8; 575] = *b"terminal word32 word8 amount text8 text15
+sign-on
 sale amount card chip? field55
 authorise amount card chip? field55
 sale-void word32
@@ -19,6 +19,7 @@ answer bytes mac
 reply code bad?
 reconcile digit
 date date
+centre-batch batch
 echo switch
 no-answer
 power
@@ -37,9 +38,10 @@ unknown any any any any any any any any any any
 ";
 
 // What words may be, by name; no word may stand where there is no name.
-const SHAPE_NAMES: [u8; 137] = *b"word32
+const SHAPE_NAMES: [u8; 143] = *b"word32
 word8
 digit
+batch
 amount
 card
 card?
@@ -61,10 +63,11 @@ switch
 any
 ";
 
-const SHAPES: [Shape; 23] = [
+const SHAPES: [Shape; 24] = [
     Shape::Number(4294967295),
     Shape::Number(255),
     Shape::Number(9),
+    Shape::Number(999999),
     Shape::Number(999999999999999999),
     Shape::Card,
     Shape::CardOrNone,
@@ -89,10 +92,10 @@ const SHAPES: [Shape; 23] = [
 
 // The number of the row of a line whose first word is w.
 pub fn row_of(w: &[u8]) -> usize
-    ensures { λ r. ⌜ r ≡ rowNamed 28 (now (w .entry)) commands ⌝ }
+    ensures { λ r. ⌜ r ≡ rowNamed 29 (now (w .entry)) commands ⌝ }
 {
     let table = COMMANDS;
-    words::row_named(28, w, &table)
+    words::row_named(29, w, &table)
 }
 
 // What word i of a line must be, the first being 0, where the line has row k.
@@ -108,8 +111,8 @@ fn shape_named(w: &[u8]) -> Shape
 {
     let names = SHAPE_NAMES;
     let shapes = SHAPES;
-    let k = words::row_named(22, w, &names);
-    if k < 23 {
+    let k = words::row_named(23, w, &names);
+    if k < 24 {
         return shapes[k];
     }
     Shape::End

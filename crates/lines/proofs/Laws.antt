@@ -30,7 +30,7 @@ use Rattle.words.specs.Rows.{row}
 use Rattle.grammar.specs.Shapes.{isBytes}
 use Rattle.grammar.specs.declared.Fault.the-variants.{Word}
 use Rattle.script.specs.declared.Command.{Command}
-use Rattle.script.specs.declared.Command.the-variants.{Terminal, Call as Calls, Reply, Reconcile, Date, Echo, Show as Shows, Wrong}
+use Rattle.script.specs.declared.Command.the-variants.{Terminal, Call as Calls, Reply, Reconcile, Date, CentreBatch, Echo, Show as Shows, Wrong}
 use Rattle.script.specs.declared.Show.{Show}
 use Rattle.script.proofs.Command as command
 use Rattle.screen.specs.Outcomes.{errorLine}
@@ -75,38 +75,41 @@ module _ (w o : List ℕ) {h : Hex} {b : List ℕ} {n : ℕ} (e : h ≡ hexOutco
       go false u = refl
 
 -- what a command is where no pattern has matched it
-pub changes-nothing : (k : Command) (x : Settings) (r : Rehearsal) → OneOf (1 ∷ 2 ∷ 3 ∷ 6 ∷ 7 ∷ []) (tagOf command.the-type k)
+pub changes-nothing : (k : Command) (x : Settings) (r : Rehearsal) → OneOf (1 ∷ 2 ∷ 3 ∷ 7 ∷ 8 ∷ []) (tagOf command.the-type k)
     → r ≡ changedBy k x r
-changes-nothing Terminal x r h = absurd (miss (1 ∷ 2 ∷ 3 ∷ 6 ∷ 7 ∷ []) 0 tt h)
+changes-nothing Terminal x r h = absurd (miss (1 ∷ 2 ∷ 3 ∷ 7 ∷ 8 ∷ []) 0 tt h)
 changes-nothing (Calls c w) x r h = refl
 changes-nothing (Reply a b good) x r h = refl
 changes-nothing (Reconcile digit) x r h = refl
-changes-nothing (Date d) x r h = absurd (miss (1 ∷ 2 ∷ 3 ∷ 6 ∷ 7 ∷ []) 4 tt h)
-changes-nothing (Echo on) x r h = absurd (miss (1 ∷ 2 ∷ 3 ∷ 6 ∷ 7 ∷ []) 5 tt h)
+changes-nothing (Date d) x r h = absurd (miss (1 ∷ 2 ∷ 3 ∷ 7 ∷ 8 ∷ []) 4 tt h)
+changes-nothing (CentreBatch n) x r h = absurd (miss (1 ∷ 2 ∷ 3 ∷ 7 ∷ 8 ∷ []) 5 tt h)
+changes-nothing (Echo on) x r h = absurd (miss (1 ∷ 2 ∷ 3 ∷ 7 ∷ 8 ∷ []) 6 tt h)
 changes-nothing (Shows y) x r h = refl
 changes-nothing (Wrong f) x r h = refl
 
-pub no-bytes : (k : Command) (s : List ℕ) (m : Message) (date : ℕ) → OneOf (0 ∷ 4 ∷ 5 ∷ 6 ∷ 7 ∷ []) (tagOf command.the-type k)
-    → [] ≡ callBytes k s m date
-no-bytes Terminal s m date h = refl
-no-bytes (Calls c w) s m date h = absurd (miss (0 ∷ 4 ∷ 5 ∷ 6 ∷ 7 ∷ []) 1 tt h)
-no-bytes (Reply a b good) s m date h = absurd (miss (0 ∷ 4 ∷ 5 ∷ 6 ∷ 7 ∷ []) 2 tt h)
-no-bytes (Reconcile digit) s m date h = absurd (miss (0 ∷ 4 ∷ 5 ∷ 6 ∷ 7 ∷ []) 3 tt h)
-no-bytes (Date d) s m date h = refl
-no-bytes (Echo on) s m date h = refl
-no-bytes (Shows y) s m date h = refl
-no-bytes (Wrong f) s m date h = refl
+pub no-bytes : (k : Command) (s : List ℕ) (m : Message) (date batch : ℕ) → OneOf (0 ∷ 4 ∷ 5 ∷ 6 ∷ 7 ∷ 8 ∷ []) (tagOf command.the-type k)
+    → [] ≡ callBytes k s m date batch
+no-bytes Terminal s m date batch h = refl
+no-bytes (Calls c w) s m date batch h = absurd (miss (0 ∷ 4 ∷ 5 ∷ 6 ∷ 7 ∷ 8 ∷ []) 1 tt h)
+no-bytes (Reply a b good) s m date batch h = absurd (miss (0 ∷ 4 ∷ 5 ∷ 6 ∷ 7 ∷ 8 ∷ []) 2 tt h)
+no-bytes (Reconcile digit) s m date batch h = absurd (miss (0 ∷ 4 ∷ 5 ∷ 6 ∷ 7 ∷ 8 ∷ []) 3 tt h)
+no-bytes (Date d) s m date batch h = refl
+no-bytes (CentreBatch n) s m date batch h = refl
+no-bytes (Echo on) s m date batch h = refl
+no-bytes (Shows y) s m date batch h = refl
+no-bytes (Wrong f) s m date batch h = refl
 
-says-nothing : (k : Command) (number : ℕ) (r : Rehearsal) (lent : Lent) → OneOf (0 ∷ 1 ∷ 2 ∷ 3 ∷ 4 ∷ 5 ∷ []) (tagOf command.the-type k)
+says-nothing : (k : Command) (number : ℕ) (r : Rehearsal) (lent : Lent) → OneOf (0 ∷ 1 ∷ 2 ∷ 3 ∷ 4 ∷ 5 ∷ 6 ∷ []) (tagOf command.the-type k)
     → saidBy k number r lent ≡ []
 says-nothing Terminal number r lent h = refl
 says-nothing (Calls c w) number r lent h = refl
 says-nothing (Reply a b good) number r lent h = refl
 says-nothing (Reconcile digit) number r lent h = refl
 says-nothing (Date d) number r lent h = refl
+says-nothing (CentreBatch x) number r lent h = refl
 says-nothing (Echo on) number r lent h = refl
-says-nothing (Shows y) number r lent h = absurd (miss (0 ∷ 1 ∷ 2 ∷ 3 ∷ 4 ∷ 5 ∷ []) 6 tt h)
-says-nothing (Wrong f) number r lent h = absurd (miss (0 ∷ 1 ∷ 2 ∷ 3 ∷ 4 ∷ 5 ∷ []) 7 tt h)
+says-nothing (Shows y) number r lent h = absurd (miss (0 ∷ 1 ∷ 2 ∷ 3 ∷ 4 ∷ 5 ∷ 6 ∷ []) 7 tt h)
+says-nothing (Wrong f) number r lent h = absurd (miss (0 ∷ 1 ∷ 2 ∷ 3 ∷ 4 ∷ 5 ∷ 6 ∷ []) 8 tt h)
 
 -- what is said of an error, of a command y, and of one that says nothing
 module _ (error number : ℕ) (k : Command) (r : Rehearsal) (lent : Lent) {n : ℕ} {o : List ℕ} where
@@ -119,7 +122,7 @@ module _ (error number : ℕ) (k : Command) (r : Rehearsal) (lent : Lent) {n : �
   says z e t = rw (eq-eqb error 0 z) (subst (λ (x : Command). Text (saidBy x number r lent) n o) (sym e) t)
 
 pub keeps-silent : (error number : ℕ) (k : Command) (r : Rehearsal) (lent : Lent) (o : List ℕ) → error ≡ 0
-    → OneOf (0 ∷ 1 ∷ 2 ∷ 3 ∷ 4 ∷ 5 ∷ []) (tagOf command.the-type k) → Text (said error number k r lent) 0 o
+    → OneOf (0 ∷ 1 ∷ 2 ∷ 3 ∷ 4 ∷ 5 ∷ 6 ∷ []) (tagOf command.the-type k) → Text (said error number k r lent) 0 o
 unfolding said
 keeps-silent error number k r lent o z h =
     rw (eq-eqb error 0 z) (subst (λ (w : List ℕ). Text w 0 o) (sym (says-nothing k number r lent h)) (start o))

@@ -22,7 +22,7 @@ use Rattle.centre.specs.Centre.{reply, reconciliation}
 use Rattle.centre_types.specs.declared.Left.{Left}
 use Rattle.centre_types.specs.declared.Left.the-variants as left
 use Rattle.stage.specs.declared.Rehearsal.{Rehearsal}
-use Rattle.stage.specs.Stage.{begun, dated, echoing}
+use Rattle.stage.specs.Stage.{begun, dated, numbered, echoing}
 use Rattle.lines.specs.declared.asks.Asked.{Asked}
 use Rattle.lines.specs.declared.asks.Asked.the-variants as asked
 
@@ -33,6 +33,7 @@ replyError left.Request = 0
 replyError left.Reversal = 0
 replyError left.Settlement = 3
 replyError left.Upload = 0
+replyError left.SignOn = 0
 
 abbrev pub reconcileError : Left → ℕ
 reconcileError left.Nothing = 2
@@ -40,6 +41,7 @@ reconcileError left.Request = 4
 reconcileError left.Reversal = 4
 reconcileError left.Settlement = 0
 reconcileError left.Upload = 4
+reconcileError left.SignOn = 4
 
 -- the error of a line that needs a terminal
 unfoldable pub errorAfter : Bool → ℕ → ℕ
@@ -55,6 +57,7 @@ askedBy (command.Call c k) has-terminal l = callOr (errorAfter has-terminal 0) c
 askedBy (command.Reply a b good) has-terminal l = callOr (errorAfter has-terminal (replyError l)) (call.Answer good)
 askedBy (command.Reconcile digit) has-terminal l = callOr (errorAfter has-terminal (reconcileError l)) (call.Answer true)
 askedBy (command.Date d) has-terminal l = asked.Error 0
+askedBy (command.CentreBatch n) has-terminal l = asked.Error (errorAfter has-terminal 0)
 askedBy (command.Echo on) has-terminal l = asked.Error 0
 askedBy (command.Show x) has-terminal l = asked.Error (errorAfter has-terminal 0)
 askedBy (command.Wrong f) has-terminal l = asked.Error 0
@@ -66,9 +69,14 @@ changedBy (command.Call c k) x r = r
 changedBy (command.Reply a b good) x r = r
 changedBy (command.Reconcile digit) x r = r
 changedBy (command.Date d) x r = dated d r
+changedBy (command.CentreBatch n) x r = numbered n r
 changedBy (command.Echo on) x r = echoing on r
 changedBy (command.Show y) x r = r
 changedBy (command.Wrong f) x r = r
+
+-- an error changes nothing
+unfoldable pub changedAfter : ℕ → Command → Settings → Rehearsal → Rehearsal
+changedAfter error k x r = cond (eqb error 0) (changedBy k x r) r
 
 -- the bytes of a message of the simulated centre
 unfoldable pub bytesOf : Message → List ℕ
@@ -84,13 +92,14 @@ hexLength (Bytes n) = n
 hexLength Not = 0
 hexLength TooLong = 0
 
--- the bytes of the call of a line s: the simulated centre's answer to m on this date, or those of a word
-abbrev pub callBytes : Command → List ℕ → Message → ℕ → List ℕ
-callBytes command.Terminal s m date = []
-callBytes (command.Call c k) s m date = bytesIn (wordAt k s)
-callBytes (command.Reply a b good) s m date = bytesOf (reply m date (a ∷ b ∷ []))
-callBytes (command.Reconcile digit) s m date = bytesOf (reconciliation m digit)
-callBytes (command.Date d) s m date = []
-callBytes (command.Echo on) s m date = []
-callBytes (command.Show x) s m date = []
-callBytes (command.Wrong f) s m date = []
+-- the bytes of the call of a line s: the simulated centre's answer to m, with its date and its batch number, or those of a word
+abbrev pub callBytes : Command → List ℕ → Message → ℕ → ℕ → List ℕ
+callBytes command.Terminal s m date batch = []
+callBytes (command.Call c k) s m date batch = bytesIn (wordAt k s)
+callBytes (command.Reply a b good) s m date batch = bytesOf (reply m date batch (a ∷ b ∷ []))
+callBytes (command.Reconcile digit) s m date batch = bytesOf (reconciliation m digit)
+callBytes (command.Date d) s m date batch = []
+callBytes (command.CentreBatch n) s m date batch = []
+callBytes (command.Echo on) s m date batch = []
+callBytes (command.Show x) s m date batch = []
+callBytes (command.Wrong f) s m date batch = []

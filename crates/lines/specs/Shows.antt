@@ -65,6 +65,7 @@ saidBy (command.Call c k) number r lent = []
 saidBy (command.Reply a b good) number r lent = []
 saidBy (command.Reconcile digit) number r lent = []
 saidBy (command.Date d) number r lent = []
+saidBy (command.CentreBatch n) number r lent = []
 saidBy (command.Echo on) number r lent = []
 saidBy (command.Show x) number r lent = shown x r lent
 saidBy (command.Wrong f) number r lent = errorLine number (faultText f)

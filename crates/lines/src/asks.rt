@@ -9,7 +9,7 @@ use state::Settings;
 ghost use mathlib.Core.Path.{_≡_};
 ghost use Prim.Native.Nat.{_≤_};
 ghost use lib.ListN.{length, take};
-ghost use Rattle.lines.specs.Asks.{hexLength, replyError, reconcileError, errorAfter, callOr, askedBy, changedBy, callBytes};
+ghost use Rattle.lines.specs.Asks.{hexLength, replyError, reconcileError, errorAfter, callOr, askedBy, changedAfter, callBytes};
 
 // What a line asks for: a call, or none; it may not be obeyed for an error, and 0 is none.
 pub enum Asked {
@@ -36,19 +36,24 @@ pub fn asked_by(command: Command, begun: bool, left: Left) -> Asked
             )
         }
         Command::Date(_) => Asked::Error(0),
+        Command::CentreBatch(_) => Asked::Error(error_after(begun, 0)),
         Command::Echo(_) => Asked::Error(0),
         Command::Show(_) => Asked::Error(error_after(begun, 0)),
         Command::Wrong(_) => Asked::Error(0),
     }
 }
 
-// The rehearsal after a line that makes no call.
-pub fn changed(command: Command, settings: Settings, r: Rehearsal) -> Rehearsal
-    ensures { λ a. ⌜ a ≡ changedBy command settings r ⌝ }
+// The rehearsal after a line that makes no call; an error changes nothing.
+pub fn changed(error: usize, command: Command, settings: Settings, r: Rehearsal) -> Rehearsal
+    ensures { λ a. ⌜ a ≡ changedAfter error command settings r ⌝ }
 {
+    if error != 0 {
+        return r;
+    }
     match command {
         Command::Terminal => stage::begun(settings, r),
         Command::Date(d) => stage::dated(d, r),
+        Command::CentreBatch(batch) => stage::numbered(batch, r),
         Command::Echo(on) => stage::echoing(on, r),
         _ => r,
     }
@@ -56,8 +61,15 @@ pub fn changed(command: Command, settings: Settings, r: Rehearsal) -> Rehearsal
 
 // Puts the bytes of the call of a line s at the front of out, 2,048 bytes, and gives their number: those of the simulated centre's
 // message, or those that a word gives in hexadecimal.
-pub fn bytes_into(command: Command, s: &[u8], sent: Message, date: u16, out: &mut [u8]) -> usize
-    ensures { λ n. ⌜ (n ≤ length (now (out .exit))) × (length (now (out .entry)) ≡ 2048 → take n (now (out .exit)) ≡ callBytes command (now (s .entry)) sent date) ⌝ }
+pub fn bytes_into(
+    command: Command,
+    s: &[u8],
+    sent: Message,
+    date: u16,
+    batch: u32,
+    out: &mut [u8],
+) -> usize
+    ensures { λ n. ⌜ (n ≤ length (now (out .exit))) × (length (now (out .entry)) ≡ 2048 → take n (now (out .exit)) ≡ callBytes command (now (s .entry)) sent date batch) ⌝ }
 {
     match command {
         Command::Call { call, word } => {
@@ -69,7 +81,7 @@ pub fn bytes_into(command: Command, s: &[u8], sent: Message, date: u16, out: &mu
             good,
         } => {
             let code = [first, second];
-            outgoing::write_outgoing(centre::reply(sent, date, code), out)
+            outgoing::write_outgoing(centre::reply(sent, date, batch, code), out)
         }
         Command::Reconcile(digit) => {
             outgoing::write_outgoing(centre::reconciliation(sent, digit), out)
@@ -107,6 +119,7 @@ fn reply_error(left: Left) -> usize
         Left::Reversal => 0,
         Left::Settlement => 3,
         Left::Upload => 0,
+        Left::SignOn => 0,
     }
 }
 
@@ -119,6 +132,7 @@ fn reconcile_error(left: Left) -> usize
         Left::Reversal => 4,
         Left::Settlement => 0,
         Left::Upload => 4,
+        Left::SignOn => 4,
     }
 }
 

@@ -14,15 +14,15 @@ use Rattle.texts.specs.Text.{Text}
 use Rattle.words.specs.Rows.{row}
 use Rattle.script.specs.Script.{parsed}
 use Rattle.script.specs.declared.Command.{Command}
-use Rattle.script.specs.declared.Command.the-variants.{Terminal, Call as Calls, Reply, Reconcile, Date, Echo, Show as Shows, Wrong}
+use Rattle.script.specs.declared.Command.the-variants.{Terminal, Call as Calls, Reply, Reconcile, Date, CentreBatch, Echo, Show as Shows, Wrong}
 use Rattle.script.specs.declared.Line.{Line}
 use Rattle.screen.specs.Outcomes.{errorLine, outcomeLine}
 use Rattle.centre_types.specs.Types.{leftAs}
 use Rattle.centre_types.specs.declared.Left.{Left}
-use Rattle.centre_types.specs.declared.Left.the-variants.{Nothing, Request, Reversal, Settlement, Upload}
+use Rattle.centre_types.specs.declared.Left.the-variants.{Nothing, Request, Reversal, Settlement, Upload, SignOn}
 use Rattle.stage.specs.declared.Rehearsal.{Rehearsal}
 use Rattle.stage.specs.Stage.{afterCall}
-use Rattle.lines.specs.Asks.{errorAfter, callOr, askedBy, changedBy, callBytes}
+use Rattle.lines.specs.Asks.{errorAfter, callOr, askedBy, changedAfter, callBytes}
 use Rattle.lines.specs.Shows.{last, messageIn, errors, said}
 use Rattle.lines.specs.declared.asks.Asked.{Asked}
 use Rattle.lines.specs.declared.asks.Asked.the-variants as asked
@@ -50,13 +50,13 @@ wrote lent e t = record { rehearsal-is = e; lent-is = refl; text-is = t }
 module _ (number : ℕ) (s : List ℕ) (r : Rehearsal) (lent : Lent) where
   -- what it does by what it asks for
   abbrev doneAs : Asked → Command → Line → Done
-  doneAs (asked.Call c) k line = called (eventOf c (line .desk) (callBytes k s (messageIn (last r (lent .message))) (r .date))) r lent
-  doneAs (asked.Error e) k line = writes (said e number k r lent) (changedBy k (line .settings) r) lent
+  doneAs (asked.Call c) k line = called (eventOf c (line .desk) (callBytes k s (messageIn (last r (lent .message))) (r .date) (r .batch))) r lent
+  doneAs (asked.Error e) k line = writes (said e number k r lent) (changedAfter e k (line .settings) r) lent
 
   asked-done : (k : Command) (line : Line) (has-terminal : Bool) (l : Left)
       → cond (eqb (lineError k has-terminal l) 0) (commandDone k line number s r lent) (writes (errorLine number (row (lineError k has-terminal l) errors)) r lent)
       ≡ doneAs (askedBy k has-terminal l) k line
-  unfolding lineError errorAfter callOr said
+  unfolding lineError errorAfter callOr changedAfter said
   asked-done Terminal line true l = refl
   asked-done Terminal line false l = refl
   asked-done (Calls c w) line true l = refl
@@ -66,15 +66,19 @@ module _ (number : ℕ) (s : List ℕ) (r : Rehearsal) (lent : Lent) where
   asked-done (Reply a b good) line true Reversal = refl
   asked-done (Reply a b good) line true Settlement = refl
   asked-done (Reply a b good) line true Upload = refl
+  asked-done (Reply a b good) line true SignOn = refl
   asked-done (Reply a b good) line false l = refl
   asked-done (Reconcile digit) line true Nothing = refl
   asked-done (Reconcile digit) line true Request = refl
   asked-done (Reconcile digit) line true Reversal = refl
   asked-done (Reconcile digit) line true Settlement = refl
   asked-done (Reconcile digit) line true Upload = refl
+  asked-done (Reconcile digit) line true SignOn = refl
   asked-done (Reconcile digit) line false l = refl
   asked-done (Date d) line true l = refl
   asked-done (Date d) line false l = refl
+  asked-done (CentreBatch n) line true l = refl
+  asked-done (CentreBatch n) line false l = refl
   asked-done (Echo on) line true l = refl
   asked-done (Echo on) line false l = refl
   asked-done (Shows x) line true l = refl
@@ -95,16 +99,16 @@ module _ (number : ℕ) (s : List ℕ) (r : Rehearsal) (lent : Lent) where
         ∙ ap (λ (z : Asked). doneAs z (line .command) line) (sym t)
 
     module _ {d : Acted} {o : List ℕ} where
-      pub call-done : {c : Call} {b : List ℕ} {after : Lent} → a ≡ asked.Call c → b ≡ callBytes (line .command) s x (r .date)
+      pub call-done : {c : Call} {b : List ℕ} {after : Lent} → a ≡ asked.Call c → b ≡ callBytes (line .command) s x (r .date) (r .batch)
           → Did (called (eventOf c (line .desk) b) r lent) d after o → Did (done number s r lent) d after o
       call-done {c} {b} {after} g p u =
           subst (λ (z : Done). Did z d after o)
           (ap (λ (y : List ℕ). called (eventOf c (line .desk) y) r lent)
-          (p ∙ ap (λ (z : Message). callBytes (line .command) s z (r .date)) h)
+          (p ∙ ap (λ (z : Message). callBytes (line .command) s z (r .date) (r .batch)) h)
           ∙ sym (is-done ∙ ap (λ (z : Asked). doneAs z (line .command) line) g))
           u
 
-      pub no-call-done : {error : ℕ} → a ≡ asked.Error error → d .rehearsal ≡ changedBy (line .command) (line .settings) r
+      pub no-call-done : {error : ℕ} → a ≡ asked.Error error → d .rehearsal ≡ changedAfter error (line .command) (line .settings) r
           → Text (said error number (line .command) r lent) (d .written) o → Did (done number s r lent) d lent o
       no-call-done g u v =
           subst (λ (z : Done). Did z d lent o) (sym (is-done ∙ ap (λ (z : Asked). doneAs z (line .command) line) g)) (wrote lent u v)

@@ -16,7 +16,7 @@ use Rattle.centre_types.specs.Types.{leftAs}
 use Rattle.centre_types.specs.declared.Left.{Left}
 use Rattle.centre.specs.Centre.{reply, reconciliation}
 use Rattle.stage.specs.declared.Rehearsal.{Rehearsal}
-use Rattle.stage.specs.Stage.{begun, dated, echoing}
+use Rattle.stage.specs.Stage.{begun, dated, numbered, echoing}
 use Rattle.lines.specs.Asks.{replyError, reconcileError, bytesOf, bytesIn}
 use Rattle.lines.specs.Shows.{last, messageIn, shown, faultText, errors}
 use Rattle.rehearse.specs.Rehearsal.{Done, writes, called}
@@ -28,6 +28,7 @@ commandError (command.Call c k) l = 0
 commandError (command.Reply a b good) l = replyError l
 commandError (command.Reconcile digit) l = reconcileError l
 commandError (command.Date d) l = 0
+commandError (command.CentreBatch n) l = 0
 commandError (command.Echo on) l = 0
 commandError (command.Show x) l = 0
 commandError (command.Wrong f) l = 0
@@ -39,11 +40,12 @@ standsAlone (command.Call c k) = false
 standsAlone (command.Reply a b good) = false
 standsAlone (command.Reconcile digit) = false
 standsAlone (command.Date d) = true
+standsAlone (command.CentreBatch n) = false
 standsAlone (command.Echo on) = true
 standsAlone (command.Show x) = false
 standsAlone (command.Wrong f) = true
 
--- before the first terminal a call or a show is an error
+-- before the first terminal a call, a show or the centre's batch number is an error
 unfoldable pub lineError : Command → Bool → Left → ℕ
 lineError c has-terminal l = cond (has-terminal || standsAlone c) (commandError c l) 1
 
@@ -52,10 +54,11 @@ abbrev pub commandDone : Command → Line → ℕ → List ℕ → Rehearsal →
 commandDone command.Terminal line number s r lent = writes [] (begun (line .settings) r) lent
 commandDone (command.Call c k) line number s r lent = called (eventOf c (line .desk) (bytesIn (wordAt k s))) r lent
 commandDone (command.Reply a b good) line number s r lent =
-    called (answers (bytesOf (reply (messageIn (last r (lent .message))) (r .date) (a ∷ b ∷ []))) good) r lent
+    called (answers (bytesOf (reply (messageIn (last r (lent .message))) (r .date) (r .batch) (a ∷ b ∷ []))) good) r lent
 commandDone (command.Reconcile digit) line number s r lent =
     called (answers (bytesOf (reconciliation (messageIn (last r (lent .message))) digit)) true) r lent
 commandDone (command.Date d) line number s r lent = writes [] (dated d r) lent
+commandDone (command.CentreBatch n) line number s r lent = writes [] (numbered n r) lent
 commandDone (command.Echo on) line number s r lent = writes [] (echoing on r) lent
 commandDone (command.Show x) line number s r lent = writes (shown x r lent) r lent
 commandDone (command.Wrong f) line number s r lent = writes (errorLine number (faultText f)) r lent

@@ -40,12 +40,12 @@ pub fn act(
             let state = r.state;
             let terminal = Terminal { state: state };
             let mut bytes = [0u8; 2048];
-            let n = lines::bytes_into(command, s, sent, r.date, &mut bytes);
+            let n = lines::bytes_into(command, s, sent, r.date, r.batch, &mut bytes);
             let step = terminal.make(c, desk, &bytes[..n], journal, message);
             told(step, r, message, out)
         }
         Asked::Error(error) => Acted {
-            rehearsal: lines::changed(command, settings, r),
+            rehearsal: lines::changed(error, command, settings, r),
             written: lines::say(error, number, command, r, journal, message, out),
         },
     }

@@ -36,6 +36,7 @@ reasons =
     ++ text "the total would be too large\n"
     ++ text "the answer does not match\n"
     ++ text "field 55 is out of form\n"
+    ++ text "the length of field 62 is not allowed\n"
 
 unfoldable pub reason : ℕ → List ℕ
 reason n = row n reasons

@@ -19,6 +19,7 @@ use Rattle.state.specs.declared.Counts.{Counts}
 use Rattle.state.specs.declared.Phase.{Phase}
 use Rattle.state.specs.declared.Phase.the-variants.{Resting, Waiting, Pending, Settling, Uploading}
 use Rattle.state.specs.declared.State.{State}
+use Rattle.state.specs.State.{signsOn}
 
 -- counts sent 3 approved 2 declined 0 reversed 1 given-up 0 unanswered 0 waiting 0
 abbrev pub countNames : List ℕ
@@ -51,6 +52,7 @@ phaseNames =
     ++ text "settling\n"
     ++ text "uploading\n"
     ++ text "waiting-consent\n"
+    ++ text "waiting-sign-on\n"
 
 abbrev pub awaitedNumber : Awaited → ℕ
 awaitedNumber (awaited.Request q) = 1
@@ -66,9 +68,9 @@ phaseNumber (Pending v) = 6
 phaseNumber Settling = 7
 phaseNumber Uploading = 8
 
--- document 02, request 1: after a chip's approval the card's word is awaited
+-- document 02, request 3: the answer to a sign-on may be awaited, whatever the phase; request 1: after a chip's approval the card's word is awaited
 unfoldable pub stateNumber : State → ℕ
-stateNumber s = cond (s .chip .approved) 9 (phaseNumber (s .phase))
+stateNumber s = cond (signsOn s) 10 (cond (s .chip .approved) 9 (phaseNumber (s .phase)))
 
 unfoldable pub phaseName : State → List ℕ
 phaseName s = row (stateNumber s) phaseNames

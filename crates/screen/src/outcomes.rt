@@ -6,7 +6,7 @@ ghost use Rattle.texts.specs.Text.{Adds};
 ghost use Rattle.screen.specs.Outcomes.{outcomeLine, errorLine};
 
 // Why a call is turned down: row k is number k of documents 01 and 02.
-const REASONS: [u8; 675] = *b"
+const REASONS: [u8; 713] = *b"
 message buffer or journal too small
 settings, state or journal out of form
 the message ends too early
@@ -30,6 +30,7 @@ the entry is voided already
 the total would be too large
 the answer does not match
 field 55 is out of form
+the length of field 62 is not allowed
 ";
 
 // Adds what a call gave; what left stands at the front of message.

@@ -10,8 +10,8 @@ ghost use Rattle.journal.specs.Journal.{entriesOf};
 ghost use Rattle.state_rules.specs.StateRules.{waiting};
 ghost use Rattle.screen.specs.Shows.{countsLine, totalsLine, awaitedNumber, phaseNumber, stateNumber, stateLine, journalText, messageLine};
 
-// The names of the phases by number; the last is that of the wait for the card's word.
-const PHASES: [u8; 134] = *b"resting
+// The names of the phases by number; the last two are those of the waits for the card's word and for the answer to a sign-on.
+const PHASES: [u8; 150] = *b"resting
 waiting-card
 waiting-reversal
 waiting-settlement
@@ -21,6 +21,7 @@ reversal-pending
 settling
 uploading
 waiting-consent
+waiting-sign-on
 ";
 
 pub fn add_counts(c: Counts, phase: Phase, n: usize, out: &mut [u8]) -> usize
@@ -127,12 +128,15 @@ fn phase_number(phase: Phase) -> usize
     }
 }
 
-// The number of a state's phase, where the card's word may be awaited.
+// The number of a state's phase, where the answer to a sign-on or the card's word may be awaited.
 fn state_number(s: State) -> usize
     ensures { λ r. ⌜ r ≡ stateNumber s ⌝ }
 {
     let chip = s.chip;
     let phase = s.phase;
+    if s.signs_on() {
+        return 10;
+    }
     if chip.approved {
         return 9;
     }

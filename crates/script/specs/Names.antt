@@ -8,7 +8,7 @@ use Rattle.script.specs.declared.Name.the-variants as name
 abbrev pub names : List Name
 names =
     name.Terminal
-    ∷ name.SignedOn
+    ∷ name.Call call.SignOn
     ∷ name.Request 22
     ∷ name.Request 10
     ∷ name.Void 23
@@ -21,6 +21,7 @@ names =
     ∷ name.Reply
     ∷ name.Reconcile
     ∷ name.Date
+    ∷ name.CentreBatch
     ∷ name.Echo
     ∷ name.Call call.NoAnswer
     ∷ name.Call call.PowerReturned

@@ -76,11 +76,11 @@ deskOf name.Refund s =
     keyed 25 (wordAt 1 s) (wordAt 2 s) [] (wordAt 3 s) [] (monthDay (wordAt 4 s) / 100) (monthDay (wordAt 4 s) % 100) false
 deskOf name.Start s = given s
 deskOf name.Terminal s = given s
-deskOf name.SignedOn s = given s
 deskOf name.Answer s = given s
 deskOf name.Reply s = given s
 deskOf name.Reconcile s = given s
 deskOf name.Date s = given s
+deskOf name.CentreBatch s = given s
 deskOf name.Echo s = given s
 deskOf (name.Call c) s = given s
 deskOf (name.Show x) s = given s
@@ -97,7 +97,6 @@ settingsIn s =
 -- and no word 9 stands in a line of a call without bytes
 abbrev pub commandOf : Name → List ℕ → Command
 commandOf name.Terminal s = command.Terminal
-commandOf name.SignedOn s = command.Call (call.SignedOn (record { 0 = number32 (wordAt 1 s) })) 9
 commandOf (name.Request kind) s = command.Call call.Start 4
 commandOf (name.Void kind) s = command.Call call.Start 9
 commandOf (name.Authorised kind) s = command.Call call.Start 9
@@ -107,6 +106,7 @@ commandOf name.Answer s = command.Call (call.Answer (isGood (wordAt 2 s))) 1
 commandOf name.Reply s = command.Reply (getD (wordAt 1 s) 0 0) (getD (wordAt 1 s) 1 0) (isEmpty (wordAt 2 s))
 commandOf name.Reconcile s = command.Reconcile (number8 (wordAt 1 s))
 commandOf name.Date s = command.Date (monthDay (wordAt 1 s))
+commandOf name.CentreBatch s = command.CentreBatch (number32 (wordAt 1 s))
 commandOf name.Echo s = command.Echo (sameBytes (wordAt 1 s) (text "on"))
 commandOf (name.Call c) s = command.Call c 9
 commandOf (name.Show x) s = command.Show x
@@ -124,4 +124,4 @@ lineOf k s =
       settings = settingsIn s; desk = deskOf (getD names k name.Unknown) s }
 
 unfoldable pub parsed : List ℕ → Line
-parsed s = lineOf (rowNamed 28 (wordAt 0 s) commands) s
+parsed s = lineOf (rowNamed 29 (wordAt 0 s) commands) s

@@ -6,7 +6,6 @@ use calls::Call;
 use desk::Desk;
 use grammar::Fault;
 use grammar::Verdict;
-use numbers::Batch;
 use state::Settings;
 ghost use mathlib.Core.Path.{_≡_};
 ghost use Rattle.script.specs.Script.{commandOf, judgedCommand, parsed};
@@ -24,7 +23,6 @@ pub enum Show {
 // What the first word of a line names; requests, voids and what follows an authorisation come with their kind.
 pub enum Name {
     Terminal,
-    SignedOn,
     Request(u8),
     Void(u8),
     Authorised(u8),
@@ -34,6 +32,7 @@ pub enum Name {
     Reply,
     Reconcile,
     Date,
+    CentreBatch,
     Echo,
     Call(Call),
     Show(Show),
@@ -48,6 +47,7 @@ pub enum Command {
     Reply { first: u8, second: u8, good: bool },
     Reconcile(u8),
     Date(u16),
+    CentreBatch(u32),
     Echo(bool),
     Show(Show),
     Wrong(Fault),
@@ -91,10 +91,6 @@ fn command_of(name: Name, s: &[u8]) -> Command
 {
     match name {
         Name::Terminal => Command::Terminal,
-        Name::SignedOn => Command::Call {
-            call: Call::SignedOn(Batch(values::number32(words::word(s, 1)))),
-            word: 9,
-        },
         Name::Request(_) => Command::Call {
             call: Call::Start,
             word: 4,
@@ -106,6 +102,7 @@ fn command_of(name: Name, s: &[u8]) -> Command
         Name::Reply => replied(s),
         Name::Reconcile => Command::Reconcile(values::number8(words::word(s, 1))),
         Name::Date => Command::Date(values::month_day(words::word(s, 1))),
+        Name::CentreBatch => Command::CentreBatch(values::number32(words::word(s, 1))),
         Name::Echo => Command::Echo(digits::same(words::word(s, 1), b"on")),
         Name::Call(c) => Command::Call { call: c, word: 9 },
         Name::Show(x) => Command::Show(x),

@@ -6,9 +6,9 @@ ghost use mathlib.Core.Path.{_≡_};
 ghost use lib.ListN.{getD};
 ghost use Rattle.script.specs.Names.{names};
 
-const NAMES: [Name; 29] = [
+const NAMES: [Name; 30] = [
     Name::Terminal,
-    Name::SignedOn,
+    Name::Call(Call::SignOn),
     Name::Request(22),
     Name::Request(10),
     Name::Void(23),
@@ -21,6 +21,7 @@ const NAMES: [Name; 29] = [
     Name::Reply,
     Name::Reconcile,
     Name::Date,
+    Name::CentreBatch,
     Name::Echo,
     Name::Call(Call::NoAnswer),
     Name::Call(Call::PowerReturned),
@@ -43,7 +44,7 @@ pub fn name_at(k: usize) -> Name
     ensures { λ r. ⌜ r ≡ getD names k Name.Unknown ⌝ }
 {
     let names = NAMES;
-    if k < 29 {
+    if k < 30 {
         return names[k];
     }
     Name::Unknown

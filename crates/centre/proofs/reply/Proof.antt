@@ -1,61 +1,24 @@
 -- `centre::reply` meets its contract.
 use borrow.Author.Needs.{needs}
+use borrow.Author.Tests.{eq-eqb, ne-eqb}
 use Rattle.centre.specs.Centre.{reply}
 use Rattle.centre.proofs.reply.Statement.{statement}
 use Rattle.centre.proofs.reply.Tie as tie
 
-left-as-requires : tie.Need-left-as-requires
-left-as-requires c κs = search needs
-
-answer-type-requires : tie.Need-answer-type-requires
-answer-type-requires c κs = search needs
-
-typed-requires : tie.Need-typed-requires
-typed-requires c κs = search needs
-
-with-sent-fields-requires : tie.Need-with-sent-fields-requires
-with-sent-fields-requires c κs = search needs
-
-slice-aggregate-with-bytes : tie.Need-slice-aggregate-with-bytes
-slice-aggregate-with-bytes c = search needs
-
-with-bytes-requires : tie.Need-with-bytes-requires
-with-bytes-requires c κs = search needs
-
-with-also-requires : tie.Need-with-also-requires
-with-also-requires c κs = search needs
-
-joined-requires : tie.Need-joined-requires
-joined-requires c κs = tt
+sign-on-reply-requires : tie.Need-sign-on-reply-requires
+sign-on-reply-requires c κs = search needs
 
 returns : tie.Need-returns
 unfolding reply
-returns c =
-    let at-left-as = c .before .before .before .before .before .before .before .before .before .before .left-as in
-    let at-answer-type = c .before .before .before .before .before .before .before .before .before .answer-type in
-    let at-typed = c .before .before .before .before .before .before .before .before .typed in
-    let at-with-sent-fields = c .before .before .before .before .before .before .with-sent-fields in
-    let at-with-bytes = c .before .before .before .with-bytes in
-    rw (
-      c .joined .ensures,
-      c .before .with-also .ensures,
-      at-with-bytes .ensures,
-      at-with-sent-fields .ensures,
-      at-typed .ensures,
-      at-answer-type .ensures,
-      at-left-as .ensures,
-    )
+returns c = rw (eq-eqb _ 0x0800 (c .before .if1 .taken)) (c .sign-on-reply .ensures)
+
+usual-reply-requires : tie.Need-usual-reply-requires
+usual-reply-requires c κs = search needs
+
+returns-2 : tie.Need-returns-2
+unfolding reply
+returns-2 c = rw (ne-eqb _ 0x0800 (c .before .if1 .left)) (c .usual-reply .ensures)
 
 pub reply-spec : {M : Type 1} → statement M
 reply-spec =
-    tie.close
-    (tie.spec
-    left-as-requires
-    answer-type-requires
-    typed-requires
-    with-sent-fields-requires
-    slice-aggregate-with-bytes
-    with-bytes-requires
-    with-also-requires
-    joined-requires
-    returns)
+    tie.close (tie.spec sign-on-reply-requires returns usual-reply-requires returns-2)

@@ -3,36 +3,16 @@ use borrow.Author.Needs.{needs}
 use Rattle.centre.proofs.with_sent_fields.Statement.{statement}
 use Rattle.centre.proofs.with_sent_fields.Tie as tie
 
+with-own-fields-requires : tie.Need-with-own-fields-requires
+with-own-fields-requires c κs = search needs
+
 with-digits-sent-requires : tie.Need-with-digits-sent-requires
 with-digits-sent-requires c κs = search needs
 
-with-bytes-sent-requires : tie.Need-with-bytes-sent-requires
-with-bytes-sent-requires c κs = search needs
-
-with-bytes-sent-requires-2 : tie.Need-with-bytes-sent-requires-2
-with-bytes-sent-requires-2 c κs = search needs
-
-with-digits-sent-requires-2 : tie.Need-with-digits-sent-requires-2
-with-digits-sent-requires-2 c κs = search needs
-
 returns : tie.Need-returns
 returns c =
-    let at-with-digits-sent = c .before .before .before .before .before .before .with-digits-sent in
-    let at-with-bytes-sent = c .before .before .before .before .with-bytes-sent in
-    let at-with-bytes-sent2 = c .before .before .with-bytes-sent2 in
-    rw (
-      c .with-digits-sent2 .ensures,
-      at-with-bytes-sent2 .ensures,
-      at-with-bytes-sent .ensures,
-      at-with-digits-sent .ensures,
-    )
+    let at-with-own-fields = c .before .before .with-own-fields in
+    rw (c .with-digits-sent .ensures, at-with-own-fields .ensures)
 
 pub with-sent-fields-spec : {M : Type 1} → statement M
-with-sent-fields-spec =
-    tie.close
-    (tie.spec
-    with-digits-sent-requires
-    with-bytes-sent-requires
-    with-bytes-sent-requires-2
-    with-digits-sent-requires-2
-    returns)
+with-sent-fields-spec = tie.close (tie.spec with-own-fields-requires with-digits-sent-requires returns)

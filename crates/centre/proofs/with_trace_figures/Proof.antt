@@ -13,8 +13,8 @@ use Rattle.centre.proofs.with_trace_figures.Tie as tie
 mul-end : tie.Need-mul-end
 mul-end c = search needs
 
-trace-sent-requires : tie.Need-trace-sent-requires
-trace-sent-requires c κs = search needs
+number-sent-requires : tie.Need-number-sent-requires
+number-sent-requires c κs = search needs
 
 array-borrow-prefix-figures : tie.Need-array-borrow-prefix-figures
 array-borrow-prefix-figures c = search needs
@@ -61,10 +61,10 @@ returns : tie.Need-returns
 returns c =
     let at-args = c .before .before .before .before .before .before .before .before .before .before .before .args in
     let at-pre = c .before .before .before .before .before .before .before .before .before .before .before .pre in
-    let at-trace-sent = c .before .before .before .before .before .before .before .before .before .before .trace-sent in
+    let at-number-sent = c .before .before .before .before .before .before .before .before .before .before .number-sent in
     let at-put-number = c .before .before .before .before .before .before .before .before .put-number in
     let at-put-hex = c .before .before .before .before .put-hex in
-    figures-put (whole (at-args .h) (now (at-args .contents))) (at-args .n) (at-args .sent) (at-args .pairs) at-pre (at-trace-sent .ensures) (at-put-number .kept .1 .0)
+    figures-put (whole (at-args .h) (now (at-args .contents))) (at-args .n) (at-args .sent) (at-args .pairs) at-pre (at-number-sent .ensures) (at-put-number .kept .1 .0)
     (at-put-number .ensures) (at-put-hex .kept .1 .0) (at-put-hex .ensures .0) (at-put-hex .ensures .1) (c .with-bytes .ensures)
 
 pub with-trace-figures-spec : {M : Type 1} → statement M
@@ -72,7 +72,7 @@ with-trace-figures-spec =
     tie.close
     (tie.spec
     mul-end
-    trace-sent-requires
+    number-sent-requires
     array-borrow-prefix-figures
     slice-aggregate-put-number
     put-number-requires

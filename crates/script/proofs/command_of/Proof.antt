@@ -11,29 +11,29 @@ enum-told c = search needs
 enum-told-2 : tie.Need-enum-told-2
 enum-told-2 c = search needs
 
-word-requires : tie.Need-word-requires
-word-requires c κs = search needs
-
-number32-requires : tie.Need-number32-requires
-number32-requires c κs = search needs
-
 enum-told-3 : tie.Need-enum-told-3
 enum-told-3 c = search needs
 
-enum-told-4 : tie.Need-enum-told-4
-enum-told-4 c = search needs
-
-word-requires-2 : tie.Need-word-requires-2
-word-requires-2 c κs = search needs
+word-requires : tie.Need-word-requires
+word-requires c κs = search needs
 
 is-good-requires : tie.Need-is-good-requires
 is-good-requires c κs = search needs
 
-enum-told-5 : tie.Need-enum-told-5
-enum-told-5 c = search needs
+enum-told-4 : tie.Need-enum-told-4
+enum-told-4 c = search needs
 
 replied-requires : tie.Need-replied-requires
 replied-requires c κs = search needs
+
+enum-told-5 : tie.Need-enum-told-5
+enum-told-5 c = search needs
+
+word-requires-2 : tie.Need-word-requires-2
+word-requires-2 c κs = search needs
+
+number8-requires : tie.Need-number8-requires
+number8-requires c κs = search needs
 
 enum-told-6 : tie.Need-enum-told-6
 enum-told-6 c = search needs
@@ -41,8 +41,8 @@ enum-told-6 c = search needs
 word-requires-3 : tie.Need-word-requires-3
 word-requires-3 c κs = search needs
 
-number8-requires : tie.Need-number8-requires
-number8-requires c κs = search needs
+month-day-requires : tie.Need-month-day-requires
+month-day-requires c κs = search needs
 
 enum-told-7 : tie.Need-enum-told-7
 enum-told-7 c = search needs
@@ -50,8 +50,8 @@ enum-told-7 c = search needs
 word-requires-4 : tie.Need-word-requires-4
 word-requires-4 c κs = search needs
 
-month-day-requires : tie.Need-month-day-requires
-month-day-requires c κs = search needs
+number32-requires : tie.Need-number32-requires
+number32-requires c κs = search needs
 
 enum-told-8 : tie.Need-enum-told-8
 enum-told-8 c = search needs
@@ -78,30 +78,30 @@ returns : tie.Need-returns
 returns c = search needs
 
 returns-2 : tie.Need-returns-2
-returns-2 c =
-    let at-enum-told2 = c .before .before .enum-told2 in
-    rw (at-enum-told2 .given .1, c .number32 .ensures, c .before .word .ensures)
+returns-2 c = rw (c .enum-told2 .given .1)
 
 returns-3 : tie.Need-returns-3
-returns-3 c = rw (c .enum-told3 .given .1)
+returns-3 c =
+    let at-enum-told3 = c .before .before .enum-told3 in
+    rw (at-enum-told3 .given .1, c .is-good .ensures, c .before .word .ensures)
 
 returns-4 : tie.Need-returns-4
-returns-4 c =
-    let at-enum-told4 = c .before .before .enum-told4 in
-    rw (at-enum-told4 .given .1, c .is-good .ensures, c .before .word2 .ensures)
+returns-4 c = rw (c .before .enum-told4 .given .1) (c .replied .ensures)
 
 returns-5 : tie.Need-returns-5
-returns-5 c = rw (c .before .enum-told5 .given .1) (c .replied .ensures)
+returns-5 c =
+    let at-enum-told5 = c .before .before .enum-told5 in
+    rw (at-enum-told5 .given .1, c .number8 .ensures, c .before .word2 .ensures)
 
 returns-6 : tie.Need-returns-6
 returns-6 c =
     let at-enum-told6 = c .before .before .enum-told6 in
-    rw (at-enum-told6 .given .1, c .number8 .ensures, c .before .word3 .ensures)
+    rw (at-enum-told6 .given .1, c .month-day .ensures .0, c .before .word3 .ensures)
 
 returns-7 : tie.Need-returns-7
 returns-7 c =
     let at-enum-told7 = c .before .before .enum-told7 in
-    rw (at-enum-told7 .given .1, c .month-day .ensures .0, c .before .word4 .ensures)
+    rw (at-enum-told7 .given .1, c .number32 .ensures, c .before .word4 .ensures)
 
 returns-8 : tie.Need-returns-8
 returns-8 c =
@@ -129,20 +129,20 @@ command-of-spec =
     (tie.spec
     enum-told
     enum-told-2
-    word-requires
-    number32-requires
     enum-told-3
-    enum-told-4
-    word-requires-2
+    word-requires
     is-good-requires
-    enum-told-5
+    enum-told-4
     replied-requires
+    enum-told-5
+    word-requires-2
+    number8-requires
     enum-told-6
     word-requires-3
-    number8-requires
+    month-day-requires
     enum-told-7
     word-requires-4
-    month-day-requires
+    number32-requires
     enum-told-8
     word-requires-5
     slice-aggregate-same

@@ -45,14 +45,20 @@ enum-told-3 c = search needs
 enum-told-4 : tie.Need-enum-told-4
 enum-told-4 c = search needs
 
-enum-told-5 : tie.Need-enum-told-5
-enum-told-5 c = search needs
-
 error-after-requires-4 : tie.Need-error-after-requires-4
 error-after-requires-4 c κs = search needs
 
+enum-told-5 : tie.Need-enum-told-5
+enum-told-5 c = search needs
+
 enum-told-6 : tie.Need-enum-told-6
 enum-told-6 c = search needs
+
+error-after-requires-5 : tie.Need-error-after-requires-5
+error-after-requires-5 c κs = search needs
+
+enum-told-7 : tie.Need-enum-told-7
+enum-told-7 c = search needs
 
 returns : tie.Need-returns
 returns c = search needs
@@ -84,13 +90,16 @@ returns-5 : tie.Need-returns-5
 returns-5 c = search needs
 
 returns-6 : tie.Need-returns-6
-returns-6 c = search needs
+returns-6 c = rw (c .before .enum-told4 .given .1, c .error-after4 .ensures)
 
 returns-7 : tie.Need-returns-7
-returns-7 c = rw (c .before .enum-told5 .given .1, c .error-after4 .ensures)
+returns-7 c = search needs
 
 returns-8 : tie.Need-returns-8
-returns-8 c = search needs
+returns-8 c = rw (c .before .enum-told6 .given .1, c .error-after5 .ensures)
+
+returns-9 : tie.Need-returns-9
+returns-9 c = search needs
 
 pub asked-by-spec : {M : Type 1} → statement M
 asked-by-spec =
@@ -110,9 +119,11 @@ asked-by-spec =
     call-or-requires-3
     enum-told-3
     enum-told-4
-    enum-told-5
     error-after-requires-4
+    enum-told-5
     enum-told-6
+    error-after-requires-5
+    enum-told-7
     returns
     returns-2
     returns-3
@@ -120,4 +131,5 @@ asked-by-spec =
     returns-5
     returns-6
     returns-7
-    returns-8)
+    returns-8
+    returns-9)

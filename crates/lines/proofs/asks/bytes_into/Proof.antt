@@ -86,7 +86,7 @@ returns-3 c =
 returns-4 : tie.Need-returns-4
 returns-4 c =
     let at-args = c .before .before .before .args in
-    (omega arith, λ room. no-bytes (at-args .command) (at-args .s .now) (at-args .sent) (at-args .date) (c .match .keys4))
+    (omega arith, λ room. no-bytes (at-args .command) (at-args .s .now) (at-args .sent) (at-args .date) (at-args .batch) (c .match .keys4))
 
 pub bytes-into-spec : {M : Type 1} → statement M
 bytes-into-spec =

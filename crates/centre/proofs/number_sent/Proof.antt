@@ -1,7 +1,7 @@
--- `centre::trace_sent` meets its contract.
+-- `centre::number_sent` meets its contract.
 use borrow.Author.Needs.{needs}
-use Rattle.centre.proofs.trace_sent.Statement.{statement}
-use Rattle.centre.proofs.trace_sent.Tie as tie
+use Rattle.centre.proofs.number_sent.Statement.{statement}
+use Rattle.centre.proofs.number_sent.Tie as tie
 
 head-of-requires : tie.Need-head-of-requires
 head-of-requires c κs = tt
@@ -17,5 +17,5 @@ returns c =
     let at-head-of = c .before .before .before .before .head-of in
     rw (c .numeral .ensures, c .before .number-in .ensures, at-head-of .ensures)
 
-pub trace-sent-spec : {M : Type 1} → statement M
-trace-sent-spec = tie.close (tie.spec head-of-requires number-in-requires numeral-requires returns)
+pub number-sent-spec : {M : Type 1} → statement M
+number-sent-spec = tie.close (tie.spec head-of-requires number-in-requires numeral-requires returns)
