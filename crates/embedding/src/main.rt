@@ -1,7 +1,6 @@
-// A whole small program around the terminal: a sale on a line that stays silent, and its reversal until the desk is free.
+// A whole small program around the terminal: signing on, a sale on a line that stays silent, and its reversal until the desk is free.
 use desk::Desk;
 use libc::STDOUT_FILENO;
-use numbers::Batch;
 use numbers::Trace;
 use state::Card;
 use state::Settings;
@@ -13,19 +12,30 @@ const LIMIT: u32 = 10;
 
 const JOURNAL: usize = 10 * Terminal::ENTRY;
 
+// The centre's answer to the sign-on, in hexadecimal: 0810 for trace 1, code 00, batch number 1 and key material of 24 bytes. A real
+// program reads it from the line.
+const ANSWER: [u8; 144] =
+    *b"08100020000002C000140000013030313030303030303131303030303030303030303030303100110000000100300024000000000000000000000000000000000000000000000000";
+
 fn main() {
     let mut journal = [0u8; JOURNAL];
     let mut message = [0u8; Terminal::MESSAGE];
     sell(&mut journal, &mut message);
 }
 
-// Signs on and starts a sale; no answer comes.
+// Signs on and starts a sale; no answer to it comes.
 fn sell(journal: &mut [u8], message: &mut [u8]) {
-    let fresh = Terminal::new(settings());
-    let signed = sign_on(fresh, journal, message);
+    let signed = opened(journal, message);
     let started = start(signed, journal, message);
     let silent = fall_silent(started, journal, message);
     reverse(silent, journal, message);
+}
+
+// A terminal that has signed on.
+fn opened(journal: &mut [u8], message: &mut [u8]) -> Terminal {
+    let fresh = Terminal::new(settings());
+    let asked = sign_on(fresh, journal, message);
+    hear(asked, journal, message)
 }
 
 // Sends the pending reversal, and waits in vain, until it has ended.
@@ -45,8 +55,16 @@ fn reverse(t: Terminal, journal: &mut [u8], message: &mut [u8]) {
 
 // The calls, each with what follows it.
 fn sign_on(t: Terminal, journal: &mut [u8], message: &mut [u8]) -> Terminal {
-    let step = t.signed_on(Batch(1), journal, message);
-    told(b"signed on: ", step, message)
+    let step = t.sign_on(journal, message);
+    told(b"sign on: ", step, message)
+}
+
+fn hear(t: Terminal, journal: &mut [u8], message: &mut [u8]) -> Terminal {
+    let text = ANSWER;
+    let mut answer = [0u8; 72];
+    hexadecimal::hex_into(&text, &mut answer);
+    let step = t.answer(&answer, true, journal, message);
+    told(b"answer: ", step, message)
 }
 
 fn start(t: Terminal, journal: &mut [u8], message: &mut [u8]) -> Terminal {

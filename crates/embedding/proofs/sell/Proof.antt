@@ -3,14 +3,8 @@ use borrow.Author.Needs.{needs}
 use Rattle.embedding.proofs.sell.Statement.{statement}
 use Rattle.embedding.proofs.sell.Tie as tie
 
-settings-requires : tie.Need-settings-requires
-settings-requires c κs = search needs
-
-new-requires : tie.Need-new-requires
-new-requires c κs = search needs
-
-sign-on-requires : tie.Need-sign-on-requires
-sign-on-requires c κs = search needs
+opened-requires : tie.Need-opened-requires
+opened-requires c κs = search needs
 
 start-requires : tie.Need-start-requires
 start-requires c κs = search needs
@@ -30,7 +24,7 @@ same-length c =
     let at-reverse-arg-given = c .before .before .before .before .before .before .reverse-arg .given in
     let at-fall-silent-arg-given = c .before .before .before .before .before .before .before .before .before .before .before .before .before .fall-silent-arg .given in
     let at-start-arg-given = c .before .before .before .before .before .before .before .before .before .before .before .before .before .before .before .before .before .before .before .before .start-arg .given in
-    let at-sign-on-arg-given = c .before .before .before .before .before .before .before .before .before .before .before .before .before .before .before .before .before .before .before .before .before .before .before .before .before .before .before .sign-on-arg .given in
+    let at-opened-arg-given = c .before .before .before .before .before .before .before .before .before .before .before .before .before .before .before .before .before .before .before .before .before .before .before .before .before .before .before .opened-arg .given in
     search needs
 
 same-length-2 : tie.Need-same-length-2
@@ -43,9 +37,7 @@ pub sell-spec : {M : Type 1} → statement M
 sell-spec =
     tie.close
     (tie.spec
-    settings-requires
-    new-requires
-    sign-on-requires
+    opened-requires
     start-requires
     fall-silent-requires
     reverse-requires
