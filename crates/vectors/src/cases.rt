@@ -1,6 +1,6 @@
 // The bytes of a case: a head, its journal and the bytes handed in, those of an answer or of the desk's field 55. The head has the event
-// at 0, a batch number, what the desk keyed, the word on the MAC, how long the message buffer, the journal and the bytes handed in are, and
-// the image of the state.
+// at 0, what the desk keyed, the word on the MAC, how long the message buffer, the journal and the bytes handed in are, and the image of the
+// state.
 use crate::integers::bytes_at;
 use crate::integers::from;
 use crate::integers::part;
@@ -9,27 +9,24 @@ use crate::integers::u32_at;
 use crate::integers::u64_at;
 use calls::Call;
 use desk::Desk;
-use numbers::Batch;
 use numbers::Trace;
 use state::Card;
 use terminal::Step;
 use terminal::Terminal;
 
-const BATCH: usize = 1;
+const DESK: usize = 1;
 
-const DESK: usize = 5;
+const CHIP: usize = 43;
 
-const CHIP: usize = 47;
+const MAC: usize = 44;
 
-const MAC: usize = 48;
+const MESSAGE_LENGTH: usize = 45;
 
-const MESSAGE_LENGTH: usize = 49;
+const JOURNAL_LENGTH: usize = 47;
 
-const JOURNAL_LENGTH: usize = 51;
+const BYTES_LENGTH: usize = 49;
 
-const BYTES_LENGTH: usize = 53;
-
-const STATE: usize = 55;
+const STATE: usize = 51;
 
 const HEAD: usize = STATE + image::SIZE;
 
@@ -59,7 +56,7 @@ pub fn is_whole(s: &[u8]) -> bool {
     let handed = u16_at(s, BYTES_LENGTH);
     let reading = image::read(state_bytes(s));
     (s.len() == HEAD + journal as usize + handed as usize)
-        & (handed <= 512)
+        & (handed <= 1024)
         & (1 <= event)
         & (event <= 10)
         & (texts::byte_at(s, CHIP) <= 1)
@@ -105,7 +102,7 @@ pub fn call(s: &[u8], journal: &mut [u8], message: &mut [u8]) -> Step {
 
 fn call_of(s: &[u8]) -> Call {
     match texts::byte_at(s, 0) {
-        1 => Call::SignedOn(Batch(u32_at(s, BATCH))),
+        1 => Call::SignOn,
         2 => Call::Start,
         3 => Call::Answer(texts::byte_at(s, MAC) == 1),
         4 => Call::NoAnswer,

@@ -55,7 +55,7 @@ fn show_case(s: &[u8]) -> bool {
     let m = cases::message_length(s);
     let before = cases::journal_of(s);
     let j = before.len();
-    if 512 < m {
+    if 600 < m {
         return false;
     }
     if 1024 < j {
@@ -64,7 +64,7 @@ fn show_case(s: &[u8]) -> bool {
     if !cases::is_whole(s) {
         return false;
     }
-    let blank = [0xEEu8; 512];
+    let blank = [0xEEu8; 600];
     let mut message = blank;
     let mut journal = [0u8; 1024];
     texts::add(before, 0, &mut journal);
