@@ -33,19 +33,24 @@ FAULTS = {
     "settlement": LINE_FAULTS + ("digit 2",) * 24 + ("digit 3", "digit 7"),
     "item": LINE_FAULTS + ("code 30", "code 30"),
     "end": LINE_FAULTS + ("code 96",),
+    "sign-on": LINE_FAULTS + ("code 05", "code 96", "code 05, keys") * 3 + ("other batch",) * 6 + (
+        "no keys", "no keys", "odd keys", "odd keys", "batch 000000", "no 60", "no 39", "wrong MAC", "other form"),
 }
+OTHER_SHARE = 0.2       # of sign-ons in an open batch to which a centre with faults brings another number
+JUMP_SHARE = 0.4        # of sign-ons between batches to which it brings another number than the next
+ODD_LENGTHS = (0, 1, 23, 25, 41, 83, 85, 255, 300)      # of field 62
 
 
 def part_of(message):
-    """What a message of the desk is: request, reversal, settlement, item or end."""
+    """What a message of the desk is: request, reversal, settlement, item, end or sign-on."""
     if message[0] == "0320":
         return "end" if iso.code_of(message) == "202" else "item"
-    return {"0400": "reversal", "0500": "settlement"}.get(message[0], "request")
+    return {"0400": "reversal", "0500": "settlement", "0800": "sign-on"}.get(message[0], "request")
 
 
-def following(batch):
-    """The batch number after a batch number, both as six digits."""
-    return f"{int(batch) % 999999 + 1:06d}"
+def following(batch, steps=1):
+    """The batch number so many steps after a batch number, both as six digits."""
+    return f"{(int(batch) - 1 + steps) % 999999 + 1:06d}"
 
 
 class Entry:
@@ -151,13 +156,14 @@ class Connection:
 class Centre:
     """The server. One thread: each turn handles what has arrived and what has become due."""
 
-    def __init__(self, seed, faults, timeout, record, port=0):
+    def __init__(self, seed, faults, timeout, record, port=0, batch=None):
         self.generator = random.Random(f"centre {seed}")
         self.faults = faults
         self.timeout = timeout
         self.record = record
         self.ledger = Ledger(self.generator, record)
-        self.batch = None
+        self.first_batch = batch    # what it brings while no request has come; None for the number that the sign-on has
+        self.batch = None           # of the latest card request or settlement
         self.is_closed = False
         self.connections = []
         self.timers = []
@@ -185,12 +191,6 @@ class Centre:
         while self.timers and self.timers[0][0] <= time.monotonic():
             heapq.heappop(self.timers)[2]()
         return bool(ready)
-
-    def batch_to_sign_on(self, first):
-        """The batch number that the centre tells at a sign-on: the first while no message has come."""
-        if self.batch is None:
-            return first
-        return int(following(self.batch) if self.is_closed else self.batch)
 
     def close(self):
         for connection in list(self.connections):
@@ -254,7 +254,7 @@ class Centre:
         answer = None
         if not fault.endswith("lost"):
             answer = {"request": self._card_answer, "reversal": self._reversal_answer, "settlement": self._settlement_answer,
-                      "item": self._upload_answer, "end": self._upload_answer}[part](message, fault)
+                      "item": self._upload_answer, "end": self._upload_answer, "sign-on": self._sign_on_answer}[part](message, fault)
         self._deliver(connection, answer, fault)
 
     def _card_answer(self, message, fault):
@@ -297,6 +297,34 @@ class Centre:
         answer = {number: message[number] for number in (11, 41, 42, 60)}
         answer.update({0: _answer_type(message), 39: fault[-2:] if fault.startswith("code") else "00"})
         return answer
+
+    def _sign_on_answer(self, message, fault):
+        code = fault[5:7] if fault.startswith("code") else "00"
+        answer = {number: message[number] for number in (11, 41, 42)}
+        answer.update({0: _answer_type(message), 39: code, 60: "00" + self._batch_to_bring(message, fault) + "003"})
+        if code == "00" or fault.endswith("keys"):
+            lengths = ODD_LENGTHS if fault == "odd keys" else iso.KEY_LENGTHS
+            answer[62] = self.generator.randbytes(self.generator.choice(lengths))
+        if fault == "wrong MAC":
+            answer[64] = bytes(8)
+        elif fault == "other form":
+            answer[60] = "99" + iso.batch_of(answer) + "987"
+        left_out = {"no keys": 62, "no 60": 60, "no 39": 39}.get(fault)
+        return {number: value for number, value in answer.items() if number != left_out}
+
+    def _batch_to_bring(self, message, fault):
+        """The centre's batch number: its first one, that of the open batch, or one for the next, which no batch had before; now and then
+        another one for an open batch, which the desk must not adopt."""
+        if fault == "batch 000000":
+            return "000000"
+        if self.batch is None:
+            return self.first_batch or iso.batch_of(message)
+        share = self.generator.random() if self.faults else 1
+        if self.is_closed:
+            return following(self.batch, self.generator.randint(2, 40) if share < JUMP_SHARE else 1)
+        if fault == "other batch" or share < OTHER_SHARE:
+            return f"{self.generator.randint(1, 999999):06d}"
+        return self.batch
 
     def _deliver(self, connection, answer, fault):
         if connection.waiting is not None:
@@ -380,9 +408,9 @@ class Centre:
     def _foreign(self, answer):
         """An approval of something else."""
         foreign = dict(answer)
-        number = self.generator.choice((0, 11, 41, 42, 60))
+        number = self.generator.choice((0, 11, 41, 42) if answer[0] == "0810" else (0, 11, 41, 42, 60))
         if number == 0:
-            foreign[0] = self.generator.choice([kind for kind in ("0110", "0210", "0230", "0330", "0410") if kind != answer[0]])
+            foreign[0] = self.generator.choice([kind for kind in ("0110", "0210", "0230", "0330", "0410", "0810") if kind != answer[0]])
         elif number == 60:
             foreign[60] = answer[60][:2] + following(iso.batch_of(answer)) + iso.code_of(answer)
         else:

@@ -20,11 +20,16 @@ DOUBTFUL = ("given up", "unanswered")
 
 _WORD = "(" + "|".join(sorted(KINDS, key=len, reverse=True)) + ")"
 _YUAN = r"(\d+\.\d\d) yuan"
-RESULT = re.compile(rf"{_WORD} (\d{{6}}): (approved|declined|reversed|given up|unanswered)(?: \((..)\))? {_YUAN}, card (\d{{6}}\*+\d{{4}})(, chip)?(.*)")
+_WHY = r"the centre(?: has declined \((..)\)|'s answer was refused \(\d+\): .+| has not answered| cannot be reached)"
+RESULT = re.compile(rf"{_WORD} (\d{{6}}): (approved|declined|reversed|given up|unanswered|pending)(?: \((..)\))? {_YUAN}, "
+                    r"card (\d{6}\*+\d{4})(, chip)?(.*)")
 ASKED = re.compile(rf"{_WORD} (\d{{6}}): the centre approves {_YUAN}, card (\d{{6}}\*+\d{{4}}), chip; card-agrees or card-declines")
 APPROVED_TAIL = re.compile(r", reference (.{12}), authorisation (.{6})")
 SETTLED = re.compile(rf"settled batch (\d{{6}}): debit {_YUAN} in (\d+), credit {_YUAN} in (\d+)")
 READY = re.compile(r"ready, batch (\d{6})")
+SIGNED_ON = re.compile(r"signed on, batch (\d{6})")
+NOT_SIGNED_ON = re.compile(rf"not signed on: {_WHY}; the next request tries again")
+STILL_SIGNED_ON = re.compile(rf"still signed on: {_WHY}")
 COUNTS = re.compile(r"counts sent (\d+) approved (\d+) declined (\d+) reversed (\d+) given-up (\d+) unanswered (\d+)")
 TOTALS = re.compile(rf"totals debit {_YUAN} in (\d+) credit {_YUAN} in (\d+)")
 STATE = re.compile(r"state batch (\d{6}) next-trace (\d{6}) (signed-on|signed-off) entries (\d+) (.+)")
@@ -33,13 +38,15 @@ JOURNAL_ENTRY = re.compile(rf"{_WORD} (\d{{6}}): {_YUAN}, card (\d{{6}}\*+\d{{4}
 JOURNAL_END = re.compile(r"journal (\d+) entries")
 DOUBTFUL_HEAD = re.compile(r"doubtful: (\d+)")
 REFUSED = re.compile(r"refused \((\d+)\): .+")
+SENDING = re.compile(r"reversal, sending (\d+) of \d+")
 PLAIN_CARD = re.compile(r"(?<!\d)\d{13,19}(?!\d)|[0-9A-Fa-f]{20,}")
 
 CARD_FIELDS = {0, 2, 3, 4, 11, 22, 25, 41, 42, 49, 60, 64}
 EXTRA_FIELDS = {"11": {38, 61}, "20": {38, 61}, "21": {37, 38, 61}, "23": {37, 38, 61}, "25": {37, 61}}
-SETTLEMENT_FIELDS = {0, 11, 41, 42, 48, 49, 60}
-ITEM_FIELDS = {0, 2, 3, 4, 11, 37, 38, 41, 42, 49, 60}
-END_FIELDS = {0, 11, 41, 42, 60}
+BATCH_FIELDS = {"settlement": {0, 11, 41, 42, 48, 49, 60}, "item": {0, 2, 3, 4, 11, 37, 38, 41, 42, 49, 60}, "end": {0, 11, 41, 42, 60},
+                "sign-on": {0, 11, 41, 42, 60}}
+BATCH_CODES = {"settlement": "201", "item": "201", "end": "202", "sign-on": "003"}
+KEY_PIECE = 8       # bytes of keys that must not be found together
 
 
 class Difference(NamedTuple):
@@ -51,9 +58,10 @@ class Difference(NamedTuple):
 class Request:
     """A card request, as far as desk and centre have said something of it."""
 
-    def __init__(self, trace, batch, message=None):
+    def __init__(self, trace, batch, losses, message=None):
         self.trace = trace
         self.batch = batch
+        self.losses_before = losses     # kills and unread connections before its command
         self.message = message          # None where it never reached the centre
         self.approval = None            # the approval that left, fit to be taken
         self.wrong_mac_left = False
@@ -89,6 +97,19 @@ class Batch:
         self.losses = 0                 # kills and unread connections since its settlement left
 
 
+class SignOn:
+    """A sign-on that reached the centre."""
+
+    def __init__(self, message):
+        self.trace = message[11]
+        self.batch = iso.batch_of(message)      # of the terminal as it left
+        self.codes = set()                      # of answers that left, other than 00
+        self.is_over = False                    # the desk has said how it ended
+        self.brought = None                     # the batch number of a 00 that left before, fit to be taken
+        self.may_adopt = False                  # as that left nothing was known for which the number must not be adopted
+        self.must_adopt = False                 # and nothing could be unknown
+
+
 class Comparer:
     """Takes the events of one terminal, from a fresh store on. Traces do not start again within a trial."""
 
@@ -99,8 +120,19 @@ class Comparer:
         self.names = {41: terminal, 42: merchant, 49: "156"}
         self.requests = {}
         self.batches = collections.defaultdict(Batch)
-        self.batch = None
-        self.last_trace = 0             # of the latest card request, settlement or upload's end
+        self.batch = "000001"           # of a fresh terminal
+        self.last_trace = 0             # of the latest card request, settlement, upload's end or sign-on
+        self.last_sent = 0              # the same, sign-ons aside
+        self.sign_on = None             # the latest that reached the centre
+        self.sign_on_out = None         # the same, until the desk says how it ended or is started again
+        self.adoptions = {}             # by batch number, the trace of the sign-on that brought it
+        self.has_signed_on = False      # a 00 that signs on has left since power returned or the batch was closed
+        self.is_signed_on = False       # the desk's lines say so
+        self.keys = []                  # pieces of each field 62 that left, as bytes and in hexadecimal
+        self.pending = None             # trace of a request whose reversal the desk has left pending, signed off
+        self.word_due = None            # the same, where a message has left that its word comes before
+        self.may_be_unseen = False      # a card request may have left the terminal of which nothing has been seen
+        self.announced = 0              # sendings of a reversal that the desk has announced since a request ended
         self.is_settling = False
         self.command = None             # the words of the command that is under way
         self.command_has_sent = False
@@ -152,9 +184,14 @@ class Comparer:
         self.asked = self.late_word = self.totals_due = None
         self.card_words = self.totals_at_start = 0
         self.is_starting = True
+        self.has_signed_on = self.is_signed_on = False
+        self.pending = self.word_due = None
+        self._end_of_sign_on()
 
     def _take_killed(self, _event):
-        self.totals_due = None
+        self.totals_due = self.word_due = None
+        if self.command and self.command[0] in KINDS and not self.command_has_sent:
+            self.may_be_unseen = True
         self.figures["kills"] += 1
         if self.asked:
             self.figures["kills in the wait for a card"] += 1
@@ -167,6 +204,10 @@ class Comparer:
 
     def _take_unread(self, _event):
         self._note_loss()
+
+    def _take_stored(self, event):
+        if self._holds_keys(event.data):
+            self._differ("keys stored", "a file of the store holds keys that a sign-on brought")
 
     def _take_noise(self, event):
         self._differ("noise", f"the desk sent {event.words}")
@@ -192,6 +233,9 @@ class Comparer:
         self.totals_due = None
 
     def _note_loss(self):
+        """A sending may be lost that the terminal counts. Signed off none is: nothing but a sign-on leaves."""
+        if not self.has_signed_on:
+            return
         self.losses += 1
         if self.batch and self.batches[self.batch].sums:
             self.batches[self.batch].losses += 1
@@ -208,7 +252,9 @@ class Comparer:
         answer = event.answer
         trace = answer[11]
         self.figures["answers"] += 1
-        if answer[0] == "0510":
+        if answer[0] == "0810":
+            self._note_sign_on_answer(answer)
+        elif answer[0] == "0510":
             self._note_settlement_answer(answer)
         elif answer[0] == "0330":
             self._note_upload_answer(answer)
@@ -226,6 +272,22 @@ class Comparer:
                 request.approval = answer
             else:
                 request.wrong_mac_left = True
+
+    def _note_sign_on_answer(self, answer):
+        """Only a 00 with batch number and keys signs on, and only the sign-on that is awaited. The number is adopted at rest in a batch in which
+        no card request has left."""
+        keys, sign_on = answer.get(62, b""), self.sign_on
+        pieces = [keys[place:place + KEY_PIECE] for place in range(0, len(keys) - KEY_PIECE + 1, KEY_PIECE)]
+        self.keys += [(piece, piece.hex().encode()) for piece in pieces]
+        if answer[11] != sign_on.trace or sign_on.is_over:
+            return
+        if answer.get(39, "00") != "00":
+            sign_on.codes.add(answer[39])
+        elif 39 in answer and 60 in answer and iso.batch_of(answer) != "000000" and len(keys) in iso.KEY_LENGTHS:
+            sign_on.brought = iso.batch_of(answer)
+            sign_on.may_adopt = not self.is_settling and not self._open_batch()
+            sign_on.must_adopt = sign_on.may_adopt and not self.may_be_unseen and not self.settle_asked
+            self.has_signed_on = True
 
     def _note_settlement_answer(self, answer):
         batch = self.batches[iso.batch_of(answer)]
@@ -248,13 +310,29 @@ class Comparer:
         part = part_of(message)
         for fault in faults_of_form(message, part, self.names):
             self._differ("form", f"{part} {message.get(11)}: {fault}", message.get(11))
-        getattr(self, f"_receive_{part}")(message)
+        if part != "sign-on" and not self.has_signed_on:
+            self._differ("signed off", f"{part} {message[11]} left, and no 00 to a sign-on had left the centre", message[11])
+        getattr(self, f"_receive_{part.replace('-', '_')}")(message)
+
+    def _receive_sign_on(self, message):
+        trace = message[11]
+        self.figures["sign-ons"] += 1
+        if self._without_word():
+            self.figures["sign-ons before a reversal"] += 1
+        self._look_at_new_trace(message, "sign-on")
+        if self.asked:
+            self._differ("sign-on while awaited", f"sign-on {trace} left while the card of {self.asked.trace} was asked", trace)
+        if self.is_signed_on and not self.is_starting and self.command != ["sign-on"]:
+            self._differ("sign-on not asked for", f"sign-on {trace} left without the command, and the desk was signed on", trace)
+        self._note_batch(iso.batch_of(message))
+        self.sign_on = self.sign_on_out = SignOn(message)
 
     def _receive_request(self, message):
         trace = message[11]
         self.figures["card requests"] += 1
         self._look_at_new_trace(message, "card request")
         self._look_for_open_requests(message, "card request")
+        self.last_sent = self.last_trace
         self._note_batch(iso.batch_of(message))
         if self.is_settling:
             self._differ("request while settling", f"card request {trace} left after the settlement of its batch", trace)
@@ -264,29 +342,39 @@ class Comparer:
         if 55 in message:
             self.figures["chip requests"] += 1
         if trace not in self.requests:
-            self.requests[trace] = Request(trace, self.batch, message)
+            self.requests[trace] = Request(trace, self.batch, self.losses_before, message)
         if iso.kind_of(message) in ("21", "23"):
             self._compare_with_original(message)
 
     def _receive_reversal(self, message):
         trace = message[11]
         self.figures["reversals"] += 1
-        request = self.requests.setdefault(trace, Request(trace, iso.batch_of(message)))
+        request = self._request(trace, iso.batch_of(message))
         request.reversals += 1
         if request.reversals > self.sendings:
             self._differ("reversal too often", f"the reversal of {trace} left {request.reversals} times, L is {self.sendings}", trace)
-        if int(trace) < self.last_trace:
-            self._differ("reversal after a later request", f"the reversal of {trace} was open when {self.last_trace:06d} left", trace)
+        if int(trace) < self.last_sent:
+            self._differ("reversal after a later request", f"the reversal of {trace} was open when {self.last_sent:06d} left", trace)
         if request.word is not None:
             self._differ("reversal after its end", f"a reversal of {trace} left after the desk had said: {request.line}", trace)
         self._compare_reversal(request, message)
         self.last_trace = max(self.last_trace, int(trace))
+        self.last_sent = max(self.last_sent, int(trace))
         self._note_batch(iso.batch_of(message))
+
+    def _request(self, trace, batch):
+        """The request of a trace. One of which nothing was seen yet is made; it must not be older than the number of its batch."""
+        if trace not in self.requests:
+            self.requests[trace] = Request(trace, batch, self.losses_before)
+            if int(trace) < self.adoptions.get(batch, 0):
+                self._differ("batch number", f"batch {batch} was adopted after request {trace} had left", trace)
+        return self.requests[trace]
 
     def _receive_settlement(self, message):
         self.figures["settlements"] += 1
         self._look_at_new_trace(message, "settlement")
         self._look_for_open_requests(message, "settlement")
+        self.last_sent = self.last_trace
         self._note_batch(iso.batch_of(message))
         if not self.settle_asked:
             self._differ("settlement not asked for", f"settlement {message[11]} left without the command", message[11])
@@ -313,6 +401,7 @@ class Comparer:
         batch = self.batches[number]
         self.figures["upload ends"] += 1
         self._look_at_new_trace(message, "upload's end")
+        self.last_sent = self.last_trace
         if not batch.may_upload:
             self._differ("upload not asked for", f"the upload's end {message[11]} left, no answer had asked for an upload", message[11])
         for request in self._due(number):
@@ -330,7 +419,11 @@ class Comparer:
         self.last_trace = max(self.last_trace, trace)
 
     def _look_for_open_requests(self, message, name):
+        """None may be open. The word on one that was pending may stand in a line that is taken next, after this message."""
         for request in self._without_word():
+            if request.trace == self.pending and not self.word_due:
+                self.word_due = self.pending
+                continue
             what = "while its reversal was open" if request.reversals else "before it was ended"
             self._differ(f"{name} while open", f"{name} {message[11]} left, and {request.trace} had no end: {what}", request.trace)
 
@@ -397,11 +490,12 @@ class Comparer:
                 self._compare_holding(request)
 
     def _compare_sums(self, name, words, sums, number, trace=None):
-        """The sums that the desk has for a batch: with its approved requests, and with the centre's ledger."""
+        """The sums that the desk has for a batch: with its approved requests, and with what of the centre's ledger it has ended."""
         told = self._sums(self._due(number))
         if sums != told:
             self._differ(name, f"{words}, the desk's approved requests give {told}", trace)
-        held = [request for request in self.requests.values() if request.batch == number and request.is_held and request.word not in DOUBTFUL]
+        held = [request for request in self.requests.values()
+                if request.batch == number and request.is_held and request.word not in (None, *DOUBTFUL)]
         if sums != self._sums(held):
             self._differ(f"{name} and ledger", f"{words}, the centre's ledger without doubtful requests gives {self._sums(held)}", trace)
 
@@ -435,6 +529,7 @@ class Comparer:
         self.late_word = None
         if not TOTALS.fullmatch(text):
             self._look_for_totals()
+        self._look_for_word(text)
         if text.startswith("last request: "):
             self._compare_last(text)
         if self.listing is not None:
@@ -442,7 +537,8 @@ class Comparer:
             return
         for pattern, method in ((RESULT, self._take_result), (ASKED, self._take_asked), (SETTLED, self._take_settled), (READY, self._take_ready),
                                 (COUNTS, self._take_counts), (TOTALS, self._take_totals), (STATE, self._take_state),
-                                (REFUSED, self._take_refused)):
+                                (REFUSED, self._take_refused), (SIGNED_ON, self._take_signed_on), (NOT_SIGNED_ON, self._take_not_signed_on),
+                                (STILL_SIGNED_ON, self._take_still_signed_on)):
             match = pattern.fullmatch(text.removeprefix("last request: "))
             if match:
                 method(match)
@@ -451,11 +547,69 @@ class Comparer:
             self._differ("line", f"the desk wrote what the agreement does not have: {text}")
 
     def _take_error(self, event):
+        """The desk announces each sending of a reversal, so the terminal has counted no more than it has announced."""
         self._look_for_card(event.text)
+        match = SENDING.fullmatch(event.text)
+        if match and int(match.group(1)) > self.announced + 1:
+            self._differ("sendings", f"the desk says {event.text!r}, and has announced {self.announced} before")
+        self.announced += match is not None
 
     def _look_for_card(self, text):
         if PLAIN_CARD.search(text):
             self._differ("card shown", "a line shows a run of 13 to 19 digits, or a chip's data")
+        if self._holds_keys(text.encode("utf-8", "replace")):
+            self._differ("keys shown", "a line shows keys that a sign-on brought")
+
+    def _holds_keys(self, data):
+        """Whether bytes hold keys of the centre, as they stand or in hexadecimal."""
+        small = data.lower()
+        return any(piece in data or digits in small for piece, digits in self.keys)
+
+    def _look_for_word(self, text):
+        """The word on a request that was pending comes first, where a message has left that it comes before."""
+        match = RESULT.fullmatch(text)
+        if self.word_due and not (match and match.group(2) == self.word_due):
+            self._differ("left while open", f"a message left, and {self.word_due} had no end", self.word_due)
+        self.word_due = None
+
+    def _take_signed_on(self, match):
+        number, sign_on = match.group(1), self._end_of_sign_on()
+        self.figures["signed on"] += 1
+        self.is_signed_on = True
+        if sign_on is None or sign_on.brought is None:
+            self._differ("signed on", f"the desk says {match.group(0)!r}, and no answer that signs on left")
+            return
+        if number == sign_on.batch != sign_on.brought and sign_on.must_adopt:
+            self._differ("batch number", f"sign-on {sign_on.trace} brought batch {sign_on.brought}, which was not adopted", sign_on.trace)
+        self._note_batch(number)
+
+    def _take_not_signed_on(self, match):
+        self.figures["not signed on"] += 1
+        if self.is_signed_on:
+            self._differ("signed off", f"the desk was signed on, and says {match.group(0)!r}")
+        self.has_signed_on = self.is_signed_on = False
+        self._take_failed_sign_on(match)
+
+    def _take_still_signed_on(self, match):
+        self.figures["still signed on"] += 1
+        if not self.is_signed_on:
+            self._differ("signed on", f"the desk was signed off, and says {match.group(0)!r}")
+        self._take_failed_sign_on(match)
+
+    def _take_failed_sign_on(self, match):
+        """It adopts nothing; the code is one that the centre has given."""
+        code, sign_on = match.group(1), self._end_of_sign_on()
+        if sign_on:
+            sign_on.may_adopt = False
+        if code and not (sign_on and code in {_shown(left) for left in sign_on.codes}):
+            self._differ("sign-on declined", f"the desk says {match.group(0)!r}, which is not what the centre said")
+
+    def _end_of_sign_on(self):
+        """The sign-on of which the desk says how it ended, None where it has not reached the centre."""
+        sign_on, self.sign_on_out = self.sign_on_out, None
+        if sign_on:
+            sign_on.is_over = True
+        return sign_on
 
     def _compare_last(self, text):
         match = RESULT.fullmatch(text.removeprefix("last request: "))
@@ -466,7 +620,7 @@ class Comparer:
     def _take_asked(self, match):
         """The centre approves, and the card has the last word."""
         word_of_kind, trace, yuan, card = match.groups()
-        request = self.requests.setdefault(trace, Request(trace, self.batch))
+        request = self._request(trace, self.batch)
         self.figures["cards asked"] += 1
         if not request.has_chip or request.approval is None:
             self._differ("asked", f"the card of {trace} is asked, and no approval of a request with a chip left", trace)
@@ -483,20 +637,32 @@ class Comparer:
     def _take_result(self, match):
         word_of_kind, trace, word, code, yuan, card, chip, tail = match.groups()
         line = match.group(0)
-        request = self.requests.setdefault(trace, Request(trace, self.batch))
+        request = self._request(trace, self.batch)
         if request.line not in (None, line):
             self._differ("word changed", f"the desk said {request.line!r} and later {line!r}", trace)
         if request.line is not None:
             return
-        request.word, request.line = word, line
-        self.figures[word] += 1
         known = request.message or request.reversal
         if known and ((word_of_kind, _fen(yuan), card) != self._as_told(known) or bool(chip) != request.has_chip):
             self._differ("result line", f"kind, amount, card or chip of the line is not that of request {trace}: {line}", trace)
+        if word == "pending":
+            self._take_pending(request)
+            return
+        request.word, request.line = word, line
+        self.figures[word] += 1
+        self.pending = None if trace == self.pending else self.pending
         self._compare_result(request, word, code, tail)
+        self.announced = 0
         self._compare_consent(request, word)
         if word == "approved" and not self.is_starting:
             self.totals_due = trace
+
+    def _take_pending(self, request):
+        """A reversal is left pending at a start that could not sign on, and nowhere else."""
+        self.figures["left pending"] += 1
+        self.pending = request.trace
+        if not self.is_starting or self.is_signed_on:
+            self._differ("pending", f"{request.trace} is called pending, and the desk is signed on or has begun", request.trace)
 
     def _compare_consent(self, request, word):
         """What a chip's card has agreed to is approved, and nothing else."""
@@ -518,9 +684,11 @@ class Comparer:
             self._differ("declined", f"declined ({code}) is not what the centre said on {trace}: {sorted(request.codes)}", trace)
         elif word == "reversed" and not request.reversal_ended:
             self._differ("reversed", f"{trace} is called reversed, and no answer that ends the reversal left", trace)
-        elif word == "given up" and request.reversals + self.losses - self.losses_before < self.sendings:
-            self._differ("given up early", f"{trace} is given up after {request.reversals} sendings and {self.losses - self.losses_before} losses, "
-                         f"L is {self.sendings}", trace)
+        elif word == "given up" and request.reversals + self.losses - request.losses_before < self.sendings:
+            self._differ("given up early", f"{trace} is given up after {request.reversals} sendings and "
+                         f"{self.losses - request.losses_before} losses, L is {self.sendings}", trace)
+        elif word == "given up" and self.announced < self.sendings:
+            self._differ("sendings", f"{trace} is given up after {self.announced} sendings that were announced, L is {self.sendings}", trace)
         elif word == "unanswered" and request.message and request.kind != "25":
             self._differ("unanswered", f"{trace} is called unanswered and is no refund", trace)
         if word in ("approved", "declined", "unanswered") and request.reversals:
@@ -546,12 +714,15 @@ class Comparer:
             self._differ("closed", f"batch {number} is called settled, and no answer that closes it left")
         if number != self.batch:
             self._differ("closed", f"batch {number} is called settled, the open one is {self.batch}")
-        self._open(following(number))
+        self._open(following(number), False)
+        self.has_signed_on = self.is_signed_on = False
 
     def _take_ready(self, match):
         self._note_batch(match.group(1))
+        self.may_be_unseen = False
         for request in self._without_word():
-            self._differ("untold", f"the desk is ready and has not said how request {request.trace} ended", request.trace)
+            if request.trace != self.pending:
+                self._differ("untold", f"the desk is ready and has not said how request {request.trace} ended", request.trace)
         if self.is_starting and self.totals_at_start != bool(self.entries()):
             self._differ("totals line", f"the batch has {len(self.entries())} entries, and the start shows the totals {self.totals_at_start} times")
         self.is_starting = False
@@ -574,11 +745,11 @@ class Comparer:
 
     def _take_state(self, match):
         number, next_trace, signed, entries, phase = match.groups()
-        phases = ("card-awaited",) if self.asked else ("resting", "settling", "uploading")
-        if (number != self.batch or int(next_trace) <= self.last_trace or int(entries) != len(self.entries()) or signed != "signed-on"
-                or phase not in phases):
+        phases = ("card-awaited",) if self.asked else ("pending",) if self.pending else ("resting", "settling", "uploading")
+        if (number != self.batch or int(next_trace) <= self.last_trace or int(entries) != len(self.entries())
+                or (signed == "signed-on") != self.is_signed_on or phase not in phases):
             self._differ("state", f"the desk says {match.group(0)!r}; batch {self.batch}, latest trace {self.last_trace}, "
-                         f"{len(self.entries())} entries")
+                         f"{len(self.entries())} entries, {'signed on' if self.is_signed_on else 'signed off'}, {' or '.join(phases)}")
 
     def _take_refused(self, match):
         self.figures["refusals"] += 1
@@ -591,7 +762,9 @@ class Comparer:
         first = (self._refusals() or [0])[0]
         if first != 23 and self.asked:
             first = 11
-        if number != first and not (number == 13 and self.settle_asked and first not in (11, 23)):
+        elif first != 23 and not self.is_signed_on:
+            first = 10
+        if number != first and not (number == 13 and self.settle_asked and first not in (10, 11, 23)):
             command = history.shown(history.Command(" ".join(self.command or [])))
             self._differ("refused", f"the {command} breaks rules {self._refusals()}, and the desk says: {match.group(0)}")
         if self.command_has_sent:
@@ -655,18 +828,25 @@ class Comparer:
     # Sums and lists.
 
     def _note_batch(self, number):
-        """The desk goes by this batch number now."""
+        """The desk goes by this batch number now: the batch was closed, or a sign-on has brought the number."""
         if number == self.batch:
             return
-        if self.batch and (self.is_settling or self._open_batch()):
-            if not self.batches[self.batch].may_close or number != following(self.batch):
-                self._differ("batch number", f"batch {self.batch} became {number} without being closed")
-        self._open(number)
+        sign_on = self.sign_on
+        if sign_on and sign_on.may_adopt and number == sign_on.brought:
+            self.figures["numbers adopted"] += 1
+            self.adoptions[number] = int(sign_on.trace)
+            self._open(number, self.settle_asked)
+            return
+        if not self.batches[self.batch].may_close or number != following(self.batch):
+            self._differ("batch number", f"batch {self.batch} became {number}, without being closed and with no number that it may adopt")
+        self._open(number, False)
 
-    def _open(self, number):
+    def _open(self, number, settle_asked):
         if self.is_settling:
             self.figures["closings"] += 1
-        self.batch, self.is_settling, self.settle_asked = number, False, False
+        self.batch, self.is_settling, self.settle_asked = number, False, settle_asked
+        if self.sign_on:
+            self.sign_on.may_adopt = self.sign_on.must_adopt = False
 
     def _open_batch(self):
         return [request for trace, request in sorted(self.requests.items()) if request.batch == self.batch]
@@ -700,20 +880,13 @@ def keyed_chip(command):
 
 def faults_of_form(message, part, names):
     """In which ways a message of the desk is not what the documents say of such a message."""
-    if part in ("request", "reversal"):
-        faults, wanted = _card_form(message, part)
-    elif part == "settlement":
-        faults, wanted = ([], SETTLEMENT_FIELDS)
-        if message.get(48, "")[30:] != "0" * 32:
-            faults.append("the digit of field 48 or what follows it is not zero")
-    else:
-        faults, wanted = ([], ITEM_FIELDS if part == "item" else END_FIELDS)
+    faults, wanted = ([], BATCH_FIELDS[part]) if part in BATCH_FIELDS else _card_form(message, part)
+    if part == "settlement" and message.get(48, "")[30:] != "0" * 32:
+        faults.append("the digit of field 48 or what follows it is not zero")
     if set(message) != wanted:
         faults.append(f"fields {sorted(set(message) ^ wanted)} are too many or missing")
-    if part not in ("request", "reversal"):
-        code = "202" if part == "end" else "201"
-        if iso.code_of(message) != code or part != "item" and iso.kind_of(message) != "00":
-            faults.append(f"field 60 is {message[60]}")
+    if part in BATCH_CODES and (iso.code_of(message) != BATCH_CODES[part] or part != "item" and iso.kind_of(message) != "00"):
+        faults.append(f"field 60 is {message[60]}")
     faults += [f"field {number} is {message[number]}" for number, value in names.items() if message.get(number, value) != value]
     return faults
 

@@ -5,7 +5,6 @@ from typing import NamedTuple
 
 class Started(NamedTuple):
     """The desk was started."""
-    batch: int
     point: str
 
 
@@ -33,6 +32,11 @@ class Ended(NamedTuple):
     """The desk ended by itself."""
     status: int
     words: str
+
+
+class Stored(NamedTuple):
+    """What stands in the files of the store after a life of the desk."""
+    data: bytes
 
 
 class Received(NamedTuple):
@@ -72,7 +76,7 @@ def masked(card):
 
 
 def shown(event):
-    """An event as a line of text, card numbers masked and a chip's data left out."""
+    """An event as a line of text, card numbers masked, a chip's data and keys left out."""
     name = type(event).__name__.lower()
     parts = [_shown(part) for part in event]
     return " ".join([name, *parts])
@@ -81,6 +85,8 @@ def shown(event):
 def _shown(part):
     if isinstance(part, dict):
         return " ".join(f"{number}={_shown_field(number, value)}" for number, value in sorted(part.items()))
+    if isinstance(part, bytes):
+        return f"({len(part)} bytes)"
     words = str(part).split(" ")
     if "chip" in words[:-1]:
         place = words.index("chip") + 1
@@ -91,6 +97,6 @@ def _shown(part):
 def _shown_field(number, value):
     if number == 2:
         return masked(value)
-    if number == 55:
+    if number in (55, 62):
         return f"({len(value)} bytes)"
     return value.hex() if isinstance(value, bytes) else value

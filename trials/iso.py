@@ -11,7 +11,8 @@ HEADER = bytes.fromhex("603200320001")
 LONGEST_PACKET = 2048
 SHORTEST_PACKET = len(REQUEST_TPDU) + len(HEADER)
 
-TYPES = ("0100", "0110", "0200", "0210", "0220", "0230", "0320", "0330", "0400", "0410", "0500", "0510")
+TYPES = ("0100", "0110", "0200", "0210", "0220", "0230", "0320", "0330", "0400", "0410", "0500", "0510", "0800", "0810")
+KEY_LENGTHS = (24, 40, 56, 60, 84)      # of field 62
 
 
 class MessageError(Exception):
@@ -35,7 +36,8 @@ FIELDS = {
     22: _fixed("digits", 3), 25: _fixed("digits", 2), 32: Field("digits", 1, 11, 1), 37: _fixed("text", 12),
     38: _fixed("text", 6), 39: _fixed("text", 2), 41: _fixed("text", 8), 42: _fixed("text", 15),
     44: Field("bytes", 0, 25, 1), 48: Field("digits", 62, 62, 2), 49: _fixed("text", 3), 55: Field("bytes", 1, 255, 2),
-    60: Field("digits", 11, 11, 2), 61: Field("digits", 16, 16, 2), 63: Field("bytes", 3, 63, 2), 64: _fixed("bytes", 8),
+    60: Field("digits", 11, 11, 2), 61: Field("digits", 16, 16, 2), 62: Field("bytes", 0, 9999, 2), 63: Field("bytes", 3, 63, 2),
+    64: _fixed("bytes", 8),
 }
 
 
@@ -58,6 +60,8 @@ def read(data):
         raise MessageError(f"{len(data) - place} bytes follow the last field")
     if 55 in message and chip_fault(message[55]):
         raise MessageError(f"field 55: {chip_fault(message[55])}")
+    if len(message.get(62, bytes(24))) not in KEY_LENGTHS:
+        raise MessageError(f"field 62 is {len(message[62])} long")
     return message
 
 
@@ -80,7 +84,7 @@ def element(tag, value):
 
 
 def write(message):
-    """The bytes of a message. The elements of field 55 are not looked at."""
+    """The bytes of a message. The elements of field 55 and the length of field 62 are not looked at."""
     numbers = sorted(number for number in message if number)
     bitmap = sum(1 << (64 - number) for number in numbers)
     if message[0] not in TYPES:

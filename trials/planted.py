@@ -1,16 +1,19 @@
 """The self-test of the comparer: one sound history, and the same with one planted fault at a time, each of which must be found.
 
-Before it the form of field 55 is tried on examples.
+Before it the form of field 55 and the length of field 62 are tried on examples. The n-th request, settlement or upload's end has trace 10 n;
+sign-ons have traces between these.
 """
 
 import iso
 from comparer import WORDS, Comparer
-from history import Answered, Command, Ended, Held, Killed, Line, Received, Released, Started, masked
+from history import Answered, Command, Ended, Error, Held, Killed, Line, Received, Released, Started, Stored, masked
 
 TERMINAL, MERCHANT, BATCH, CARD, DATE = "LIB00001", "WHISTLAUREL0001", "000001", "6222021234561234", "0315"
 LIMIT, SENDINGS, REFUND = 12, 3, 1000
 CHIP = iso.element("5A", bytes.fromhex(CARD)) + iso.element("9F26", bytes(8)) + iso.element("9F10", bytes(128))
 CHIPS_IN_FORM = ("8200", "9F2600", "8F018F", "9F0201019F030102", "1F000101", "DFFF00", "8281" + "80" + "00" * 128, "70048202000082" + "00", CHIP.hex())
+KEYS = bytes(range(100, 184))
+KEY_EXAMPLES = (*range(300), 999, 1000, 9999)
 CHIPS_OUT_OF_FORM = ("82", "9F", "9F26", "820100" + "9F", "8202" + "00", "8280", "828100", "82817F" + "00" * 127, "8281", "82820001" + "00",
                      "82FF", "82008200", "9F2601009F260100", "5A0082005A00")
 
@@ -20,6 +23,9 @@ def self_test():
     failures = sum(bool(iso.chip_fault(bytes.fromhex(chip))) for chip in CHIPS_IN_FORM)
     failures += sum(not iso.chip_fault(bytes.fromhex(chip)) for chip in CHIPS_OUT_OF_FORM)
     print(f"form of field 55: {len(CHIPS_IN_FORM) + len(CHIPS_OUT_OF_FORM)} examples, {failures or 'no'} failures")
+    unlike = sum(is_read({0: "0810", 62: bytes(length)}) != (length in iso.KEY_LENGTHS) for length in KEY_EXAMPLES)
+    print(f"length of field 62: {len(KEY_EXAMPLES)} examples, {unlike or 'no'} failures")
+    failures += unlike
     found = names_found(sound())
     print(f"sound history: {'no difference' if not found else 'DIFFERENCES ' + ', '.join(sorted(found))}")
     failures += bool(found)
@@ -32,6 +38,13 @@ def self_test():
     return 1 if failures else 0
 
 
+def is_read(message):
+    try:
+        return iso.read(iso.write(message)) == message
+    except iso.MessageError:
+        return False
+
+
 def names_found(labelled):
     """The names of the differences that the comparer finds in a history."""
     comparer = Comparer(LIMIT, SENDINGS, REFUND, TERMINAL, MERCHANT)
@@ -42,34 +55,38 @@ def names_found(labelled):
 
 
 def sound():
-    """A history as (label, event), without a fault: each way in which a request can end, the card's words, and an upload."""
+    """A history as (label, event), without a fault: each way in which a request can end, the card's words, sign-ons, and an upload."""
     return [
-        ("start", Started(1, "")), ("", Line("last request: none")), ("", Line("ready, batch 000001")),
+        ("start", Started("")), ("", sign_on(1)), ("", signed_on(1, "000001")), ("", on("000001")), ("", Line("last request: none")),
+        ("", Line("ready, batch 000001")),
         # 1: approved.
-        ("", Command(f"sale 12000 {CARD}")), ("request 1", request("22", 1, 12000)), ("held 1", Held("000001")),
+        ("", Command(f"sale 12000 {CARD}")), ("request 1", request("22", 1, 12000)), ("held 1", Held(six(1))),
         ("answer 1", approval("22", 1, 12000)), ("line 1", result("22", 1, "approved", 12000)), ("totals 1", totals(12000, 1, 0, 0)),
         # 2: lost on the way, reversed.
-        ("", Command(f"sale 8000 {CARD}")), ("request 2", request("22", 2, 8000)), ("reversal 2", reversal("22", 2, 8000)),
+        ("", Command(f"sale 8000 {CARD}")), ("request 2", request("22", 2, 8000)), ("", sending(1)), ("reversal 2", reversal("22", 2, 8000)),
         ("ended 2", reversal_answer("22", 2, 8000, "25")), ("line 2", result("22", 2, "reversed", 8000)),
-        # 3: voids 1. The desk is killed before it tells, and tells after its start.
-        ("", Command("sale-void 000001")), ("request 3", void(3, 1, 12000)), ("held 3", Held("000003")),
-        ("answer 3", approval("23", 3, 12000)), ("", Killed("after-answer-store:9")), ("", Started(1, "")),
-        ("line 3", last(result("23", 3, "approved", 12000))), ("totals 3", totals(12000, 1, 12000, 1)), ("", Line("ready, batch 000001")),
+        # 3: voids 1. The desk is killed before it tells, and tells after its start. The centre brings another batch number.
+        ("", Command(f"sale-void {six(1)}")), ("request 3", void(3, 1, 12000)), ("held 3", Held(six(3))),
+        ("answer 3", approval("23", 3, 12000)), ("", Killed("after-answer-store:9")), ("", Started("")), ("sign-on 31", sign_on(31)),
+        ("", signed_on(31, "000007")), ("on 31", on("000001")), ("line 3", last(result("23", 3, "approved", 12000))),
+        ("totals 3", totals(12000, 1, 12000, 1)), ("", Line("ready, batch 000001")),
         # 4: held by the centre, its reversal given up.
-        ("", Command(f"sale 5000 {CARD}")), ("request 4", request("22", 4, 5000)), ("held 4", Held("000004")),
-        ("reversal 4 a", reversal("22", 4, 5000)), ("reversal 4 b", reversal("22", 4, 5000)), ("reversal 4 c", reversal("22", 4, 5000)),
+        ("", Command(f"sale 5000 {CARD}")), ("request 4", request("22", 4, 5000)), ("held 4", Held(six(4))),
+        ("", sending(1)), ("reversal 4 a", reversal("22", 4, 5000)), ("sending 4 b", sending(2)), ("reversal 4 b", reversal("22", 4, 5000)),
+        ("", sending(3)), ("reversal 4 c", reversal("22", 4, 5000)),
         ("line 4", result("22", 4, "given up", 5000)),
         # 5: a refund without an answer.
-        ("command 5", Command(f"refund 700 {CARD} 000000000001 {DATE}")), ("request 5", request("25", 5, 700)), ("held 5", Held("000005")),
+        ("command 5", Command(f"refund 700 {CARD} 000000000001 {DATE}")), ("request 5", request("25", 5, 700)), ("held 5", Held(six(5))),
         ("line 5", result("25", 5, "unanswered", 700)),
         # 6: declined.
         ("", Command(f"sale 300 {CARD}")), ("request 6", request("22", 6, 300)), ("answer 6", card_answer("22", 6, 300, "51")),
         ("line 6", result("22", 6, "declined", 300, "51")),
         # 7: approved with a wrong MAC, reversed.
-        ("", Command(f"sale 900 {CARD}")), ("request 7", request("22", 7, 900)), ("held 7", Held("000007")),
-        ("answer 7", approval("22", 7, 900, False)), ("reversal 7", reversal("22", 7, 900, "A0")), ("released 7", Released("000007")),
+        ("", Command(f"sale 900 {CARD}")), ("request 7", request("22", 7, 900)), ("held 7", Held(six(7))),
+        ("answer 7", approval("22", 7, 900, False)), ("", sending(1)), ("reversal 7", reversal("22", 7, 900, "A0")), ("released 7", Released(six(7))),
         ("ended 7", reversal_answer("22", 7, 900, "00")), ("line 7", result("22", 7, "reversed", 900)),
         *sound_chips(),
+        *sound_sign_ons(),
         *sound_settlement(),
     ]
 
@@ -77,23 +94,37 @@ def sound():
 def sound_chips():
     return [
         # 8: the card agrees.
-        ("command 8", Command(f"sale 2500 {CARD} chip {CHIP.hex()}")), ("request 8", chip_request("22", 8, 2500)), ("held 8", Held("000008")),
+        ("command 8", Command(f"sale 2500 {CARD} chip {CHIP.hex()}")), ("request 8", chip_request("22", 8, 2500)), ("held 8", Held(six(8))),
         ("answer 8", approval("22", 8, 2500)), ("asked 8", asked("22", 8, 2500)), ("word 8", Command("card-agrees")),
         ("line 8", result("22", 8, "approved", 2500, chip=True)), ("totals 8", totals(14500, 2, 12000, 1)),
         # 9: the card declines.
-        ("", Command(f"authorise 600 {CARD} chip {CHIP.hex()}")), ("request 9", chip_request("10", 9, 600)), ("held 9", Held("000009")),
+        ("", Command(f"authorise 600 {CARD} chip {CHIP.hex()}")), ("request 9", chip_request("10", 9, 600)), ("held 9", Held(six(9))),
         ("answer 9", approval("10", 9, 600)), ("asked 9", asked("10", 9, 600)), ("word 9", Command("card-declines")),
-        ("reversal 9", chip_reversal("10", 9, 600)), ("released 9", Released("000009")), ("ended 9", reversal_answer("10", 9, 600, "00")),
-        ("line 9", result("10", 9, "reversed", 600, chip=True)),
-        # 10: the desk is killed while it waits for the card.
-        ("", Command(f"sale 400 {CARD} chip {CHIP.hex()}")), ("request 10", chip_request("22", 10, 400)), ("held 10", Held("000010")),
-        ("answer 10", approval("22", 10, 400)), ("asked 10", asked("22", 10, 400)), ("", Killed("random")), ("", Started(1, "")),
-        ("reversal 10", chip_reversal("22", 10, 400)), ("released 10", Released("000010")),
-        ("ended 10", reversal_answer("22", 10, 400, "00")), ("line 10", last(result("22", 10, "reversed", 400, chip=True))),
-        ("totals 10", totals(14500, 2, 12000, 1)), ("", Line("ready, batch 000001")),
+        ("", sending(1)), ("reversal 9", chip_reversal("10", 9, 600)), ("released 9", Released(six(9))),
+        ("ended 9", reversal_answer("10", 9, 600, "00")), ("line 9", result("10", 9, "reversed", 600, chip=True)),
+        # 10: the desk is killed while it waits for the card. It cannot sign on, and leaves the reversal pending.
+        ("", Command(f"sale 400 {CARD} chip {CHIP.hex()}")), ("request 10", chip_request("22", 10, 400)), ("held 10", Held(six(10))),
+        ("answer 10", approval("22", 10, 400)), ("asked 10", asked("22", 10, 400)), ("", Killed("random")), ("stored", Stored(bytes(500))),
+        ("", Started("")), ("sign-on 101", sign_on(101)), ("off 101", off("has not answered")),
+        ("pending 10", last(result("22", 10, "pending", 400, chip=True))), ("totals 10", totals(14500, 2, 12000, 1)),
+        ("ready 10", Line("ready, batch 000001")),
         # Refused: a tag twice; a card's word when none is awaited.
         ("command 23", Command(f"sale 100 {CARD} chip 82008200")), ("refused 23", Line("refused (23): the chip's data are out of form")),
         ("", Command("card-agrees")), ("refused 14", Line("refused (14): nothing is awaited, pending or to be uploaded")),
+    ]
+
+
+def sound_sign_ons():
+    """Signed off, with the reversal of 10 pending: answers that do not sign on, one that does, and another code while signed on."""
+    return [
+        ("", Command("state")), ("state 10", Line("state batch 000001 next-trace 000102 signed-off entries 3 pending")),
+        ("command 102", Command(f"sale 100 {CARD}")), ("sign-on 102", sign_on(102)), ("answer 102", signed_on(102, "000009", {39: "05"})),
+        ("off 102", off("has declined (05)")), ("refused 10", Line("refused (10): signed off")),
+        ("", Command("sign-on")), ("sign-on 103", sign_on(103)), ("answer 103", signed_on(103, "000009")), ("on 103", on("000001")),
+        ("sending 10", sending(1)), ("reversal 10", chip_reversal("22", 10, 400)), ("released 10", Released(six(10))),
+        ("ended 10", reversal_answer("22", 10, 400, "00")), ("line 10", result("22", 10, "reversed", 400, chip=True)),
+        ("", Command("sign-on")), ("sign-on 104", sign_on(104)), ("answer 104", signed_on(104, "000009", {39: "96"})),
+        ("still 104", Line("still signed on: the centre has declined (96)")),
     ]
 
 
@@ -112,23 +143,29 @@ def sound_settlement():
         ("end", upload_end(12)), ("closing", upload_answer("00", 12, "202")),
         ("settled", Line("settled batch 000001: debit 145.00 yuan in 2, credit 120.00 yuan in 1")),
         ("", Command("totals")), ("closed totals", totals(0, 0, 0, 0)),
+        # 13: signed off, the desk signs on for it and adopts the number that the centre brings.
+        ("command 13", Command(f"sale 800 {CARD}")), ("sign-on 121", sign_on(121, "000002")), ("answer 121", signed_on(121, "000005")),
+        ("on 121", on("000005")), ("request 13", request("22", 13, 800, "000005")), ("", card_answer("22", 13, 800, "51", batch="000005")),
+        ("", result("22", 13, "declined", 800, "51")),
         ("", Command("quit")), ("quit", Ended(0, "")),
     ]
 
 
 def planted_faults():
     """(what is wrong, name of the difference that must be found, change of the sound history)."""
-    return faults_of_requests() + faults_of_chips() + faults_of_totals() + faults_of_settlement()
+    return (faults_of_requests() + faults_of_chips() + faults_of_totals() + faults_under_sign_ons() + faults_of_sign_ons()
+            + faults_of_settlement())
 
 
 def faults_of_requests():
     return [
         ("a fee held that nobody was told of", "untold", without("line 4", "line 5", "doubtful 4", "doubtful 5")),
         ("a fee held, called reversed", "held", without("released 7")),
-        ("a fee held, called declined", "held", after("answer 6", Held("000006"))),
+        ("a fee held, called declined", "held", after("answer 6", Held(six(6)))),
         ("approved and not held", "not held", without("held 1")),
         ("a reversal sent L+1 times", "reversal too often", after("reversal 4 c", reversal("22", 4, 5000))),
         ("a reversal given up early", "given up early", without("reversal 4 b", "reversal 4 c")),
+        ("a reversal given up, one sending not announced", "sendings", without("sending 4 b")),
         ("a card request while a reversal is open", "card request while open", move("line 4", "request 5")),
         ("a reversal after a later card request", "reversal after a later request", move("reversal 4 c", "request 5")),
         ("a reversal of what was called approved", "reversal after its end", after("line 1", reversal("22", 1, 12000))),
@@ -159,7 +196,7 @@ def faults_of_chips():
     return [
         ("an entry without the card's consent", "consent", without("word 8")),
         ("an entry though the card declined", "consent", replace("word 8", Command("card-declines"))),
-        ("an entry without a word, after a start", "consent", replace("line 10", last(result("22", 10, "approved", 400, chip=True)))),
+        ("an entry without a word, after a start", "consent", replace("pending 10", last(result("22", 10, "approved", 400, chip=True)))),
         ("a reversal though the card agreed", "consent lost", replace("line 8", result("22", 8, "reversed", 2500, chip=True))),
         ("a decline though the centre approved", "consent", replace("line 9", result("10", 9, "declined", 600, "06", True))),
         ("the card asked without an approval", "asked", without("answer 8")),
@@ -202,7 +239,8 @@ def faults_of_totals():
         ("totals without a void that is told late", "totals", replace("totals 3", totals(12000, 1, 0, 0))),
         ("a voided sale taken out of the totals", "totals", replace("totals 3", totals(0, 0, 12000, 1))),
         ("totals lost by a start", "totals", replace("totals 10", totals(0, 0, 0, 0))),
-        ("totals with a sale that the card declined", "totals", replace("totals 10", totals(14900, 3, 12000, 1))),
+        ("totals with a sale whose reversal is pending", "totals", replace("totals 10", totals(14900, 3, 12000, 1))),
+        ("totals with a sale that the card declined", "totals", replace("totals", totals(14900, 3, 12000, 1))),
         ("totals that do not fit at the command", "totals", replace("totals", totals(14500, 2, 0, 0))),
         ("totals that outlast their batch", "totals", replace("closed totals", totals(14500, 2, 12000, 1))),
         ("totals without what the centre holds", "totals and ledger", without("released 7")),
@@ -214,6 +252,86 @@ def faults_of_totals():
         ("totals before the approval", "totals line", move("line 1", "totals 1")),
         ("totals after a decline", "totals line", after("line 6", totals(12000, 1, 12000, 1))),
     ]
+
+
+def faults_under_sign_ons():
+    """Of the batch number that a sign-on brings, and of the reversal that it goes before."""
+    return [
+        ("a batch number adopted over a pending reversal", "batch number", replace("on 103", on("000009"))),
+        ("a pending reversal that leaves in another batch", "reversal", replace("reversal 10", chip_reversal("22", 10, 400, {60: "22000009000"}))),
+        ("a batch number adopted after card requests", "batch number", replace("on 31", on("000007"))),
+        ("a batch number adopted while settling", "batch number", settling_sign_on("000008")),
+        ("a batch number adopted without a 00", "batch number", after("off 102", Line("ready, batch 000009"))),
+        ("a batch number adopted before a request that left unseen", "batch number", unseen_request("000005")),
+        ("a batch number that was not adopted", "batch number", replace("on 121", on("000002"))),
+        ("a batch number that nobody brought", "batch number", replace("on 121", on("000006"))),
+        ("a batch number that is lost again", "batch number", replace("request 13", request("22", 13, 800, "000002"))),
+        ("a silent sign-on that loses the pending reversal", "untold", without("pending 10")),
+        ("a silent sign-on after which the reversal is called ended", "reversed",
+         replace("pending 10", last(result("22", 10, "reversed", 400, chip=True)))),
+        ("another code that loses the pending reversal", "left while open", without("reversal 10", "released 10", "ended 10", "line 10")),
+        ("a sign-on after which the reversal is not sent", "reversed", without("reversal 10", "released 10", "ended 10")),
+        ("a sign-on that costs a reversal one sending", "sendings", replace("sending 10", sending(2))),
+        ("a reversal pending though signed on", "pending", replace("off 101", on("000001"))),
+    ]
+
+
+def faults_of_sign_ons():
+    return [
+        ("another code that signs off", "signed off", replace("still 104", off("has declined (96)"))),
+        ("silence that signs off", "signed off", replace("still 104", off("has not answered"))),
+        ("another code that signs on", "signed on", replace("off 102", on("000001"))),
+        ("silence that signs on", "signed on", replace("off 101", on("000001"))),
+        ("still signed on though it was not", "signed on", replace("off 102", Line("still signed on: the centre has declined (05)"))),
+        ("signed on by a 00 with 25 bytes of keys", "signed on", replace("answer 103", signed_on(103, "000009", {62: bytes(25)}))),
+        ("signed on by a 00 without keys", "signed on", replace("answer 103", signed_on(103, "000009", {62: None}))),
+        ("signed on by a 00 with batch 000000", "signed on", replace("answer 103", signed_on(103, "000000"))),
+        ("signed on by a 00 without field 60", "signed on", replace("answer 103", signed_on(103, "000009", {60: None}))),
+        ("signed on by an answer to another sign-on", "signed on", replace("answer 103", signed_on(102, "000009"))),
+        ("a code that the centre has not given", "sign-on declined", replace("off 102", off("has declined (06)"))),
+        ("a card request signed off", "signed off", after("off 102", request("22", 11, 100))),
+        ("a reversal signed off", "signed off", after("off 101", chip_reversal("22", 10, 400))),
+        ("a card request after the closing without a sign-on", "signed off", without("sign-on 121", "answer 121", "on 121")),
+        ("a refusal by 10 though signed on", "refused", replace("off 102", on("000001"))),
+        ("another refusal though signed off", "refused", replace("refused 10", Line("refused (12): a reversal is pending"))),
+        ("signed on in the state though it is not", "state",
+         replace("state 10", Line("state batch 000001 next-trace 000102 signed-on entries 3 pending"))),
+        ("at rest in the state though a reversal is pending", "state",
+         replace("state 10", Line("state batch 000001 next-trace 000102 signed-off entries 3 resting"))),
+        ("a sign-on in another batch", "batch number", replace("sign-on 103", sign_on(103, "000004"))),
+        ("a sign-on with a trace that was used", "trace used again", replace("sign-on 103", sign_on(102))),
+        ("a card request with the trace of a sign-on", "trace used again", replace("sign-on 121", sign_on(130, "000002"))),
+        ("a sign-on with code 001", "form", replace("sign-on 103", Received({**sign_on(103).message, 60: "00000001001"}))),
+        ("a sign-on with a MAC", "form", replace("sign-on 103", Received({**sign_on(103).message, 64: bytes(8)}))),
+        ("a sign-on of another terminal", "form", replace("sign-on 103", Received({**sign_on(103).message, 41: "LIB00002"}))),
+        ("a sign-on while the card is asked", "sign-on while awaited", after("asked 8", sign_on(81))),
+        ("a sign-on that nobody asked for", "sign-on not asked for", after("line 6", sign_on(61))),
+        ("a sign-on that is counted", "counts", replace("counts", Line("counts sent 11 approved 3 declined 1 reversed 4 given-up 1 unanswered 2"))),
+        ("keys shown", "keys shown", after("on 103", Line(f"keys {KEYS[24:32].hex()}"))),
+        ("keys shown in capitals", "keys shown", after("on 31", Line(f"keys {KEYS[:16].hex().upper()}"))),
+        ("keys stored", "keys stored", replace("stored", Stored(bytes(99) + KEYS[:24] + bytes(99)))),
+        ("keys stored in hexadecimal", "keys stored", replace("stored", Stored(b"keys " + KEYS[40:60].hex().upper().encode()))),
+    ]
+
+
+def settling_sign_on(batch):
+    """The batch number of a sign-on is adopted while settling."""
+    def change(labelled):
+        silent = without("digit", "item 1", "item 3", "accepted 3")(labelled)
+        for event in (on(batch), signed_on(115, batch), sign_on(115), Command("sign-on"), Line("settlement not answered; settle again")):
+            silent = after("settlement", event)(silent)
+        return silent
+    return change
+
+
+def unseen_request(batch):
+    """The number is adopted although a sale had left before, which the centre sees first by its reversal."""
+    def change(labelled):
+        place = [name for name, _ in labelled].index("command 13")
+        unseen = [Killed("after-store:9"), Started(""), sign_on(135, "000002"), signed_on(135, batch), on(batch),
+                  reversal("22", 13, 800, batch=batch)]
+        return labelled[:place + 1] + [("", event) for event in (sign_on(121, "000002"), signed_on(121, "000002"), on("000002"), *unseen)]
+    return change
 
 
 def faults_of_settlement():
@@ -261,92 +379,119 @@ def move(label, behind):
 
 # Events.
 
-def card_fields(kind, trace, amount):
+def six(place):
+    """The trace of the request, settlement or upload's end in this place."""
+    return f"{10 * place:06d}"
+
+
+def card_fields(kind, place, amount, batch=BATCH):
     processing = "030000" if kind == "10" else "000000" if kind in ("20", "22") else "200000"
-    return {0: {"25": "0220", "10": "0100"}.get(kind, "0200"), 2: CARD, 3: processing, 4: f"{amount:012d}", 11: f"{trace:06d}", 22: "012",
-            25: "06" if kind == "10" else "00", 41: TERMINAL, 42: MERCHANT, 49: "156", 60: kind + BATCH + "000", 64: bytes(8)}
+    return {0: {"25": "0220", "10": "0100"}.get(kind, "0200"), 2: CARD, 3: processing, 4: f"{amount:012d}", 11: six(place), 22: "012",
+            25: "06" if kind == "10" else "00", 41: TERMINAL, 42: MERCHANT, 49: "156", 60: kind + batch + "000", 64: bytes(8)}
 
 
-def request(kind, trace, amount):
+def request(kind, place, amount, batch=BATCH):
     extra = {37: "000000000001", 61: "0" * 12 + DATE} if kind == "25" else {}
-    return Received({**card_fields(kind, trace, amount), **extra})
+    return Received({**card_fields(kind, place, amount, batch), **extra})
 
 
-def chip_request(kind, trace, amount, changed=()):
-    return Received({**card_fields(kind, trace, amount), 22: "052", 55: CHIP, **dict(changed)})
+def chip_request(kind, place, amount, changed=()):
+    return Received({**card_fields(kind, place, amount), 22: "052", 55: CHIP, **dict(changed)})
 
 
-def chip_reversal(kind, trace, amount, changed=()):
-    return chip_request(kind, trace, amount, {0: "0400", 39: "06", **dict(changed)})
+def chip_reversal(kind, place, amount, changed=()):
+    return chip_request(kind, place, amount, {0: "0400", 39: "06", **dict(changed)})
 
 
-def void(trace, original, amount):
-    extra = {37: reference(original), 38: authorisation(original), 61: f"{BATCH}{original:06d}{DATE}"}
-    return Received({**card_fields("23", trace, amount), **extra})
+def void(place, original, amount):
+    extra = {37: reference(original), 38: authorisation(original), 61: f"{BATCH}{six(original)}{DATE}"}
+    return Received({**card_fields("23", place, amount), **extra})
 
 
-def reference(trace):
-    return f"{trace:012d}"
+def reference(place):
+    return f"{place:012d}"
 
 
-def authorisation(trace):
-    return f"A{trace:05d}"
+def authorisation(place):
+    return f"A{place:05d}"
 
 
-def card_answer(kind, trace, amount, code, mac_is_good=True):
-    fields = card_fields(kind, trace, amount)
+def card_answer(kind, place, amount, code, mac_is_good=True, batch=BATCH):
+    fields = card_fields(kind, place, amount, batch)
     answer = {number: fields[number] for number in (2, 3, 4, 11, 41, 42, 60, 64)}
     return Answered({**answer, 0: f"{int(fields[0]) + 10:04d}", 39: code}, mac_is_good, "plain")
 
 
-def approval(kind, trace, amount, mac_is_good=True):
-    answer = card_answer(kind, trace, amount, "00").answer
-    return Answered({**answer, 13: DATE, 37: reference(trace), 38: authorisation(trace)}, mac_is_good, "plain")
+def approval(kind, place, amount, mac_is_good=True):
+    answer = card_answer(kind, place, amount, "00").answer
+    return Answered({**answer, 13: DATE, 37: reference(place), 38: authorisation(place)}, mac_is_good, "plain")
 
 
-def reversal(kind, trace, amount, reason="98"):
-    return Received({**card_fields(kind, trace, amount), 0: "0400", 39: reason})
+def reversal(kind, place, amount, reason="98", batch=BATCH):
+    return Received({**card_fields(kind, place, amount, batch), 0: "0400", 39: reason})
 
 
-def reversal_answer(kind, trace, amount, code):
-    return Answered({**card_answer(kind, trace, amount, code).answer, 0: "0410"}, True, "plain")
+def sending(number):
+    return Error(f"reversal, sending {number} of {SENDINGS}")
 
 
-def settlement(trace, debit, debit_count, credit, credit_count, digit="0"):
+def reversal_answer(kind, place, amount, code):
+    return Answered({**card_answer(kind, place, amount, code).answer, 0: "0410"}, True, "plain")
+
+
+def settlement(place, debit, debit_count, credit, credit_count, digit="0"):
     sums = f"{debit:012d}{debit_count:03d}{credit:012d}{credit_count:03d}{digit}" + "0" * 31
-    return Received({0: "0500", 11: f"{trace:06d}", 41: TERMINAL, 42: MERCHANT, 48: sums, 49: "156", 60: f"00{BATCH}201"})
+    return Received({0: "0500", 11: six(place), 41: TERMINAL, 42: MERCHANT, 48: sums, 49: "156", 60: f"00{BATCH}201"})
 
 
-def settlement_answer(trace, debit, debit_count, credit, credit_count, digit):
-    message = settlement(trace, debit, debit_count, credit, credit_count, digit).message
+def settlement_answer(place, debit, debit_count, credit, credit_count, digit):
+    message = settlement(place, debit, debit_count, credit, credit_count, digit).message
     return Answered({**message, 0: "0510"}, True, "plain")
 
 
-def item(kind, trace, amount):
-    fields = card_fields(kind, trace, amount)
+def item(kind, place, amount):
+    fields = card_fields(kind, place, amount)
     kept = {number: fields[number] for number in (2, 3, 4, 11, 41, 42, 49)}
-    return Received({**kept, 0: "0320", 37: reference(trace), 38: authorisation(trace), 60: kind + BATCH + "201"})
+    return Received({**kept, 0: "0320", 37: reference(place), 38: authorisation(place), 60: kind + BATCH + "201"})
 
 
-def upload_end(trace):
-    return Received({0: "0320", 11: f"{trace:06d}", 41: TERMINAL, 42: MERCHANT, 60: f"00{BATCH}202"})
+def upload_end(place):
+    return Received({0: "0320", 11: six(place), 41: TERMINAL, 42: MERCHANT, 60: f"00{BATCH}202"})
 
 
-def upload_answer(kind, trace, code):
-    return Answered({0: "0330", 11: f"{trace:06d}", 39: "00", 41: TERMINAL, 42: MERCHANT, 60: kind + BATCH + code}, True, "plain")
+def upload_answer(kind, place, code):
+    return Answered({0: "0330", 11: six(place), 39: "00", 41: TERMINAL, 42: MERCHANT, 60: kind + BATCH + code}, True, "plain")
 
 
-def asked(kind, trace, amount):
-    return Line(f"{WORDS[kind]} {trace:06d}: the centre approves {amount // 100}.{amount % 100:02d} yuan, card {masked(CARD)}, chip; "
+def sign_on(trace, batch=BATCH):
+    return Received({0: "0800", 11: f"{trace:06d}", 41: TERMINAL, 42: MERCHANT, 60: f"00{batch}003"})
+
+
+def signed_on(trace, batch, changed=()):
+    """The answer to a sign-on, with the centre's batch number and keys; a field that is changed to None is left out."""
+    answer = {**sign_on(trace, batch).message, 0: "0810", 39: "00", 62: KEYS, **dict(changed)}
+    return Answered({number: value for number, value in answer.items() if value is not None}, True, "plain")
+
+
+def on(batch):
+    return Line(f"signed on, batch {batch}")
+
+
+def off(why):
+    return Line(f"not signed on: the centre {why}; the next request tries again")
+
+
+def asked(kind, place, amount):
+    return Line(f"{WORDS[kind]} {six(place)}: the centre approves {amount // 100}.{amount % 100:02d} yuan, card {masked(CARD)}, chip; "
                 "card-agrees or card-declines")
 
 
-def result(kind, trace, word, amount, code="", chip=False):
+def result(kind, place, word, amount, code="", chip=False):
     code = f" ({code})" if code else ""
     chip = ", chip" if chip else ""
-    tail = f", reference {reference(trace)}, authorisation {authorisation(trace)}" if word == "approved" else ""
+    tail = f", reference {reference(place)}, authorisation {authorisation(place)}" if word == "approved" else ""
     tail = "; ask the centre" if word in ("given up", "unanswered") else tail
-    return Line(f"{WORDS[kind]} {trace:06d}: {word}{code} {amount // 100}.{amount % 100:02d} yuan, card {masked(CARD)}{chip}{tail}")
+    return Line(f"{WORDS[kind]} {six(place)}: {word}{code} {amount // 100}.{amount % 100:02d} yuan, card {masked(CARD)}{chip}{tail}")
 
 
 def last(line):
@@ -358,6 +503,6 @@ def totals(debit, debit_count, credit, credit_count):
                 f"credit {credit // 100}.{credit % 100:02d} yuan in {credit_count}")
 
 
-def entry(kind, trace, amount, voided=""):
-    return Line(f"{WORDS[kind]} {trace:06d}: {amount // 100}.{amount % 100:02d} yuan, card {masked(CARD)}, date {DATE}, "
-                f"reference {reference(trace)}, authorisation {authorisation(trace)}{voided}")
+def entry(kind, place, amount, voided=""):
+    return Line(f"{WORDS[kind]} {six(place)}: {amount // 100}.{amount % 100:02d} yuan, card {masked(CARD)}, date {DATE}, "
+                f"reference {reference(place)}, authorisation {authorisation(place)}{voided}")

@@ -8,6 +8,7 @@ trials/README.md says what is compared and what the figures mean. Exit status 0 
 
 import argparse
 import collections
+import glob
 import itertools
 import os
 import random
@@ -23,13 +24,16 @@ import history
 import iso
 import planted
 from centre import Centre
-from comparer import ASKED, KINDS, RESULT, Comparer
+from comparer import ASKED, KINDS, NOT_SIGNED_ON, RESULT, SIGNED_ON, STILL_SIGNED_ON, Comparer
 
 POINTS = ("before-call", "before-store", "during-store", "after-store", "after-send", "after-answer", "before-answer-store",
           "after-answer-store", "after-told", "after-power")
-# The passages that fall about the card's word where the first command of a life is a sale with a chip.
-CARD_POINTS = ("before-call:2", "before-answer-store:2", "during-store:5", "after-answer-store:2", "after-told:1", "after-told:2")
+# The passages that fall about the card's word where the first command of a life is a sale with a chip, after a sign-on.
+CARD_POINTS = ("before-call:3", "before-answer-store:3", "during-store:6", "after-answer-store:3", "after-told:1", "after-told:2")
 CARD_ROUNDS = 0.25          # of the rounds that end at a point
+# How often a sign-on passes each point. The passages of one that a life begins with are left out in all but a share of the rounds.
+SIGN_ON_PASSAGES = {"after-power": 0, "after-told": 0, "during-store": 2}
+SIGN_ON_ROUNDS = 0.2
 ROUNDS_A_STORE = 25
 COMMANDS_A_ROUND = 14
 LINES = (0.3, 1, 1, 2.5)    # a good line, the usual one, a bad one: multiples of the share of faults
@@ -38,7 +42,7 @@ MERCHANT = "WHISTLAUREL0001"
 CHIP_SHARE = 0.4            # of sales and pre-authorisations
 # What is given while the card's word is awaited; a void of a trace that never was leaves nothing, whenever it is read. () is silence.
 AGREES, DECLINES = ("card-agrees",), ("card-declines",)
-CARD_TURNS = (AGREES,) * 10 + (DECLINES,) * 4 + (("state", *AGREES), ("sale-void 999999", *AGREES), ("counts", *DECLINES),
+CARD_TURNS = (AGREES,) * 10 + (DECLINES,) * 4 + (("state", *AGREES), ("sale-void 999999", *AGREES), ("sign-on", *AGREES), ("counts", *DECLINES),
                                                 ("sale-void 999999", *DECLINES), ("state",), ())
 
 
@@ -153,9 +157,9 @@ class Store:
         self.limit = self.generator.choice((6, 12, 20, 40))
         self.sendings = self.generator.choice((1, 2, 3, 3, 4))
         self.refund = self.generator.choice((5000, 100000))
-        self.first_batch = self.generator.choice((1, 77, 999998))
+        first_batch = self.generator.choice(("000001", "000077", "999998"))
         self.comparer = Comparer(self.limit, self.sendings, self.refund, "LIB00001", MERCHANT)
-        self.centre = Centre(f"{options.seed} {number}", options.faults, options.timeout, self.comparer.take)
+        self.centre = Centre(f"{options.seed} {number}", options.faults, options.timeout, self.comparer.take, batch=first_batch)
         self.file = os.path.join(folder, f"store-{number}")
         self.cards = [self._card() for _ in range(6)]
         self.desk = None
@@ -201,6 +205,7 @@ class Store:
             self.desk.wait()
         self.desk.kill()
         self._count_kill()
+        self._show_files()
 
     def _last_round(self):
         self.centre.faults = 0
@@ -215,20 +220,29 @@ class Store:
             self._command(text, None)
         self.desk.give("quit")
         self.desk.wait()
+        self._show_files()
         if self.comparer.is_settling:
             self.comparer.take(history.Ended(-1, "the batch was not closed by a centre without faults"))
         self.comparer.finish()
 
     def _start(self, point):
-        batch = self.centre.batch_to_sign_on(self.first_batch)
-        arguments = [self.options.desk, "--store", self.file, "--centre", f"127.0.0.1:{self.centre.port}", "--batch", str(batch),
+        arguments = [self.options.desk, "--store", self.file, "--centre", f"127.0.0.1:{self.centre.port}",
                      "--limit", str(self.limit), "--sendings", str(self.sendings), "--refund", str(self.refund),
                      "--terminal", "LIB00001", "--merchant", MERCHANT, "--timeout", str(self.options.timeout),
                      "--card-timeout", str(2 * self.options.timeout)]
-        self.comparer.take(history.Started(batch, point))
+        self.comparer.take(history.Started(point))
         if self.desk:
             self.desk.close()
         self.desk = Desk(arguments, point, self.centre, self.comparer.take)
+
+    def _show_files(self):
+        """Shows the comparer what stands in the store."""
+        names = sorted(glob.glob(glob.escape(self.file) + "*"))
+        data = b""
+        for name in names:
+            with open(name, "rb") as file:
+                data += file.read()
+        self.comparer.take(history.Stored(data))
 
     def _is_ready(self, kill_at):
         """Waits for the line that says so; whether the desk lives and is ready."""
@@ -244,6 +258,7 @@ class Store:
         """Gives a command and waits for its last line; whether the desk lives then."""
         if self.desk.is_ended:
             return False
+        pending = self.comparer.pending
         self.desk.give(text)
         left = None
         while left != 0:
@@ -251,7 +266,7 @@ class Store:
             if line is None:
                 self.desk.kill()
                 return False
-            left = _lines_left(text, line, left)
+            left = _lines_left(text, line, left, pending)
         if ASKED.fullmatch(line) and not self._await_card(kill_at):
             return False
         if kill_at is not None:
@@ -297,6 +312,8 @@ class Store:
         else:
             most = 4 if self.comparer.is_busy() else 12
         passage = 1 if name == "after-power" else min(self.generator.randint(1, most), self.generator.randint(1, most))
+        if self.generator.random() >= SIGN_ON_ROUNDS:
+            passage += SIGN_ON_PASSAGES.get(name, 1)
         return f"{name}:{passage}"
 
     def _kill_time(self):
@@ -306,9 +323,9 @@ class Store:
 
     def _some_command(self):
         if self.comparer.is_settling:
-            return self.generator.choice(("settle", "settle", "settle", "sale 100 6222021234561234", "journal"))
+            return self.generator.choice(("settle", "settle", "settle", "sale 100 6222021234561234", "journal", "sign-on"))
         weights = {"sale": 45, "authorise": 8, "sale-void": 14, "refund": 9, "complete": 8, "complete-void": 5, "authorise-void": 3, "settle": 5,
-                   "counts": 2, "totals": 2, "state": 2, "journal": 3, "doubtful": 2, "card-agrees": 1, "card-declines": 1}
+                   "sign-on": 8, "counts": 2, "totals": 2, "state": 3, "journal": 3, "doubtful": 2, "card-agrees": 1, "card-declines": 1}
         word = self.generator.choices(list(weights), list(weights.values()))[0]
         if len(self.comparer.entries()) >= self.limit and self.generator.random() < 0.6:
             word = "settle"
@@ -365,7 +382,8 @@ class Store:
         self.generator.shuffle(parts)
         chip = b"".join(parts)
         if self.generator.random() < 0.06:
-            chip = self.generator.choice((b"", chip + parts[0], chip[:-len(parts[-1])] + b"\x9F", chip + b"\x8E\x81\x03" + bytes(3), bytes(300)))
+            twice = chip + min(parts, key=len)
+            chip = self.generator.choice((b"", twice, chip[:-len(parts[-1])] + b"\x9F", chip + b"\x8E\x81\x03" + bytes(3), bytes(300)))
         return chip.hex().upper() or "-"
 
     def _card(self):
@@ -373,11 +391,17 @@ class Store:
         return "62" + "".join(self.generator.choice("0123456789") for _ in range(length - 2))
 
 
-def _lines_left(command, line, left):
-    """How many lines a command's answer has still to come after this one; None while that is not known."""
+def _lines_left(command, line, left, pending):
+    """How many lines a command's answer has still to come after this one; None while that is not known. Where a request was pending at the
+    command, its end is told after the sign-on, before the command's own lines."""
     word = command.split()[0]
     if line.startswith("refused (14)") and not word.startswith("card-"):
         return left     # of a card's word that came too late
+    result = RESULT.fullmatch(line)
+    if result and result.group(2) == pending:
+        return 0 if word == "sign-on" else None
+    if any(pattern.fullmatch(line) for pattern in (SIGNED_ON, NOT_SIGNED_ON, STILL_SIGNED_ON)):
+        return None if word != "sign-on" or pending and SIGNED_ON.fullmatch(line) else 0
     if word == "journal":
         return 0 if line.startswith("journal ") or line.startswith("error") else None
     if left:
@@ -404,7 +428,8 @@ def show_figures(figures, differences, seconds):
     names = ("rounds", "random kills", "kills at points", "messages", "card requests", "approved", "declined", "reversed", "given up",
              "unanswered", "reversals", "settlements", "closings", "upload items", "upload ends", "refusals", "journals compared",
              "totals compared", "doubtful lists compared", "chip requests", "cards asked", "cards agreed", "cards declined", "cards silent",
-             "kills in the wait for a card")
+             "kills in the wait for a card", "sign-ons", "sign-ons before a reversal", "signed on", "not signed on", "still signed on",
+             "numbers adopted", "left pending")
     for name in names:
         print(f"{name}: {figures[name]}")
     print("kills at each point: " + ", ".join(f"{point} {figures[f'at {point}']}" for point in POINTS))
@@ -431,8 +456,8 @@ def run(options):
                 kills = figures["random kills"] + figures["kills at points"]
                 print(f"{figures['rounds']} of {options.rounds} rounds, {kills} kills, {differences} differences", file=sys.stderr, flush=True)
     show_figures(figures, differences, time.monotonic() - began)
-    untried = [name for name in ("random kills", "kills at points", "approved", "reversed", "closings", "cards agreed", "cards declined")
-               if not figures[name]]
+    untried = [name for name in ("random kills", "kills at points", "approved", "reversed", "closings", "cards agreed", "cards declined",
+                                 "signed on", "not signed on", "numbers adopted") if not figures[name]]
     if untried and options.rounds >= 50:
         print(f"nothing was tried of: {', '.join(untried)}")
         return 1

@@ -1,6 +1,6 @@
 //! Holds codec and passes against the library before anything is timed.
-use crate::codec::{self, LARGEST, LISTED, TYPES};
-use crate::library::{self, Sale, ABSENT, ENTRY_SIZE, IMAGE_SIZE, MESSAGE_SIZE, MOST_ENTRIES, QUIET, SENDS};
+use crate::codec::{self, KEYS, KEY_LENGTHS, LARGEST, LISTED, TYPES};
+use crate::library::{self, Sale, Terminal, ABSENT, ENTRY_SIZE, IMAGE_SIZE, MESSAGE_SIZE, MOST_ENTRIES, QUIET, SENDS};
 use crate::messages;
 use crate::passes;
 use crate::random::Random;
@@ -8,20 +8,23 @@ use crate::terminals::{self, Order};
 
 const RANDOM_MESSAGES: usize = 20_000;
 const SALES: usize = 1_000;
-const REFUSALS: [usize; 8] = [3, 4, 5, 6, 7, 8, 9, 23];
+const REFUSALS: [usize; 9] = [3, 4, 5, 6, 7, 8, 9, 23, 24];
 
 /// How many messages were read, by the number that both gave (0 for a well-formed one).
 #[derive(Default)]
-struct Readings([usize; 24]);
+struct Readings([usize; 25]);
 
 /// Compares; says what agreed, or the first difference.
 pub fn run() -> Result<String, String> {
     same(|| "sizes".to_string(), library::sizes(), [IMAGE_SIZE, MESSAGE_SIZE, ENTRY_SIZE])?;
     let mut readings = Readings::default();
     let sales = [messages::sale(&[]), messages::sale(messages::READER)];
-    for message in [messages::approval(1, messages::SALE.amount), messages::largest()].iter().chain(&sales) {
+    let sign_ons = [messages::sign_on(1, messages::BATCH), messages::signed_on(1, messages::BATCH, 24)];
+    let others = [messages::approval(1, messages::SALE.amount), messages::largest()];
+    for message in sales.iter().chain(&sign_ons).chain(&others) {
         compare_neighbours(message, &mut readings)?;
     }
+    compare_keys(&mut readings)?;
     let mut random = Random::new();
     for _ in 0..RANDOM_MESSAGES {
         let message = messages::any(&mut random);
@@ -32,6 +35,7 @@ pub fn run() -> Result<String, String> {
         compare_fields(&altered)?;
         readings.compare(&noise(&mut random))?;
     }
+    compare_sign_ons()?;
     compare_sales(&mut random)?;
     compare_totals()?;
     readings.summary()
@@ -78,6 +82,17 @@ fn compare_neighbours(message: &[u8], readings: &mut Readings) -> Result<(), Str
     Ok(())
 }
 
+/// Field 62 of every length, alone, with a byte missing and with one more.
+fn compare_keys(readings: &mut Readings) -> Result<(), String> {
+    for count in 0..10_000 {
+        let message = messages::keys(count);
+        readings.compare(&message)?;
+        readings.compare(&message[..message.len() - 1])?;
+        readings.compare(&[&message, &[0][..]].concat())?;
+    }
+    Ok(())
+}
+
 /// Each field of a message, and that what was read is written again as the same bytes.
 fn compare_fields(bytes: &[u8]) -> Result<(), String> {
     let read = codec::read(bytes);
@@ -99,6 +114,20 @@ fn compare_fields(bytes: &[u8]) -> Result<(), String> {
         let mut out = [0; LARGEST];
         let length = codec::write(view.message_type, &fields, &mut out);
         same(|| "what was read is written".to_string(), length.map(|end| &out[..end]), Ok(bytes))?;
+    }
+    Ok(())
+}
+
+/// The sign-on of a fresh terminal as the codec writes it, and that the batch number which its answer brings is that of the next sign-on.
+fn compare_sign_ons() -> Result<(), String> {
+    for (batch, keys) in [1, 7, 345, 999_998, 999_999].into_iter().zip(KEY_LENGTHS) {
+        let mut terminal = Terminal::fresh(1, messages::TERMINAL, messages::MERCHANT);
+        let what = || format!("sign-on, batch {batch}");
+        for (trace, before) in [(1, 1), (2, batch)] {
+            same(what, terminal.sign_on(), SENDS)?;
+            same(what, terminal.sent(), &messages::sign_on(trace, before))?;
+            same(what, terminal.answer(&messages::signed_on(trace, batch, keys)), QUIET)?;
+        }
     }
     Ok(())
 }
@@ -128,7 +157,7 @@ fn compare_sales(random: &mut Random) -> Result<(), String> {
 fn compare_sale(sale: &Sale, chip: &[u8]) -> Result<(), String> {
     let mut terminal = terminals::empty(1);
     let mut out = [0; LARGEST];
-    let written = messages::write_sale(sale, chip, 1, &mut out);
+    let written = messages::write_sale(sale, chip, terminals::FIRST, &mut out);
     let what = || format!("{sale:?} with chip {}", hexadecimal(chip));
     same(what, terminal.start(sale, chip), written.err().unwrap_or(SENDS))?;
     same(what, terminal.sent(), &out[..written.unwrap_or(0)])
@@ -150,11 +179,12 @@ fn altered(message: Vec<u8>, random: &mut Random) -> Vec<u8> {
     let mut bytes = message;
     for _ in 0..=random.below(3) {
         let place = random.below(bytes.len().max(1));
-        match random.below(8) {
+        match random.below(9) {
             0 => bytes.truncate(place),
             1 => bytes.extend(std::iter::repeat(0x11).take(1 + random.below(9))),
-            2 if bytes.len() >= 10 => bytes[2 + random.below(8)] ^= 1 << random.below(8),
-            3 if bytes.len() >= 10 => put_bitmap(&mut bytes, random),
+            2 => put_keys(&mut bytes, random),
+            3 if bytes.len() >= 10 => bytes[2 + random.below(8)] ^= 1 << random.below(8),
+            4 if bytes.len() >= 10 => put_bitmap(&mut bytes, random),
             _ if place < bytes.len() => bytes[place] = random.below(256) as u8,
             _ => {}
         }
@@ -168,6 +198,14 @@ fn noise(random: &mut Random) -> Vec<u8> {
     bytes[..2].copy_from_slice(&TYPES[random.below(TYPES.len())].to_be_bytes());
     put_bitmap(&mut bytes, random);
     bytes
+}
+
+/// Gives field 62 any length up to 300 bytes, where the message reads and holds it.
+fn put_keys(bytes: &mut Vec<u8>, random: &mut Random) {
+    if let Some(place) = codec::read(bytes).ok().and_then(|view| view.place(KEYS)) {
+        let keys = messages::keys(random.below(300));
+        bytes.splice(place.start - 2..place.end, keys[10..].iter().copied());
+    }
 }
 
 /// Puts a bitmap of any listed fields.

@@ -1,6 +1,7 @@
 //! A hand-written codec without copies: a message read is the type, the bitmap and where the contents of each field stand in the bytes.
-//! Refusals have the numbers of the library: 3 to 9 and 23 at reading; 1, 4 to 8 and 23 at writing.
+//! Refusals have the numbers of the library: 3 to 9, 23 and 24 at reading; 1, 4 to 8, 23 and 24 at writing.
 use crate::elements;
+use std::ops::Range;
 
 #[derive(Clone, Copy, PartialEq)]
 pub enum Class {
@@ -10,7 +11,7 @@ pub enum Class {
 }
 use Class::{Bytes, Digits, Printable};
 
-/// A row of the table of fields. The prefix is the bytes of the length, 0 for a field of one length.
+/// A row of the table of fields. The prefix is the bytes of the length, 0 for a field of one length. The lengths of KEYS are KEY_LENGTHS.
 pub struct Format {
     pub number: u8,
     pub class: Class,
@@ -40,16 +41,20 @@ pub struct View {
     spans: [Span; ROWS],
 }
 
-const ROWS: usize = 24;
+const ROWS: usize = 25;
 
 /// The smallest buffer that a message is written to: the longest message.
-pub const LARGEST: usize = 505;
+pub const LARGEST: usize = 591;
 
 /// The field whose elements are judged after all else.
 pub const CHIP: u8 = 55;
 
-pub const TYPES: [u16; 12] =
-    [0x0100, 0x0110, 0x0200, 0x0210, 0x0220, 0x0230, 0x0320, 0x0330, 0x0400, 0x0410, 0x0500, 0x0510];
+/// The field whose length is judged after that, and the lengths that it may have.
+pub const KEYS: u8 = 62;
+pub const KEY_LENGTHS: [usize; 5] = [24, 40, 56, 60, 84];
+
+pub const TYPES: [u16; 14] =
+    [0x0100, 0x0110, 0x0200, 0x0210, 0x0220, 0x0230, 0x0320, 0x0330, 0x0400, 0x0410, 0x0500, 0x0510, 0x0800, 0x0810];
 
 pub const FORMATS: [Format; ROWS] = [
     row(2, Digits, 1, 13, 19),
@@ -74,6 +79,7 @@ pub const FORMATS: [Format; ROWS] = [
     row(CHIP, Bytes, 2, 1, 255),
     row(60, Digits, 2, 11, 11),
     row(61, Digits, 2, 16, 16),
+    row(KEYS, Bytes, 2, 24, 84),
     row(63, Bytes, 2, 3, 63),
     row(64, Bytes, 0, 8, 8),
 ];
@@ -108,6 +114,9 @@ pub fn read(bytes: &[u8]) -> Result<View, u8> {
     if view.field(CHIP, bytes).is_some_and(|field| !elements::in_form(field.contents)) {
         return Err(23);
     }
+    if view.field(KEYS, bytes).is_some_and(|field| !KEY_LENGTHS.contains(&field.count)) {
+        return Err(24);
+    }
     Ok(view)
 }
 
@@ -134,12 +143,20 @@ impl View {
     /// A field of the message that was read from these bytes.
     #[inline]
     pub fn field<'a>(&self, number: u8, bytes: &'a [u8]) -> Option<Field<'a>> {
+        let contents = self.place(number)?;
+        let count = usize::from(self.spans[usize::from(PLACES[usize::from(number)])].count);
+        Some(Field { number, count, contents: &bytes[contents] })
+    }
+
+    /// Where the contents of a field stand.
+    #[inline]
+    pub fn place(&self, number: u8) -> Option<Range<usize>> {
         if number == 0 || number > 64 || self.bitmap & bit(number) == 0 {
             return None;
         }
-        let place = usize::from(PLACES[usize::from(number)]);
-        let (start, count) = (usize::from(self.spans[place].start), usize::from(self.spans[place].count));
-        Some(Field { number, count, contents: &bytes[start..start + size(FORMATS[place].class, count)] })
+        let row = usize::from(PLACES[usize::from(number)]);
+        let (start, count) = (usize::from(self.spans[row].start), usize::from(self.spans[row].count));
+        Some(start..start + size(FORMATS[row].class, count))
     }
 }
 
@@ -213,7 +230,20 @@ fn head(bytes: &[u8]) -> Result<(u16, u64), u8> {
 fn is_listed(message_type: u16) -> bool {
     matches!(
         message_type,
-        0x0100 | 0x0110 | 0x0200 | 0x0210 | 0x0220 | 0x0230 | 0x0320 | 0x0330 | 0x0400 | 0x0410 | 0x0500 | 0x0510
+        0x0100
+            | 0x0110
+            | 0x0200
+            | 0x0210
+            | 0x0220
+            | 0x0230
+            | 0x0320
+            | 0x0330
+            | 0x0400
+            | 0x0410
+            | 0x0500
+            | 0x0510
+            | 0x0800
+            | 0x0810
     )
 }
 
@@ -228,10 +258,16 @@ fn length(format: &Format, bytes: &[u8]) -> Result<usize, u8> {
         return Err(6);
     }
     let count = prefix.iter().fold(0, |sum, byte| sum * 100 + usize::from(byte >> 4) * 10 + usize::from(byte & 15));
-    if count < usize::from(format.least) || count > usize::from(format.most) {
+    if !is_allowed(format, count) {
         return Err(7);
     }
     Ok(count)
+}
+
+/// Whether a length is allowed, as far as 7 is concerned.
+#[inline]
+fn is_allowed(format: &Format, count: usize) -> bool {
+    format.number == KEYS || (usize::from(format.least)..=usize::from(format.most)).contains(&count)
 }
 
 /// The bytes of so many digits or bytes.
@@ -270,14 +306,16 @@ fn judge_all(message_type: u16, fields: &[Field]) -> Result<u64, u8> {
     }
     for field in fields {
         let format = &FORMATS[usize::from(PLACES[usize::from(field.number)])];
-        let allowed = usize::from(format.least)..=usize::from(format.most);
-        if !allowed.contains(&field.count) || field.contents.len() != size(format.class, field.count) {
+        if !is_allowed(format, field.count) || field.contents.len() != size(format.class, field.count) {
             return Err(7);
         }
         judge(format.class, field.count, field.contents)?;
     }
     if fields.iter().any(|field| field.number == CHIP && !elements::in_form(field.contents)) {
         return Err(23);
+    }
+    if fields.iter().any(|field| field.number == KEYS && !KEY_LENGTHS.contains(&field.count)) {
+        return Err(24);
     }
     Ok(bitmap)
 }
@@ -316,7 +354,7 @@ mod tests {
     }
 
     #[test]
-    fn the_table_makes_505_bytes() {
+    fn the_table_makes_591_bytes() {
         let fields: usize = FORMATS.iter().map(|f| usize::from(f.prefix) + size(f.class, usize::from(f.most))).sum();
         assert_eq!(10 + fields, LARGEST);
         assert!(TYPES.iter().all(|&x| is_listed(x)));
@@ -370,6 +408,25 @@ mod tests {
         assert_eq!(write(0x0200, &[cut], &mut [0; LARGEST]), Err(23));
         assert_eq!(write(0x0200, &[printable, cut], &mut [0; LARGEST]), Err(8));
         assert_eq!(write(0x0200, &[Field { count: 0, contents: &[], ..cut }], &mut [0; LARGEST]), Err(7));
+    }
+
+    #[test]
+    fn keys() {
+        for (length, count, number) in [(0x24, 24, 0), (0x25, 25, 24), (0x84, 84, 0), (0x85, 85, 24), (0, 0, 24)] {
+            let rest = [&[0, length][..], &vec![0xA5; count]].concat();
+            assert_eq!(refusal(&one(KEYS, &rest)), number);
+            assert_eq!(refusal(&one(KEYS, &rest[..1 + count])), 3);
+            assert_eq!(refusal(&one(KEYS, &[&rest, &[0][..]].concat())), 9);
+        }
+        assert_eq!(refusal(&one(KEYS, &[0x00, 0x2A])), 6);
+        assert_eq!(refusal(&one(KEYS, &[0x99, 0x99])), 3);
+        let cut = Field { number: CHIP, count: 1, contents: &[0x82] };
+        let short = Field { number: KEYS, count: 23, contents: &[0; 23] };
+        let last = Field { number: 63, count: 2, contents: &[0; 2] };
+        assert_eq!(write(0x0800, &[short], &mut [0; LARGEST]), Err(24));
+        assert_eq!(write(0x0800, &[cut, short], &mut [0; LARGEST]), Err(23));
+        assert_eq!(write(0x0800, &[short, last], &mut [0; LARGEST]), Err(7));
+        assert_eq!(write(0x0800, &[Field { count: 24, contents: &[0; 24], ..short }], &mut [0; LARGEST]), Ok(36));
     }
 
     #[test]

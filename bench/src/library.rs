@@ -1,7 +1,7 @@
 //! The C interface, include/whistlaurel.h, as far as it is measured.
 
-pub const IMAGE_SIZE: usize = 403;
-pub const MESSAGE_SIZE: usize = 505;
+pub const IMAGE_SIZE: usize = 407;
+pub const MESSAGE_SIZE: usize = 591;
 pub const ENTRY_SIZE: usize = 48;
 pub const MOST_ENTRIES: usize = 300;
 
@@ -49,11 +49,8 @@ impl Terminal {
         &self.message[..self.length]
     }
 
-    pub fn signed_on(&mut self, batch: u32) -> u8 {
-        let (image, journal, message) = self.lent();
-        unsafe {
-            whistlaurel_signed_on(image, IMAGE_SIZE, journal, self.journal.len(), message, MESSAGE_SIZE, &mut self.length, batch)
-        }
+    pub fn sign_on(&mut self) -> u8 {
+        self.call(whistlaurel_sign_on)
     }
 
     /// A sale leaves; with a chip where its bytes are not empty.
@@ -166,7 +163,7 @@ extern "C" {
         terminal: *const u8,
         merchant: *const u8,
     ) -> u8;
-    fn whistlaurel_signed_on(
+    fn whistlaurel_sign_on(
         image: *mut u8,
         image_size: usize,
         journal: *mut u8,
@@ -174,7 +171,6 @@ extern "C" {
         message: *mut u8,
         message_size: usize,
         length: *mut usize,
-        batch: u32,
     ) -> u8;
     fn whistlaurel_start(
         image: *mut u8,

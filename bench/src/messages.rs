@@ -1,5 +1,5 @@
 //! The messages that are read and written.
-use crate::codec::{self, Class, Field, Format, CHIP, FORMATS, LARGEST};
+use crate::codec::{self, Class, Field, Format, CHIP, FORMATS, KEYS, KEY_LENGTHS, LARGEST};
 use crate::library::Sale;
 use crate::random::Random;
 
@@ -75,6 +75,35 @@ pub fn approval(trace: u32, amount: u64) -> Vec<u8> {
     built(0x0210, &texts.map(|(number, text)| (number, text.into_bytes())))
 }
 
+/// The terminal signs on, in this batch.
+pub fn sign_on(trace: u32, batch: u32) -> Vec<u8> {
+    built(0x0800, &sign_on_fields(trace, batch))
+}
+
+/// The centre takes the sign-on of this trace, and brings a batch number and so many bytes of keys.
+pub fn signed_on(trace: u32, batch: u32, keys: usize) -> Vec<u8> {
+    let mut fields = sign_on_fields(trace, batch);
+    fields.insert(1, (39, b"00".to_vec()));
+    fields.push((KEYS, (0..keys).map(|place| (place * 7) as u8).collect()));
+    built(0x0810, &fields)
+}
+
+fn sign_on_fields(trace: u32, batch: u32) -> Vec<(u8, Vec<u8>)> {
+    let field60 = format!("00{batch:06}003").into_bytes();
+    vec![(11, format!("{trace:06}").into_bytes()), (41, TERMINAL.to_vec()), (42, MERCHANT.to_vec()), (60, field60)]
+}
+
+/// Field 62 alone, with so many bytes, of any length below 10,000.
+pub fn keys(count: usize) -> Vec<u8> {
+    let mut bytes = vec![0x08, 0x10];
+    bytes.extend_from_slice(&codec::bit(KEYS).to_be_bytes());
+    let mut length = [0; 2];
+    pack(count as u64, &mut length);
+    bytes.extend_from_slice(&length);
+    bytes.resize(12 + count, 0xA5);
+    bytes
+}
+
 /// The centre's totals differ from those of the settlement of this trace, and it asks for the upload.
 pub fn difference(trace: u32) -> Vec<u8> {
     let texts = [
@@ -98,7 +127,10 @@ pub fn any(random: &mut Random) -> Vec<u8> {
     let mut fields = Vec::new();
     for format in &FORMATS {
         if random.below(2) == 0 {
-            let count = usize::from(format.least) + random.below(usize::from(format.most - format.least) + 1);
+            let count = match format.number {
+                KEYS => KEY_LENGTHS[random.below(KEY_LENGTHS.len())],
+                _ => usize::from(format.least) + random.below(usize::from(format.most - format.least) + 1),
+            };
             fields.push((format.number, filled(format, count, &mut |_| random.below(256))));
         }
     }
@@ -200,7 +232,14 @@ mod tests {
     fn samples_read() {
         let mut random = Random::new();
         assert_eq!(largest().len(), LARGEST);
-        assert!([sale(&[]), sale(READER), approval(7, 12_000), difference(8), largest()].iter().all(|m| codec::read(m).is_ok()));
+        let sign_ons = [sign_on(9, 1), signed_on(9, 1, 24)];
+        assert_eq!(sign_ons.each_ref().map(Vec::len), [44, 72]);
+        let samples = [sale(&[]), sale(READER), approval(7, 12_000), difference(8), largest()];
+        assert!(samples.iter().chain(&sign_ons).all(|m| codec::read(m).is_ok()));
+        for count in 0..10_000 {
+            let number = if KEY_LENGTHS.contains(&count) { None } else { Some(24) };
+            assert_eq!(codec::read(&keys(count)).err(), number, "{count} bytes");
+        }
         assert!((0..1_000).all(|_| codec::read(&any(&mut random)).is_ok()));
         for count in 2..=255 {
             let made = chip(count, &mut |_| random.below(256));

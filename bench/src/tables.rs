@@ -4,7 +4,7 @@ use crate::library::{self, Terminal, MOST_ENTRIES, QUIET, SENDS};
 use crate::messages::{self, READER, SALE};
 use crate::passes;
 use crate::random::Random;
-use crate::terminals::{self, Order};
+use crate::terminals::{self, Order, FIRST};
 use crate::timing::{medians, runs, Runs};
 use std::hint::black_box;
 
@@ -23,6 +23,7 @@ fn print_reading() {
         ("sale", vec![messages::sale(&[])]),
         ("sale with a chip", vec![messages::sale(READER)]),
         ("answer to a sale", vec![messages::approval(1, SALE.amount)]),
+        ("answer to a sign-on", vec![messages::signed_on(1, messages::BATCH, 24)]),
         ("largest message", vec![messages::largest()]),
         ("64 mixed messages, mean", (0..MIXED_MESSAGES).map(|_| messages::any(&mut random)).collect()),
     ];
@@ -52,7 +53,7 @@ fn print_writing() {
             repeated(terminal, SENDS, move |terminal| terminal.start(black_box(&SALE), black_box(chip))),
             runs(move || {
                 let sum = passes::over_image(black_box(&image));
-                (sum, messages::write_sale(black_box(&SALE), black_box(chip), black_box(1), black_box(&mut out)))
+                (sum, messages::write_sale(black_box(&SALE), black_box(chip), black_box(FIRST), black_box(&mut out)))
             }),
         ]);
         let bytes = messages::sale(chip).len();
