@@ -441,7 +441,7 @@ impl State {
         empty.with_totals(Totals::new()).in_phase(Phase::Resting)
     }
 
-    // Whether nothing goes on.
+    // Whether nothing goes on, but perhaps a sign-on.
     pub fn is_resting(self) -> bool
         ensures { λ r. ⌜ r ≡ isResting self ⌝ }
     {
@@ -481,7 +481,7 @@ impl State {
         phase.closes()
     }
 
-    // Whether the batch is uploading and nothing is awaited.
+    // Whether the batch is uploading, and nothing is awaited but perhaps a sign-on.
     pub fn is_uploading(self) -> bool
         ensures { λ r. ⌜ r ≡ isUploading self ⌝ }
     {
