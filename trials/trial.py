@@ -114,12 +114,28 @@ class Desk:
         self.process.stdin.close()
 
     def _read(self, file, taker):
-        data = os.read(file.fileno(), 65536)
+        """What the desk wrote as an error before a line is taken before that line: the two come by two pipes."""
+        data = self._data(file)
+        if file is self.process.stdout and self.process.stderr in self.buffers:
+            self._split(self.process.stderr, self._data(self.process.stderr) or b"", self._take_error)
+        if data is None:
+            return
+        self._split(file, data, taker)
+        if not data:
+            self._forget(file)
+
+    @staticmethod
+    def _data(file):
+        """What stands in a pipe, b"" at its end, None where nothing does."""
+        try:
+            return os.read(file.fileno(), 65536)
+        except BlockingIOError:
+            return None
+
+    def _split(self, file, data, taker):
         *lines, self.buffers[file] = (self.buffers[file] + data).split(b"\n")
         for line in lines:
             taker(line.decode("utf-8", "replace"))
-        if not data:
-            self._forget(file)
 
     def _take_line(self, text):
         self.record(history.Line(text))
