@@ -63,7 +63,7 @@ heldOf k = kept (keyMaterial 62) (length k)
 
 -- the last field of a message
 keys-fields : (bm k : List ℕ) → length k ≤ 9999 → names bm 62 ≡ true → names bm 63 ≡ false → names bm 64 ≡ false
-    → readFields (drop 22 formats) bm (withLength k) ≡ good (heldOf k ∷ 0 ∷ 0 ∷ []) (padded 84 (take (heldOf k) k) ++ replicate 71 0)
+    → readFields (drop 23 formats) bm (withLength k) ≡ good (heldOf k ∷ 0 ∷ 0 ∷ []) (padded 84 (take (heldOf k) k) ++ replicate 71 0)
 unfolding readFields formats span heldOf
 keys-fields bm k h p q r = go (allowed (keyMaterial 62) n) refl
   where
@@ -71,7 +71,7 @@ keys-fields bm k h p q r = go (allowed (keyMaterial 62) n) refl
     n = length k
 
     go : (t : Bool) → allowed (keyMaterial 62) n ≡ t
-        → readFields (drop 22 formats) bm (withLength k) ≡ good (cond t n 0 ∷ 0 ∷ 0 ∷ []) (padded 84 (take (cond t n 0) k) ++ replicate 71 0)
+        → readFields (drop 23 formats) bm (withLength k) ≡ good (cond t n 0 ∷ 0 ∷ 0 ∷ []) (padded 84 (take (cond t n 0) k) ++ replicate 71 0)
     go true e = rw (p, keys-span k h, e, drop-of-length-le (withLength k) {i = 2 + n} (omega arith), q, r)
     go false e = rw (p, keys-span k h, e, drop-of-length-le (withLength k) {i = 2 + n + 0} (omega arith), q, r)
 
@@ -99,7 +99,7 @@ late-judged x y bm s {cs} {bs} {a} {b} t l j f p q = rw (head-read x y bm s l, t
 -- field 62 alone
 fields-alone : (k : List ℕ) → length k ≤ 9999
     → readFields formats keysAlone (withLength k)
-    ≡ good (replicate 22 0 ++ (heldOf k ∷ 0 ∷ 0 ∷ [])) (replicate 411 0 ++ (padded 84 (take (heldOf k) k) ++ replicate 71 0))
+    ≡ good (replicate 23 0 ++ (heldOf k ∷ 0 ∷ 0 ∷ [])) (replicate 432 0 ++ (padded 84 (take (heldOf k) k) ++ replicate 71 0))
 unfolding readFields formats span names bit
 fields-alone k h = rw (keys-fields keysAlone k h refl refl refl)
 
@@ -115,8 +115,8 @@ chip-span c rest l h =
 
 fields-both : (c k : List ℕ) → 1 ≤ length c → length c ≤ 255 → length k ≤ 9999
     → readFields formats chipAndKeys (withLength c ++ withLength k)
-    ≡ good (replicate 19 0 ++ (length c ∷ 0 ∷ 0 ∷ heldOf k ∷ 0 ∷ 0 ∷ []))
-    (replicate 142 0 ++ (padded 255 c ++ (replicate 14 0 ++ (padded 84 (take (heldOf k) k) ++ replicate 71 0))))
+    ≡ good (replicate 20 0 ++ (length c ∷ 0 ∷ 0 ∷ heldOf k ∷ 0 ∷ 0 ∷ []))
+    (replicate 162 0 ++ (padded 255 c ++ (replicate 15 0 ++ (padded 84 (take (heldOf k) k) ++ replicate 71 0))))
 unfolding readFields formats span names bit
 fields-both c k l h i =
     rw (

@@ -7,3 +7,4 @@ pub mod Readable
 pub mod Order
 pub mod WriteOrder
 pub mod Keys
+pub mod Partial

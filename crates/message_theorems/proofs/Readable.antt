@@ -117,7 +117,7 @@ read-is-listed s q n e = let r = accepted s q in bit-listed ((readMessage s) .me
 fixed-count : (n k : ℕ) (class : Class) (x : Field) → Keeps (fixed n class k) x → x .count ≡ k
 fixed-count n k class x r = let b = allowed-bounds (fixed n class k) (x .count) (r .allows) in omega arith
 
-printable-bytes : (n : ℕ) (b : List ℕ) → fault Printable n b ≡ 0 → allPrintable b ≡ true
+pub printable-bytes : (n : ℕ) (b : List ℕ) → fault Printable n b ≡ 0 → allPrintable b ≡ true
 printable-bytes n b = go (allPrintable b)
   where
     go : (t : Bool) → _≡_ {A = ℕ} (cond t 0 8) 0 → t ≡ true
@@ -138,6 +138,10 @@ module _ (s : List ℕ) (q : (readMessage s) .outcome ≡ Read) (n k : ℕ) (nam
   pub fixed-printable : formatOf n ≡ fixed n Printable k → allPrintable (fieldOf ((readMessage s) .message) n .bytes) ≡ true
   fixed-printable f = printable-bytes (fieldOf ((readMessage s) .message) n .count) _ (keeps Printable f .no-fault)
 
+format-4 : formatOf 4 ≡ fixed 4 Digits 12
+unfolding located formats
+format-4 = refl
+
 format-13 : formatOf 13 ≡ fixed 13 Digits 4
 unfolding located formats
 format-13 = refl
@@ -150,8 +154,11 @@ format-38 : formatOf 38 ≡ fixed 38 Printable 6
 unfolding located formats
 format-38 = refl
 
--- fields 13, 37 and 38 of a message that was read, where they are named
+-- fields 4, 13, 37 and 38 of a message that was read, where they are named
 module _ (s : List ℕ) (q : (readMessage s) .outcome ≡ Read) where
+  pub amount-count : names ((readMessage s) .message .bitmap) 4 ≡ true → fieldOf ((readMessage s) .message) 4 .count ≡ 12
+  amount-count e = fixed-count 4 12 Digits _ (rw format-4 at (read-keeps-formats s q 4 e))
+
   pub date-packed : names ((readMessage s) .message .bitmap) 13 ≡ true → isPacked 4 (fieldOf ((readMessage s) .message) 13 .bytes) ≡ true
   date-packed e = fixed-packed s q 13 4 e format-13
 

@@ -15,10 +15,10 @@ use Rattle.writing.specs.Writing.{messageBytes, writeMessage}
 use Rattle.writing.specs.declared.Writing.{Writing}
 use Rattle.writing.specs.declared.Writing.the-variants as writing
 
--- the fields that document 01 lists
+-- the fields that documents 01 and 02 list
 abbrev pub fieldNumbers : List ℕ
 fieldNumbers =
-    2 ∷ 3 ∷ 4 ∷ 11 ∷ 12 ∷ 13 ∷ 14 ∷ 15 ∷ 22 ∷ 25 ∷ 32 ∷ 37 ∷ 38 ∷ 39 ∷ 41 ∷ 42 ∷ 44 ∷ 48 ∷ 49 ∷ 55 ∷ 60 ∷ 61 ∷ 62 ∷ 63 ∷ 64 ∷ []
+    2 ∷ 3 ∷ 4 ∷ 11 ∷ 12 ∷ 13 ∷ 14 ∷ 15 ∷ 22 ∷ 25 ∷ 32 ∷ 37 ∷ 38 ∷ 39 ∷ 41 ∷ 42 ∷ 44 ∷ 48 ∷ 49 ∷ 54 ∷ 55 ∷ 60 ∷ 61 ∷ 62 ∷ 63 ∷ 64 ∷ []
 
 -- reading these bytes, or writing this message into this buffer, is refused by n
 abbrev pub ReadRefused : ℕ → List ℕ → Type 0
