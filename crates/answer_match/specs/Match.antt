@@ -14,7 +14,7 @@ use Rattle.numbers.specs.Numbers.{isNumber}
 use Rattle.numbers.specs.declared.Trace.{Trace}
 use Rattle.numbers.specs.declared.Batch.{Batch}
 use Rattle.parts.specs.declared.Part.the-variants as part
-use Rattle.kinds.specs.Kinds.{indicatorOf}
+use Rattle.kinds.specs.Kinds.{indicatorOf, allowsPartial}
 use Rattle.state.specs.declared.Awaited.{Awaited}
 use Rattle.state.specs.declared.Awaited.the-variants as awaited
 use Rattle.state.specs.declared.Settings.{Settings}
@@ -55,14 +55,23 @@ hasCode a b m = matches m 39 (a ∷ b ∷ [])
 abbrev pub approves : Message → Bool
 approves m = hasCode 0x30 0x30 m
 
--- a card approval (39 is 00) also needs 4 equal, 13 and 37
-unfoldable pub approvalHolds : ℕ → Message → Bool
-approvalHolds amount m =
-    not (approves m) || matches m 4 (pack (digitsOf 12 amount)) && names (m .bitmap) 13 && names (m .bitmap) 37
+-- document 02, request 4: a request is approved by 00, a sale also by 10, in part
+unfoldable pub approvesRequest : ℕ → Message → Bool
+approvesRequest kind m = approves m || allowsPartial kind && hasCode 0x31 0x30 m
+
+-- field 4 of a card approval: with 00 the amount asked, with 10 from 1 to that
+unfoldable pub amountHolds : ℕ → Message → Bool
+amountHolds amount m =
+    cond (approves m) (matches m 4 (pack (digitsOf 12 amount))) (isValueWithin 1 amount (partOf m part.Amount))
+
+-- a card approval also needs 4, 13 and 37
+unfoldable pub approvalHolds : ℕ → ℕ → Message → Bool
+approvalHolds kind amount m =
+    not (approvesRequest kind m) || amountHolds amount m && names (m .bitmap) 13 && names (m .bitmap) 37
 
 -- it must hold 39, but an 0510 must hold 48 instead, its digit 1, 2 or 3
 abbrev pub holdsNamed : Awaited → Message → Bool
-holdsNamed (awaited.Request q) m = names (m .bitmap) 39 && approvalHolds (q .amount) m
+holdsNamed (awaited.Request q) m = names (m .bitmap) 39 && approvalHolds (q .kind) (q .amount) m
 holdsNamed (awaited.Reversal v) m = names (m .bitmap) 39
 holdsNamed (awaited.Settlement x) m = isValueWithin 1 3 (partOf m part.Reconciliation)
 holdsNamed (awaited.Item i) m = names (m .bitmap) 39

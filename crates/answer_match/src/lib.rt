@@ -15,13 +15,20 @@ ghost use Rattle.digits.specs.Digits.{pack};
 ghost use Rattle.digits.specs.Numbers.{digitsOf};
 ghost use Rattle.message.specs.Message.{whole};
 ghost use Rattle.parts.specs.Parts.{matches};
-ghost use Rattle.answer_match.specs.Match.{indicatorSent, isValue, isValueWithin, repeats, matchesSent, hasCode, approves, approvalHolds, holdsNamed, isAnswer, broughtBy, batchIn, signOnHolds, isSignOnAnswer, goodMac, endsReversal, closesBatch};
+ghost use Rattle.answer_match.specs.Match.{indicatorSent, isValue, isValueWithin, repeats, matchesSent, hasCode, approves, approvesRequest, amountHolds, approvalHolds, holdsNamed, isAnswer, broughtBy, batchIn, signOnHolds, isSignOnAnswer, goodMac, endsReversal, closesBatch};
 
 // Whether field 39 is 00.
 pub fn approves(m: Message) -> bool
     ensures { λ r. ⌜ r ≡ approves m ⌝ }
 {
     is_approval(message::head_of(m), &m.contents)
+}
+
+// Whether an answer approves a request of this kind, whole or in part.
+pub fn approves_request(kind: u8, m: Message) -> bool
+    ensures { λ r. ⌜ r ≡ approvesRequest kind m ⌝ }
+{
+    grants(kind, message::head_of(m), &m.contents)
 }
 
 // Rule 22: whether a message answers what is awaited, which was sent with this trace.
@@ -178,13 +185,29 @@ fn is_approval(h: Head, contents: &Contents) -> bool
     has_code(b'0', b'0', h, contents)
 }
 
-fn approval_holds(amount: u64, h: Head, contents: &Contents) -> bool
-    ensures { λ r. ⌜ r ≡ approvalHolds amount (whole h (now (contents .entry))) ⌝ }
+fn grants(kind: u8, h: Head, contents: &Contents) -> bool
+    ensures { λ r. ⌜ r ≡ approvesRequest kind (whole h (now (contents .entry))) ⌝ }
+{
+    is_approval(h, contents) | (kinds::allows_partial(kind) & has_code(b'1', b'0', h, contents))
+}
+
+// Whether field 4 of a card approval is the amount asked or, in part, from 1 to that.
+fn amount_holds(amount: u64, h: Head, contents: &Contents) -> bool
+    ensures { λ r. ⌜ r ≡ amountHolds amount (whole h (now (contents .entry))) ⌝ }
+{
+    if is_approval(h, contents) {
+        let mut digits = [0u8; 6];
+        return holds_number(h, contents, 4, amount, &mut digits);
+    }
+    is_value_within(1, amount, parts::part_of(h, contents, Part::Amount))
+}
+
+fn approval_holds(kind: u8, amount: u64, h: Head, contents: &Contents) -> bool
+    ensures { λ r. ⌜ r ≡ approvalHolds kind amount (whole h (now (contents .entry))) ⌝ }
 {
     let bitmap = h.bitmap;
-    let mut digits = [0u8; 6];
-    !is_approval(h, contents)
-        | (holds_number(h, contents, 4, amount, &mut digits)
+    !grants(kind, h, contents)
+        | (amount_holds(amount, h, contents)
             & field::named(&bitmap, 13)
             & field::named(&bitmap, 37))
 }
@@ -194,7 +217,9 @@ fn holds_named(a: Awaited, h: Head, contents: &Contents) -> bool
 {
     let bitmap = h.bitmap;
     match a {
-        Awaited::Request(q) => field::named(&bitmap, 39) & approval_holds(q.amount, h, contents),
+        Awaited::Request(q) => {
+            field::named(&bitmap, 39) & approval_holds(q.kind, q.amount, h, contents)
+        }
         Awaited::Reversal(_) => field::named(&bitmap, 39),
         Awaited::Settlement(_) => {
             is_value_within(1, 3, parts::part_of(h, contents, Part::Reconciliation))

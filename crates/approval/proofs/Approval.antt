@@ -5,25 +5,27 @@ use mathlib.Core.Bool.{Bool, true, false, cond, _&&_}
 use Prim.Native.Nat.{ℕ, _+_, _*_, _-_, _^_, _≤_, _<_}
 use native.Mathlib.Omega.{arith}
 use native.Mathlib.Decide.{decLt}
-use lib.Dec.{eqb}
+use lib.Dec.{leb, eqb}
 use lib.ListN.{length, getD, take, drop, replicate, length-append, length-take, length-drop, length-replicate, getD-replicate, List·getD-append}
 use lib.Seq.{ext-getD, getD-append-add, getD-take, getD-drop, length-take-le}
-use borrow.Author.Tests.{eq-eqb, le-leb, eqb-true}
+use borrow.Author.Tests.{eq-eqb, le-leb, leb-true, eqb-true}
 use Rattle.numbers.specs.Limits.{largestAmount, lastNumber}
 use Rattle.numbers.specs.Numbers.{within}
 use Rattle.digits.specs.Digits.{half, bytesFor, unpack, packedByte, pack, halfAllowed, isPacked, allDigits, packable}
-use Rattle.digits.specs.Numbers.{digitsOf}
+use Rattle.digits.specs.Numbers.{value, digitsOf, numberOf}
+use Rattle.digits.specs.declared.Number.the-variants.{Is, Not}
 use Rattle.digits.proofs.Lists.{getD-past, all-true}
 use Rattle.digits.proofs.Packing.{length-pack, length-unpack, getD-pack, getD-unpack, digit-at, digits-all, half-pack, packed-pack, packed-length}
-use Rattle.digits.proofs.Numbers.{length-digitsOf, digitsOf-digits, value-digitsOf}
-use Rattle.digits.specs.Packed.{packedNumber}
+use Rattle.digits.proofs.Numbers.{value-below, length-digitsOf, digitsOf-digits, value-digitsOf}
+use Rattle.digits.specs.Packed.{numeral, packedNumber}
 use Rattle.digits.proofs.Packed.{number-value}
 use Rattle.field.specs.Bitmap.{names}
 use Rattle.field.specs.Contents.{allPrintable}
 use Rattle.kinds.specs.Kinds.{isKind}
 use Rattle.message.specs.Message.{fieldOf}
 use Rattle.message.specs.declared.Message.{Message}
-use Rattle.parts.specs.Parts.{copies}
+use Rattle.parts.specs.Parts.{copies, numberIn, partOf}
+use Rattle.parts.specs.declared.Part.the-variants.{Amount}
 use Rattle.entry.specs.Entry.{allZero}
 use Rattle.entry.specs.Form.{cardInForm, inForm}
 use Rattle.entry.specs.Theorems.{Shaped}
@@ -128,13 +130,36 @@ filled c {e} old h d q =
     q ∙ rw (s, filled-packable c)
 
 -- the parts of an approval, made one by one
-pub approval-is : (m : Message) {date authorisation reference : List ℕ}
+pub approval-is : (m : Message) {amount : ℕ} {date authorisation reference : List ℕ} → amount ≡ numeral (partOf m Amount)
     → date ≡ cond (copies m 13 2) (fieldOf m 13 .bytes) (replicate 2 0)
     → authorisation ≡ cond (copies m 38 6) (fieldOf m 38 .bytes) (replicate 6 0x20)
     → reference ≡ cond (copies m 37 12) (fieldOf m 37 .bytes) (replicate 12 0)
-    → _≡_ {A = Approval} (record { date = date; authorisation = authorisation; reference = reference }) (approvalOf m)
+    → _≡_ {A = Approval} (record { amount = amount; date = date; authorisation = authorisation; reference = reference }) (approvalOf m)
 unfolding approvalOf fieldOr
-approval-is m d a r = rw (d, a, r)
+approval-is m x d a r = rw (x, d, a, r)
+
+-- twelve digits say less than a million million
+number-small : (ds : List ℕ) → length ds ≡ 12 → numeral (numberOf ds) < 1000000000000
+unfolding numberOf
+number-small ds l = go (allDigits ds) refl
+  where
+    go : (b : Bool) → allDigits ds ≡ b → numeral (cond (leb (length ds) 19 && b) (Is (value ds)) Not) < 1000000000000
+    go true e = rw l (rw l at (value-below ds e))
+    go false e = rw l (omega arith)
+
+pub answered-small : (m : Message) → approvalOf m .amount < 1000000000000
+unfolding approvalOf numberIn
+answered-small m = go (names (m .bitmap) 4) (leb 12 (fieldOf m 4 .count)) refl
+  where
+    ds : List ℕ
+    ds = unpack (fieldOf m 4 .count) (fieldOf m 4 .bytes)
+
+    go : (a b : Bool) → leb 12 (fieldOf m 4 .count) ≡ b → numeral (cond (a && b) (numberOf (take 12 ds)) Not) < 1000000000000
+    go true true e =
+        number-small (take 12 ds)
+        (length-take-le 12 ds (rw (length-unpack (fieldOf m 4 .count) (fieldOf m 4 .bytes)) (leb-true 12 (fieldOf m 4 .count) e)))
+    go true false e = omega arith
+    go false b e = omega arith
 
 module _ (c : Card) where
   pub length-card : length (zeroFilled c) ≡ 10
@@ -251,7 +276,7 @@ shaped q a h =
 
 -- the entry of a request in form and such an approval is in form
 pub in-form : (q : Request) (a : Approval) → isKind (q .kind) ≡ true → 1 ≤ q .trace .0 → q .trace .0 ≤ lastNumber
-    → 1 ≤ q .amount → q .amount ≤ largestAmount → 13 ≤ q .card .length → q .card .length ≤ 19 → ApprovalHolds a
+    → 1 ≤ a .amount → a .amount ≤ largestAmount → 13 ≤ q .card .length → q .card .length ≤ 19 → ApprovalHolds a
     → inForm (approvedEntry q a) ≡ true
 unfolding approvedEntry inForm within allZero
 in-form q a kind t₁ t₂ a₁ a₂ c₁ c₂ h =
@@ -259,8 +284,8 @@ in-form q a kind t₁ t₂ a₁ a₂ c₁ c₂ h =
       kind,
       le-leb 1 (q .trace .0) t₁,
       le-leb (q .trace .0) lastNumber t₂,
-      le-leb 1 (q .amount) a₁,
-      le-leb (q .amount) largestAmount a₂,
+      le-leb 1 (a .amount) a₁,
+      le-leb (a .amount) largestAmount a₂,
       card-in-form (q .card) c₁ c₂,
       h .date-packed,
       h .authorisation-printable,

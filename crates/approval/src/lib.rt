@@ -1,6 +1,7 @@
 // The entry of an approval, and the card of an entry (document 01, "State and journal" and "Calls").
 use entry::Entry;
 use message::Message;
+use parts::Part;
 use state::Approval;
 use state::Card;
 use state::Request;
@@ -20,6 +21,7 @@ pub fn approval_of(m: Message) -> Approval
     parts::field_into(h, &m.contents, 38, &mut authorisation);
     parts::field_into(h, &m.contents, 37, &mut reference);
     Approval {
+        amount: digits::numeral(parts::part_of(h, &m.contents, Part::Amount)),
         date: date,
         authorisation: authorisation,
         reference: reference,
@@ -41,7 +43,7 @@ pub fn approved_entry(q: Request, a: Approval) -> Entry
         mark: 0,
         resends: 0,
         trace: trace,
-        amount: q.amount,
+        amount: a.amount,
         digits: card.length,
         card: zero_filled(card),
         date: date,

@@ -152,6 +152,7 @@ fn chip_of(b: &[u8]) -> Chip
         length: b.len() as u8,
         bytes: bytes,
         approved: false,
+        amount: 0,
         date: [0u8; 2],
         authorisation: [0u8; 6],
         reference: [0u8; 12],

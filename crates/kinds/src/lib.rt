@@ -2,7 +2,7 @@
 ghost use mathlib.Core.Path.{_≡_};
 ghost use Prim.Native.Nat.{_+_, _≤_, _<_};
 ghost use Rattle.kinds.specs.Totals.{noTotals, booked, Room};
-ghost use Rattle.kinds.specs.Kinds.{isKind, indicatorOf, processingOf, conditionOf, sideOf, isDue, takesOriginal, originalKind, keysReference, keysAuthorisation, keysDate, isRefund, isNeverReversed, isVoidable, sendsChip};
+ghost use Rattle.kinds.specs.Kinds.{isKind, indicatorOf, processingOf, conditionOf, sideOf, isDue, takesOriginal, originalKind, keysReference, keysAuthorisation, keysDate, isRefund, isNeverReversed, isVoidable, sendsChip, allowsPartial};
 
 // The side of the settlement that a kind's amount stands on.
 pub enum Side {
@@ -163,6 +163,13 @@ pub fn sends_chip(kind: u8) -> bool
     ensures { λ r. ⌜ r ≡ sendsChip kind ⌝ }
 {
     (kind == 10) | (kind == 22)
+}
+
+// Whether a request of this kind may be approved for a part of its amount.
+pub fn allows_partial(kind: u8) -> bool
+    ensures { λ r. ⌜ r ≡ allowsPartial kind ⌝ }
+{
+    kind == 22
 }
 
 // Whether the largest refund is set for this kind.

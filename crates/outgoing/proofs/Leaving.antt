@@ -29,7 +29,8 @@ use Rattle.compose.proofs.Sound.{sound}
 use Rattle.outgoing.specs.declared.Original.{Original}
 use Rattle.outgoing.specs.Outgoing.{field61, entryMode, chipFields, plainFields, cardFields, originalFields, requestFields, reasonCode, reversalFields, requestMessage, reversalMessage}
 use Rattle.outgoing.specs.Held.{CardHeld, OriginalHeld}
-use Rattle.outgoing.proofs.Fields.{card-taken, processing-held, amount-held, trace-held, entry-held, condition-held, reference-held, authorisation-held, reason-held, terminal-held, merchant-held, currency-held, mac-held, field60-held, field61-held, currency-printable}
+use Rattle.outgoing.proofs.Fields.{card-taken, processing-held, amount-held, trace-held, entry-held, condition-held, reference-held, authorisation-held, reason-held, terminal-held, merchant-held, currency-held, mac-held, field61-held, currency-printable}
+use Rattle.outgoing.proofs.Codes.{card-codes-held}
 
 -- the reasons are printable
 reason-printable : (r : Reason) → allPrintable (reasonCode r) ≡ true
@@ -70,7 +71,7 @@ module _ (x : Settings) (batch : Batch) (c : Chip) (q : Request) (h : CardHeld x
         terminal-held (x .terminal) (h .terminal-length) (h .terminal-printable),
         merchant-held (x .merchant) (h .merchant-length) (h .merchant-printable),
         currency-held (0x31 ∷ 0x35 ∷ 0x36 ∷ []) refl currency-printable,
-        field60-held (q .kind) batch 0,
+        card-codes-held (q .kind) batch,
         mac-held,
       )
 

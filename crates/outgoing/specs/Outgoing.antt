@@ -10,7 +10,7 @@ use Rattle.parts.specs.Layout.{laid}
 use Rattle.numbers.specs.declared.Batch.{Batch}
 use Rattle.writing.specs.declared.Writing.{Writing}
 use Rattle.writing.specs.declared.Writing.the-variants.{Written, Refused}
-use Rattle.kinds.specs.Kinds.{indicatorOf, processingOf, conditionOf, takesOriginal, keysReference, keysAuthorisation}
+use Rattle.kinds.specs.Kinds.{indicatorOf, processingOf, conditionOf, takesOriginal, keysReference, keysAuthorisation, allowsPartial}
 use Rattle.state.specs.State.{chipBytes, hasChip}
 use Rattle.state.specs.declared.Chip.{Chip}
 use Rattle.state.specs.declared.Request.{Request}
@@ -23,6 +23,14 @@ use Rattle.outgoing.specs.declared.Original.{Original}
 -- field 60 is kind, batch, management code
 abbrev pub field60 : ℕ → Batch → ℕ → List ℕ
 field60 kind batch code = laid 60 (kind ∷ batch .0 ∷ code ∷ [])
+
+-- document 02, request 4: a sale's field 60 gains 60.4 to 60.6, the digits 001, which ask for approval in part
+abbrev pub asksPartial : ℕ → List ℕ
+asksPartial kind = cond (allowsPartial kind) (0 ∷ 0 ∷ 1 ∷ []) []
+
+-- field 60 of a card request: its management code is 000
+abbrev pub cardField60 : ℕ → Batch → List ℕ
+cardField60 kind batch = field60 kind batch 0 ++ asksPartial kind
 
 -- field 61 is original batch, trace, date MMDD
 abbrev pub field61 : Original → List ℕ
@@ -40,8 +48,7 @@ entryMode c = cond (hasChip c) 52 12
 abbrev pub chipFields : Chip → List Item
 chipFields c = cond (hasChip c) (bytes 55 (chipBytes c) ∷ []) []
 
--- every card request holds 2, 3, 4, 11, 22, 25, 41, 42, 49, 60, 64; the currency is 156, the management code 000; field 64 leaves as
--- eight zero bytes
+-- every card request holds 2, 3, 4, 11, 22, 25, 41, 42, 49, 60, 64; the currency is 156; field 64 leaves as eight zero bytes
 abbrev pub plainFields : Settings → Batch → Chip → Request → List Item
 plainFields x batch c q =
     digits 2 (digitsOf (q .card .length) (q .card .number))
@@ -53,7 +60,7 @@ plainFields x batch c q =
     ∷ bytes 41 (x .terminal)
     ∷ bytes 42 (x .merchant)
     ∷ bytes 49 currency
-    ∷ digits 60 (field60 (q .kind) batch 0)
+    ∷ digits 60 (cardField60 (q .kind) batch)
     ∷ bytes 64 (replicate 8 0)
     ∷ []
 

@@ -12,13 +12,16 @@ use state::Reversal;
 use state::Settings;
 use writing::Writing;
 ghost use mathlib.Core.Path.{_≡_};
-ghost use mathlib.Core.List.{[]};
+ghost use mathlib.Core.Bool.{true};
+ghost use mathlib.Core.List.{[], _++_};
+ghost use lib.ListN.{take, drop, replicate};
+ghost use Rattle.digits.specs.Digits.{allDigits};
 ghost use Rattle.message.specs.Message.{whole};
 ghost use Rattle.message.specs.Build.{digits, bytes, messageOf};
 ghost use Rattle.kinds.specs.Kinds.{indicatorOf};
 ghost use Rattle.writing.specs.Writing.{writeMessage};
 ghost use Rattle.compose.specs.Compose.{withItem, withAll};
-ghost use Rattle.outgoing.specs.Outgoing.{field60, field61, entryMode, chipFields, plainFields, cardFields, originalFields, requestFields, reasonCode, reversalFields, lengthOf};
+ghost use Rattle.outgoing.specs.Outgoing.{field60, cardField60, field61, entryMode, chipFields, plainFields, cardFields, originalFields, requestFields, reasonCode, reversalFields, lengthOf};
 
 // What a request says of an earlier one: an entry of the journal, or what the desk keyed.
 pub struct Original {
@@ -34,10 +37,7 @@ pub fn with_field60(h: Head, kind: u8, batch: Batch, code: u64, contents: &mut C
     ensures { λ r. ⌜ whole r (now (contents .exit)) ≡ withItem (digits 60 (field60 kind batch code)) (whole h (now (contents .entry))) ⌝ }
 {
     let mut ds = [0u8; parts::FIELD60];
-    parts::put_part(Part::Kind, kind as u64, &mut ds);
-    parts::put_part(Part::Batch, batch.0 as u64, &mut ds);
-    parts::put_part(Part::Management, code, &mut ds);
-    compose::with_digits(h, 60, &ds, contents)
+    with_codes(h, kind, batch, code, &mut ds, contents)
 }
 
 // A card request.
@@ -71,6 +71,36 @@ pub fn write_outgoing(m: Message, message: &mut [u8]) -> usize
         Writing::Written(n) => n,
         Writing::Refused(_) => 0,
     }
+}
+
+// The head with field 60 of a card request: a sale asks for approval in part.
+fn with_card_field60(h: Head, kind: u8, batch: Batch, contents: &mut Contents) -> Head
+    ensures { λ r. ⌜ whole r (now (contents .exit)) ≡ withItem (digits 60 (cardField60 kind batch)) (whole h (now (contents .entry))) ⌝ }
+{
+    if kinds::allows_partial(kind) {
+        let mut ds = [0u8; parts::FIELD60_WHOLE];
+        ds[13] = 1;
+        return with_codes(h, kind, batch, 0, &mut ds, contents);
+    }
+    with_field60(h, kind, batch, 0, contents)
+}
+
+// The head with field 60: kind, batch and management code in place of the zeros that ds begins with, then its other digits.
+fn with_codes(
+    h: Head,
+    kind: u8,
+    batch: Batch,
+    code: u64,
+    ds: &mut [u8],
+    contents: &mut Contents,
+) -> Head
+    requires { ⌜ (take 11 (now ds) ≡ replicate 11 0) × (allDigits (drop 11 (now ds)) ≡ true) ⌝ }
+    ensures { λ r. ⌜ whole r (now (contents .exit)) ≡ withItem (digits 60 (field60 kind batch code ++ drop 11 (now (ds .entry)))) (whole h (now (contents .entry))) ⌝ }
+{
+    parts::put_part(Part::Kind, kind as u64, ds);
+    parts::put_part(Part::Batch, batch.0 as u64, ds);
+    parts::put_part(Part::Management, code, ds);
+    compose::with_digits(h, 60, ds, contents)
 }
 
 fn with_field61(h: Head, o: Original, contents: &mut Contents) -> Head
@@ -146,7 +176,7 @@ fn with_plain_fields(
     let h41 = compose::with_bytes(h25, 41, &terminal, contents);
     let h42 = compose::with_bytes(h41, 42, &merchant, contents);
     let h49 = compose::with_bytes(h42, 49, &currency, contents);
-    let h60 = with_field60(h49, q.kind, batch, 0, contents);
+    let h60 = with_card_field60(h49, q.kind, batch, contents);
     compose::with_bytes(h60, 64, &mac, contents)
 }
 

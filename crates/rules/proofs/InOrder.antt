@@ -2,7 +2,7 @@
 use mathlib.Core.Path.{_≡_, refl}
 use mathlib.Core.List.{List}
 use mathlib.Core.Bool.{Bool, true, false, cond, not, _&&_, _||_, and-eq-true-iff, true≢false}
-use Prim.Native.Nat.{ℕ, _*_, _≤_}
+use Prim.Native.Nat.{ℕ, _*_, _≤_, _<_}
 use native.Mathlib.Omega.{arith}
 use lib.Dec.{leb, ltb}
 use lib.ListN.{length}
@@ -19,8 +19,8 @@ use Rattle.journal.proofs.Sums.{count-bounded}
 use Rattle.state.specs.declared.State.{State}
 use Rattle.state.specs.Calls.{Lent}
 use Rattle.checks.specs.Checks.{firstBroken}
-use Rattle.state.specs.State.{amountIn, Bookable}
-use Rattle.state_rules.proofs.Holds.{StateHolds, each, state-holds, room-for-one, amount-small}
+use Rattle.state.specs.State.{Bookable}
+use Rattle.state_rules.proofs.Holds.{StateHolds, each, state-holds, room-for-one}
 use Rattle.rules.specs.Rules.{tooShort, journalClauses, journalKept, inUpload, due, awaitedItem, phaseKept, keepsRule2, rules12}
 use Rattle.state_rules.specs.StateRules.{stateKept, sumsKept}
 
@@ -95,10 +95,10 @@ fit s lent e = go (tooShort s lent) (keepsRule2 s (entriesOf (s .entries) (lent 
           order = keeps-rule2 s (entriesOf (s .entries) (lent .journal)) q;
         }
 
--- the totals stored are the journal's, so they have room for the amount that is awaited
-pub bookable : (s : State) (lent : Lent) → Fit s lent → Bookable (amountIn (s .phase)) s
+-- the totals stored are the journal's, so they have room for an amount of twelve digits
+pub bookable : (s : State) (lent : Lent) → Fit s lent → (amount : ℕ) → amount < 1000000000000 → Bookable amount s
 unfolding sumsOf
-bookable s lent f =
+bookable s lent f amount small =
     let es = entriesOf (s .entries) (lent .journal) in
     let n = length-entries-le (s .entries) (lent .journal) in
     let o = f .order .state in
@@ -111,6 +111,6 @@ bookable s lent f =
             credit-small = omega (arith, f .order .journal .credit-most);
             debits-small = omega (arith, count-bounded debitEntry es, o .few, o .settings .limit-most);
             credits-small = omega (arith, count-bounded creditEntry es, o .few, o .settings .limit-most);
-            amount-small = omega (arith, amount-small (s .phase) (o .phase-form));
+            amount-small = small;
           });
     }

@@ -2,7 +2,7 @@
 use mathlib.Core.Path.{_≡_, refl, sym, _∙_}
 use mathlib.Core.List.{List, [], _∷_}
 use mathlib.Core.Bool.{Bool, true, false, cond, not, _&&_, _||_, and-false, and-eq-true-iff, true≢false}
-use Prim.Native.Nat.{_+_, _^_, _≤_, _<_}
+use Prim.Native.Nat.{ℕ, _+_, _^_, _≤_, _<_}
 use native.Mathlib.Omega.{arith}
 use lib.Dec.{leb, ltb, eqb}
 use lib.ListN.{length}
@@ -14,7 +14,7 @@ use Rattle.numbers.proofs.Bounds.{within-bounds, within-yes}
 use Rattle.field.specs.Contents.{allPrintable}
 use Rattle.digits.specs.Digits.{isPacked}
 use Rattle.elements.specs.Elements.{chipInForm}
-use Rattle.kinds.specs.Kinds.{isKind, takesOriginal, isNeverReversed, sendsChip}
+use Rattle.kinds.specs.Kinds.{isKind, takesOriginal, isNeverReversed, sendsChip, allowsPartial}
 use Rattle.kinds.specs.declared.Totals.{Totals}
 use Rattle.state.specs.declared.Approval.{Approval}
 use Rattle.state.specs.declared.Card.{Card}
@@ -26,8 +26,8 @@ use Rattle.state.specs.declared.Request.{Request}
 use Rattle.state.specs.declared.Reversal.{Reversal}
 use Rattle.state.specs.declared.Settings.{Settings}
 use Rattle.state.specs.declared.State.{State}
-use Rattle.state.specs.State.{noChip, chipBytes, hasChip, asSent, approvalIn, CountsBounded, amountIn, endedIn, waits}
-use Rattle.state_rules.specs.StateRules.{settingsInForm, isCard, requestInForm, reversalInForm, phaseInForm, kindIn, requestAwaited, approvalInForm, consentKept, chipKept, signOnKept, stateInForm, waiting, balanced, totalsTrue, allOf, stateClauses, stateKept}
+use Rattle.state.specs.State.{noChip, chipBytes, hasChip, asSent, approvalIn, CountsBounded, endedIn, waits}
+use Rattle.state_rules.specs.StateRules.{settingsInForm, isCard, requestInForm, reversalInForm, phaseInForm, kindIn, amountIn, requestAwaited, approvalInForm, answeredKept, consentKept, chipKept, signOnKept, stateInForm, waiting, balanced, totalsTrue, allOf, stateClauses, stateKept}
 
 -- settings in their ranges
 pub record SettingsHold (x : Settings) : Type 0 where
@@ -168,16 +168,43 @@ so-if : (b x : Bool) → (b ≡ true → x ≡ true) → (not b || x) ≡ true
 so-if true x h = h refl
 so-if false x h = refl
 
+-- an amount that may be approved for a request of this kind, which asks for so much
+pub record AnsweredHolds (kind asked x : ℕ) : Type 0 where
+  pub least : 1 ≤ asked → 1 ≤ x
+  pub most : x ≤ asked
+  pub whole : allowsPartial kind ≡ false → x ≡ asked
+
+pub answered-holds : (p : Phase) (x : ℕ) → answeredKept p x ≡ true → AnsweredHolds (kindIn p) (amountIn p) x
+unfolding answeredKept
+answered-holds p x e = go (allowsPartial (kindIn p)) refl e
+  where
+    go : (b : Bool) → allowsPartial (kindIn p) ≡ b → cond b (within 1 x (amountIn p)) (eqb x (amountIn p)) ≡ true
+        → AnsweredHolds (kindIn p) (amountIn p) x
+    go true q e =
+        let w = within-bounds 1 x (amountIn p) e in
+        record { least = λ l. w .0; most = w .1; whole = λ n. absurd (true≢false (sym q ∙ n)) }
+    go false q e =
+        let w = eqb-true x (amountIn p) e in
+        record { least = λ l. rw w l; most = omega (arith, w); whole = λ n. w }
+
+pub answered-back : (p : Phase) (x : ℕ) → 1 ≤ amountIn p → AnsweredHolds (kindIn p) (amountIn p) x → answeredKept p x ≡ true
+unfolding answeredKept
+answered-back p x l h = go (allowsPartial (kindIn p)) refl
+  where
+    go : (b : Bool) → allowsPartial (kindIn p) ≡ b → cond b (within 1 x (amountIn p)) (eqb x (amountIn p)) ≡ true
+    go true q = within-yes 1 x (amountIn p) (h .least l) (h .most)
+    go false q = eq-eqb x (amountIn p) (h .whole q)
+
 -- a chip, and the wait for the card's word, in their place
 pub record ChipHolds (p : Phase) (c : Chip) : Type 0 where
   pub sent : hasChip c ≡ true → (sendsChip (kindIn p) && chipInForm (chipBytes c)) ≡ true
-  pub awaited : c .approved ≡ true → (requestAwaited p && hasChip c && approvalInForm (approvalIn c)) ≡ true
+  pub awaited : c .approved ≡ true → (requestAwaited p && hasChip c && approvalInForm (approvalIn c) && answeredKept p (c .amount)) ≡ true
 
 pub chip-holds : (p : Phase) (c : Chip) → chipKept p c ≡ true → ChipHolds p c
 unfolding chipKept consentKept
 chip-holds p c e =
     let sent : Bool = sendsChip (kindIn p) && chipInForm (chipBytes c) in
-    let awaited : Bool = requestAwaited p && hasChip c && approvalInForm (approvalIn c) in
+    let awaited : Bool = requestAwaited p && hasChip c && approvalInForm (approvalIn c) && answeredKept p (c .amount) in
     let a = and-eq-true-iff (not (hasChip c) || sent) (not (c .approved) || awaited) .0 e in
     record { sent = if-so (hasChip c) sent (a .0); awaited = if-so (c .approved) awaited (a .1) }
 
@@ -186,7 +213,7 @@ unfolding chipKept consentKept
 chip-back p c h =
     rw (
       so-if (hasChip c) (sendsChip (kindIn p) && chipInForm (chipBytes c)) (h .sent),
-      so-if (c .approved) (requestAwaited p && hasChip c && approvalInForm (approvalIn c)) (h .awaited),
+      so-if (c .approved) (requestAwaited p && hasChip c && approvalInForm (approvalIn c) && answeredKept p (c .amount)) (h .awaited),
     )
 
 -- no chip holds in every phase
@@ -197,9 +224,21 @@ no-chip p = record { sent = λ y. absurd (true≢false (sym y)); awaited = λ y.
 pub chip-reversed : (p r : Phase) (c : Chip) → kindIn p ≡ kindIn r → ChipHolds p c → ChipHolds r (asSent c)
 chip-reversed p r c k h = record { sent = λ y. rw (← k) (h .sent y); awaited = λ y. absurd (true≢false (sym y)) }
 
--- any holds where also the wait for the request stays
-pub chip-stays : (p r : Phase) (c : Chip) → kindIn p ≡ kindIn r → requestAwaited p ≡ requestAwaited r → ChipHolds p c → ChipHolds r c
-chip-stays p r c k w h = record { sent = λ y. rw (← k) (h .sent y); awaited = λ y. rw (← w) (h .awaited y) }
+-- any holds where the kind stays and no card request is awaited
+pub chip-stays : (p r : Phase) (c : Chip) → kindIn p ≡ kindIn r → requestAwaited p ≡ false → ChipHolds p c → ChipHolds r c
+chip-stays p r c k w h = record { sent = λ y. rw (← k) (h .sent y); awaited = λ y. absurd (true≢false (sym (rw w at (h .awaited y)))) }
+
+-- an approval that a request may have
+abbrev pub MayApprove : Request → Approval → Type 0
+MayApprove q a = ApprovalHolds a × AnsweredHolds (q .kind) (q .amount) (a .amount)
+
+-- the approval that the card's word is awaited for, and its amount
+pub consent-holds : (p : Phase) (c : Chip) → ChipHolds p c → c .approved ≡ true
+    → ApprovalHolds (approvalIn c) × AnsweredHolds (kindIn p) (amountIn p) (c .amount)
+consent-holds p c h y =
+    let first : Bool = requestAwaited p && hasChip c in
+    let a = and-eq-true-iff (first && approvalInForm (approvalIn c)) (answeredKept p (c .amount)) .0 (h .awaited y) in
+    (approval-holds (approvalIn c) (and-eq-true-iff first (approvalInForm (approvalIn c)) .0 (a .0) .1), answered-holds p (c .amount) (a .1))
 
 -- rule 2 of settings and state, by the totals of the journal, and the bounds that follow
 pub record StateHolds (s : State) (t : Totals) : Type 0 where

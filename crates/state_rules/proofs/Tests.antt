@@ -12,7 +12,9 @@ use Rattle.numbers.specs.Numbers.{within}
 use Rattle.digits.specs.Digits.{isPacked}
 use Rattle.field.specs.Contents.{allPrintable}
 use Rattle.elements.specs.Elements.{chipInForm}
-use Rattle.kinds.specs.Kinds.{sendsChip}
+use Rattle.kinds.specs.Kinds.{sideOf, sendsChip}
+use Rattle.kinds.specs.declared.Side.{Side}
+use Rattle.kinds.specs.declared.Side.the-variants.{Debit, Credit, Neither}
 use Rattle.kinds.specs.declared.Totals.{Totals}
 use Rattle.state.specs.State.{chipBytes}
 use Rattle.state.specs.declared.Approval.{Approval}
@@ -20,7 +22,7 @@ use Rattle.state.specs.declared.Card.{Card}
 use Rattle.state.specs.declared.Chip.{Chip}
 use Rattle.state.specs.declared.Phase.{Phase}
 use Rattle.state.specs.declared.State.{State}
-use Rattle.state_rules.specs.StateRules.{kindIn, approvalInForm, consentKept, chipKept, stateKept, settingsInForm, isCard, stateInForm, exceeds, waiting, balanced, totalsTrue}
+use Rattle.state_rules.specs.StateRules.{kindIn, approvalInForm, consentKept, chipKept, stateKept, settingsInForm, isCard, stateInForm, exceeds, pastOn, past, waiting, balanced, totalsTrue}
 
 -- a card of too few or too many digits
 pub few-digits : (c : Card) → c .length < 13 → false ≡ isCard c
@@ -91,3 +93,13 @@ state-kept-is s t {a} {b} {c} {d} {e} p q r u v = rw (← p, ← q, ← r, ← u
     go true true true false e = refl
     go true true true true false = refl
     go true true true true true = refl
+
+-- a smaller amount passes no bound that the larger one does not
+pub past-less : (kind x y : ℕ) (t : Totals) → x ≤ y → past kind y t ≡ false → past kind x t ≡ false
+unfolding past
+past-less kind x y t l h = go (sideOf kind) h
+  where
+    go : (d : Side) → pastOn d y t ≡ false → pastOn d x t ≡ false
+    go Debit e = le-ltb largestTotal (t .debit + x) (omega (arith, ltb-false largestTotal (t .debit + y) e))
+    go Credit e = le-ltb largestTotal (t .credit + x) (omega (arith, ltb-false largestTotal (t .credit + y) e))
+    go Neither e = refl

@@ -10,7 +10,7 @@ use Rattle.numbers.specs.Limits.{largestAmount, largestTotal, mostRequests, mos
 use Rattle.numbers.specs.Numbers.{within, isNumber, isAmount}
 use Rattle.numbers.specs.declared.Trace.{Trace}
 use Rattle.field.specs.Contents.{allPrintable}
-use Rattle.kinds.specs.Kinds.{isKind, sideOf, takesOriginal, isNeverReversed, sendsChip}
+use Rattle.kinds.specs.Kinds.{isKind, sideOf, takesOriginal, isNeverReversed, sendsChip, allowsPartial}
 use Rattle.kinds.specs.declared.Side.{Side}
 use Rattle.kinds.specs.declared.Side.the-variants.{Debit, Credit, Neither}
 use Rattle.kinds.specs.declared.Totals.{Totals}
@@ -85,6 +85,21 @@ kindIn (Pending v) = v .request .kind
 kindIn Settling = 0
 kindIn Uploading = 0
 
+-- the amount that the awaited request asks for, 0 where there is none
+abbrev pub awaitedAmount : Awaited → ℕ
+awaitedAmount (awaited.Request q) = q .amount
+awaitedAmount (awaited.Reversal v) = 0
+awaitedAmount (awaited.Settlement x) = 0
+awaitedAmount (awaited.Item i) = 0
+awaitedAmount (awaited.End x) = 0
+
+abbrev pub amountIn : Phase → ℕ
+amountIn Resting = 0
+amountIn (Waiting a) = awaitedAmount a
+amountIn (Pending v) = 0
+amountIn Settling = 0
+amountIn Uploading = 0
+
 -- a card request is awaited
 abbrev pub awaitsRequest : Awaited → Bool
 awaitsRequest (awaited.Request q) = true
@@ -107,9 +122,14 @@ approvalInForm a =
     && (eqb (length (a .authorisation)) 6 && allPrintable (a .authorisation))
     && (eqb (length (a .reference)) 12 && allPrintable (a .reference))
 
+-- document 02, request 4: a sale is approved for 1 to the amount asked, another kind for that amount
+unfoldable pub answeredKept : Phase → ℕ → Bool
+answeredKept p x = cond (allowsPartial (kindIn p)) (within 1 x (amountIn p)) (eqb x (amountIn p))
+
 -- where the card's word is awaited, the request is, and it has a chip
 unfoldable pub consentKept : Phase → Chip → Bool
-consentKept p c = not (c .approved) || requestAwaited p && hasChip c && approvalInForm (approvalIn c)
+consentKept p c =
+    not (c .approved) || requestAwaited p && hasChip c && approvalInForm (approvalIn c) && answeredKept p (c .amount)
 
 unfoldable pub chipKept : Phase → Chip → Bool
 chipKept p c = (not (hasChip c) || sendsChip (kindIn p) && chipInForm (chipBytes c)) && consentKept p c

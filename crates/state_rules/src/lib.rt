@@ -13,7 +13,7 @@ use state::Settings;
 use state::State;
 ghost use mathlib.Core.Path.{_≡_};
 ghost use Prim.Native.Nat.{_≤_};
-ghost use Rattle.state_rules.specs.StateRules.{settingsInForm, isCard, requestInForm, reversalInForm, awaitedInForm, phaseInForm, awaitedKind, kindIn, awaitsRequest, requestAwaited, approvalInForm, consentKept, chipKept, signOnKept, stateInForm, awaitedWaiting, waiting, balanced, totalsTrue, stateKept, exceeds, past, sumsKept};
+ghost use Rattle.state_rules.specs.StateRules.{settingsInForm, isCard, requestInForm, reversalInForm, awaitedInForm, phaseInForm, awaitedKind, kindIn, awaitedAmount, amountIn, awaitsRequest, requestAwaited, approvalInForm, answeredKept, consentKept, chipKept, signOnKept, stateInForm, awaitedWaiting, waiting, balanced, totalsTrue, stateKept, exceeds, past, sumsKept};
 
 // The powers of ten from 10^13 to 10^19.
 const POWERS: [u64; 7] = [
@@ -204,6 +204,31 @@ fn reversed_kind(v: Reversal) -> u8
     q.kind
 }
 
+// The amount that the awaited request asks for, 0 where there is none.
+fn amount_in(p: Phase) -> u64
+    ensures { λ r. ⌜ r ≡ amountIn p ⌝ }
+{
+    match p {
+        Phase::Resting => 0,
+        Phase::Waiting(a) => awaited_amount(a),
+        Phase::Pending(_) => 0,
+        Phase::Settling => 0,
+        Phase::Uploading => 0,
+    }
+}
+
+fn awaited_amount(a: Awaited) -> u64
+    ensures { λ r. ⌜ r ≡ awaitedAmount a ⌝ }
+{
+    match a {
+        Awaited::Request(q) => q.amount,
+        Awaited::Reversal(_) => 0,
+        Awaited::Settlement(_) => 0,
+        Awaited::Item(_) => 0,
+        Awaited::End(_) => 0,
+    }
+}
+
 // Whether a card request is awaited.
 fn request_awaited(p: Phase) -> bool
     ensures { λ r. ⌜ r ≡ requestAwaited p ⌝ }
@@ -240,11 +265,25 @@ fn approval_in_form(a: Approval) -> bool
         & field::all_printable(&reference)
 }
 
+// Whether an amount may have been approved for the awaited request: a part of what it asks only where its kind allows it.
+fn answered_kept(p: Phase, amount: u64) -> bool
+    ensures { λ r. ⌜ r ≡ answeredKept p amount ⌝ }
+{
+    if kinds::allows_partial(kind_in(p)) {
+        return numbers::is_within(1, amount, amount_in(p));
+    }
+    amount == amount_in(p)
+}
+
 // Whether the card's word is awaited only where the request is.
 fn consent_kept(p: Phase, chip: Chip) -> bool
     ensures { λ r. ⌜ r ≡ consentKept p chip ⌝ }
 {
-    !chip.approved | (request_awaited(p) & (chip.length != 0) & approval_in_form(chip.approval()))
+    !chip.approved
+        | (request_awaited(p)
+            & (chip.length != 0)
+            & approval_in_form(chip.approval())
+            & answered_kept(p, chip.amount))
 }
 
 // Whether a chip stands only where its request is awaited or reversed, and passes 23.

@@ -4,14 +4,11 @@ use Rattle.answer_match.specs.Match.{approvalHolds}
 use Rattle.answer_match.proofs.approval_holds.Statement.{statement}
 use Rattle.answer_match.proofs.approval_holds.Tie as tie
 
-is-approval-requires : tie.Need-is-approval-requires
-is-approval-requires c κs = search needs
+grants-requires : tie.Need-grants-requires
+grants-requires c κs = search needs
 
-slice-aggregate-holds-number : tie.Need-slice-aggregate-holds-number
-slice-aggregate-holds-number c = search needs
-
-holds-number-requires : tie.Need-holds-number-requires
-holds-number-requires c κs = search needs
+amount-holds-requires : tie.Need-amount-holds-requires
+amount-holds-requires c κs = search needs
 
 named-requires : tie.Need-named-requires
 named-requires c κs = search needs
@@ -22,18 +19,19 @@ named-requires-2 c κs = search needs
 returns : tie.Need-returns
 unfolding approvalHolds
 returns c =
-    let at-is-approval = c .before .before .before .before .before .before .before .is-approval in
-    let at-holds-number = c .before .before .before .before .before .holds-number in
-    let at-named = c .before .before .named in
-    rw (c .named2 .ensures, at-named .ensures, at-holds-number .ensures, at-is-approval .ensures)
+    rw (
+      c .named2 .ensures,
+      c .before .before .named .ensures,
+      c .before .before .before .before .amount-holds .ensures,
+      c .before .before .before .before .before .grants .ensures,
+    )
 
 pub approval-holds-spec : {M : Type 1} → statement M
 approval-holds-spec =
     tie.close
     (tie.spec
-    is-approval-requires
-    slice-aggregate-holds-number
-    holds-number-requires
+    grants-requires
+    amount-holds-requires
     named-requires
     named-requires-2
     returns)

@@ -63,8 +63,8 @@ slice-aggregate-with-bytes-3 c = search needs
 with-bytes-requires-3 : tie.Need-with-bytes-requires-3
 with-bytes-requires-3 c κs = search needs
 
-with-field60-requires : tie.Need-with-field60-requires
-with-field60-requires c κs = search needs
+with-card-field60-requires : tie.Need-with-card-field60-requires
+with-card-field60-requires c κs = search needs
 
 slice-aggregate-with-bytes-4 : tie.Need-slice-aggregate-with-bytes-4
 slice-aggregate-with-bytes-4 c = search needs
@@ -95,10 +95,10 @@ returns c =
     let at-with-bytes = c .before .before .before .before .before .before .before .before .before .before .before .with-bytes in
     let at-with-bytes2 = c .before .before .before .before .before .before .before .before .with-bytes2 in
     let at-with-bytes3 = c .before .before .before .before .before .with-bytes3 in
-    let at-with-field60 = c .before .before .before .with-field60 in
+    let at-with-card-field60 = c .before .before .before .with-card-field60 in
     rw (
       c .with-bytes4 .ensures,
-      at-with-field60 .ensures,
+      at-with-card-field60 .ensures,
       at-with-bytes3 .ensures,
       at-with-bytes2 .ensures,
       at-with-bytes .ensures,
@@ -135,7 +135,7 @@ with-plain-fields-spec =
     with-bytes-requires-2
     slice-aggregate-with-bytes-3
     with-bytes-requires-3
-    with-field60-requires
+    with-card-field60-requires
     slice-aggregate-with-bytes-4
     with-bytes-requires-4
     returns)
