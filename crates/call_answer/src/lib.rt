@@ -11,7 +11,8 @@ use state::State;
 ghost use mathlib.Core.Path.{_≡_};
 ghost use Rattle.journal.specs.Journal.{entriesOf};
 ghost use Rattle.state.specs.Calls.{lend, resultOf};
-ghost use Rattle.state.specs.State.{amountIn, Bookable};
+ghost use Rattle.approval.specs.Approval.{approvalOf};
+ghost use Rattle.state.specs.State.{Bookable};
 ghost use Rattle.call_definitions.specs.Answer.{noAnswer, powerReturned, traceSent, answerIn, answer};
 ghost use Rattle.call_answer.specs.Bounds.{Gives, readingNumber, signOnAnswer};
 
@@ -85,7 +86,7 @@ fn batch_sent(s: State) -> Batch
 
 // A message that was read.
 fn answer_in(s: State, m: Message, good: bool, journal: &mut [u8]) -> Called
-    requires { ⌜ Bookable (amountIn (s .phase)) s ⌝ }
+    requires { ⌜ Bookable (approvalOf m .amount) s ⌝ }
     ensures { λ r. ⌜ Gives r (now (journal .entry)) (now (journal .exit)) (answerIn good m s) ⌝ }
 {
     let chip = s.chip;

@@ -2,7 +2,7 @@
 use mathlib.Core.Path.{_≡_, refl, sym, _∙_}
 use mathlib.Core.List.{List, _++_}
 use mathlib.Core.Bool.{Bool, true, false, not, _||_, or-false, true≢false}
-use Prim.Native.Nat.{ℕ}
+use Prim.Native.Nat.{ℕ, _<_}
 use lib.Dec.{eqb}
 use borrow.Author.Tests.{eqb-true, not-false}
 use Rattle.message.specs.declared.Message.{Message}
@@ -12,11 +12,11 @@ use Rattle.checks.proofs.Choices.{first-none, passed}
 use Rattle.state.specs.declared.Called.{Called}
 use Rattle.state.specs.declared.Outcome.the-variants.{Quiet}
 use Rattle.state.specs.declared.State.{State}
-use Rattle.state.specs.State.{amountIn, Bookable, waits, signsOn, isWaiting}
+use Rattle.state.specs.State.{Bookable, waits, signsOn, isWaiting}
 use Rattle.state.specs.Calls.{Lent, withJournal, resultOf}
 use Rattle.state_rules.proofs.Holds.{none-over-wait}
 use Rattle.rules.specs.Rules.{rules12}
-use Rattle.rules.proofs.InOrder.{fit, bookable}
+use Rattle.rules.proofs.InOrder.{Fit, fit, bookable}
 use Rattle.effect_definitions.specs.JournalEffects.{Changed, changed}
 use Rattle.call_definitions.specs.Answer.{quietly, answersIn, answersNow, answerRules}
 
@@ -44,6 +44,11 @@ plainly a s j z e =
     let rs = answerRules a s j in
     (rw (e, or-false (waits (s .phase))) at (passed 14 rs refl z), rw e at (not-false (answersNow (entriesOf (s .entries) j) s a) (passed 22 rs refl z)))
 
--- where none of a call's rules is broken, there is room for one more
-pub roomy : (s : State) (lent : Lent) (qs : List Rule) (n : ℕ) → n ≡ firstBroken (rules12 s lent ++ qs) → n ≡ 0 → Bookable (amountIn (s .phase)) s
-roomy s lent qs n e z = bookable s lent (fit s lent (first-none (rules12 s lent) qs refl (sym e ∙ z)))
+-- where none of a call's rules is broken, rules 1 and 2 have passed
+pub fit-first : (s : State) (lent : Lent) (qs : List Rule) (n : ℕ) → n ≡ firstBroken (rules12 s lent ++ qs) → n ≡ 0 → Fit s lent
+fit-first s lent qs n e z = fit s lent (first-none (rules12 s lent) qs refl (sym e ∙ z))
+
+-- and there is room for one more
+pub roomy : (s : State) (lent : Lent) (qs : List Rule) (n : ℕ) → n ≡ firstBroken (rules12 s lent ++ qs) → n ≡ 0
+    → (amount : ℕ) → amount < 1000000000000 → Bookable amount s
+roomy s lent qs n e z = bookable s lent (fit-first s lent qs n e z)

@@ -3,7 +3,7 @@ use mathlib.Core.Bool.{Bool, cond}
 use mathlib.Core.List.{List}
 use Prim.Native.Nat.{ℕ, _+_}
 use lib.Dec.{eqb, leb}
-use Rattle.answer_match.specs.Match.{approves, goodMac}
+use Rattle.answer_match.specs.Match.{approves, approvesRequest, goodMac}
 use Rattle.approval.specs.Approval.{approvalOf, approvedEntry}
 use Rattle.entry.specs.Entry.{resendsOffset, voidedOffset, markOffset}
 use Rattle.entry.specs.declared.Entry.{Entry}
@@ -71,17 +71,17 @@ originalVoided q es j =
 unfoldable pub approved : Request → Entry → State → List ℕ → Changed
 approved q e s j = changed (oneMore (e .kind) (e .amount) s) (putEntry (s .entries) e (originalVoided q (entriesOf (s .entries) j) j))
 
--- a good 00: without a chip it approves; with one the card has the last word
+-- a good 00, to a sale a good 10: without a chip it approves; with one the card has the last word
 unfoldable pub granted : Message → Request → State → List ℕ → Changed
 granted a q s j =
     cond (hasChip (s .chip))
       (changed (withChip (approvedBy (approvalOf a) (s .chip)) s) j)
       (approved q (approvedEntry q (approvalOf a)) s j)
 
--- an answer to a card request: the MAC is read only for 00; other code: declined
+-- an answer to a card request: the MAC is read only for a code that approves; other code: declined
 unfoldable pub onRequest : Bool → Message → Request → State → List ℕ → Changed
 onRequest good a q s j =
-    cond (approves a)
+    cond (approvesRequest (q .kind) a)
       (cond (goodMac good a) (granted a q s j) (changed (pendingOrUnanswered BadMac q s) j))
       (changed (ended Declined s) j)
 

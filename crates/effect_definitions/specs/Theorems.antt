@@ -10,7 +10,7 @@ use Rattle.message.specs.declared.Message.{Message}
 use Rattle.field.specs.Table.{among}
 use Rattle.kinds.specs.Kinds.{isNeverReversed}
 use Rattle.kinds.specs.declared.Totals.{Totals}
-use Rattle.answer_match.specs.Match.{approves, goodMac, closesBatch}
+use Rattle.answer_match.specs.Match.{approves, approvesRequest, goodMac, closesBatch}
 use Rattle.entry.specs.Entry.{entrySize}
 use Rattle.entry.specs.declared.Entry.{Entry}
 use Rattle.state.specs.State.{chipBytes, hasChip, waits}
@@ -58,9 +58,9 @@ PendingStays = (v : Reversal) (s : State) (j : List ℕ) → s .phase ≡ Pendin
 -- an approval whose MAC is bad writes no entry
 abbrev pub BadMacWritesNothing : Type 0
 BadMacWritesNothing = (good : Bool) (a : Message) (q : Request) (s : State) (j : List ℕ)
-    → approves a ≡ true → goodMac good a ≡ false → onRequest good a q s j .journal ≡ j
+    → approvesRequest (q .kind) a ≡ true → goodMac good a ≡ false → onRequest good a q s j .journal ≡ j
 
--- document 02, request 1: a good 00 to a request with a chip writes no entry, counts nothing, and the request is still awaited
+-- document 02, request 1: a good approval of a request with a chip writes no entry, counts nothing, and the request is still awaited
 pub record Undecided (s : State) (j : List ℕ) (c : Changed) : Type 0 where
   pub journal-stays : c .journal ≡ j
   pub counts-stay : c .state .counts ≡ s .counts
@@ -68,7 +68,7 @@ pub record Undecided (s : State) (j : List ℕ) (c : Changed) : Type 0 where
 
 abbrev pub UndecidedBeforeConsent : Type 0
 UndecidedBeforeConsent = (good : Bool) (a : Message) (q : Request) (s : State) (j : List ℕ)
-    → approves a ≡ true → goodMac good a ≡ true → hasChip (s .chip) ≡ true → Undecided s j (onRequest good a q s j)
+    → approvesRequest (q .kind) a ≡ true → goodMac good a ≡ true → hasChip (s .chip) ≡ true → Undecided s j (onRequest good a q s j)
 
 -- where the card's word is awaited, silence makes a reversal by reason 06, with the chip as it was sent
 abbrev pub SilentCardDeclines : Type 0

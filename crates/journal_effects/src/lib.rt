@@ -11,7 +11,8 @@ use state::State;
 ghost use mathlib.Core.Path.{_≡_};
 ghost use Prim.Native.Nat.{_+_, _<_};
 ghost use Rattle.journal.specs.Journal.{entriesOf, entryAt};
-ghost use Rattle.state.specs.State.{CountsBounded, awaitedAmount, amountIn, Bookable};
+ghost use Rattle.approval.specs.Approval.{approvalOf};
+ghost use Rattle.state.specs.State.{CountsBounded, Bookable};
 ghost use Rattle.effect_definitions.specs.JournalEffects.{changed, silentMark, marked, silent, silentIn, unanswered, voidedAt, originalVoided, approved, granted, onRequest, agreed, agreedIn, onItem, answered, resent};
 
 // What silence leaves of what is awaited.
@@ -56,7 +57,7 @@ pub fn unanswered(s: State, journal: &mut [u8]) -> State
 
 // What an answer leaves of what is awaited.
 pub fn answered(s: State, a: Awaited, m: Message, good: bool, journal: &mut [u8]) -> State
-    ensures { λ r. ⌜ (Bookable (awaitedAmount a) s → changed r (now (journal .exit)) ≡ answered good m a s (now (journal .entry))) ⌝ }
+    ensures { λ r. ⌜ (Bookable (approvalOf m .amount) s → changed r (now (journal .exit)) ≡ answered good m a s (now (journal .entry))) ⌝ }
 {
     match a {
         Awaited::Request(q) => on_request(s, q, m, good, journal),
@@ -72,7 +73,7 @@ pub fn answered(s: State, a: Awaited, m: Message, good: bool, journal: &mut [u8]
 
 // The card agrees to the request that is awaited; in another phase all stays.
 pub fn agreed_in(s: State, journal: &mut [u8]) -> State
-    ensures { λ r. ⌜ (Bookable (amountIn (s .phase)) s → changed r (now (journal .exit)) ≡ agreedIn (s .phase) s (now (journal .entry))) ⌝ }
+    ensures { λ r. ⌜ (Bookable (s .chip .amount) s → changed r (now (journal .exit)) ≡ agreedIn (s .phase) s (now (journal .entry))) ⌝ }
 {
     let phase = s.phase;
     let Phase::Waiting(a) = phase else {
@@ -141,9 +142,9 @@ fn approved(s: State, q: Request, e: Entry, journal: &mut [u8]) -> State
     state_effects::one_more(s, e.kind, e.amount)
 }
 
-// A good 00: without a chip it approves; with one the card has the last word.
+// A good approval: without a chip it is the last word; with one the card has that.
 fn granted(s: State, q: Request, m: Message, journal: &mut [u8]) -> State
-    ensures { λ r. ⌜ (Bookable (q .amount) s → changed r (now (journal .exit)) ≡ granted m q s (now (journal .entry))) ⌝ }
+    ensures { λ r. ⌜ (Bookable (approvalOf m .amount) s → changed r (now (journal .exit)) ≡ granted m q s (now (journal .entry))) ⌝ }
 {
     let chip = s.chip;
     let approval = approval::approval_of(m);
@@ -155,7 +156,7 @@ fn granted(s: State, q: Request, m: Message, journal: &mut [u8]) -> State
 
 // The card agrees to what is awaited.
 fn agreed(s: State, a: Awaited, journal: &mut [u8]) -> State
-    ensures { λ r. ⌜ (Bookable (awaitedAmount a) s → changed r (now (journal .exit)) ≡ agreed a s (now (journal .entry))) ⌝ }
+    ensures { λ r. ⌜ (Bookable (s .chip .amount) s → changed r (now (journal .exit)) ≡ agreed a s (now (journal .entry))) ⌝ }
 {
     let Awaited::Request(q) = a else {
         return s;
@@ -166,9 +167,9 @@ fn agreed(s: State, a: Awaited, journal: &mut [u8]) -> State
 
 // An answer to a card request.
 fn on_request(s: State, q: Request, m: Message, good: bool, journal: &mut [u8]) -> State
-    ensures { λ r. ⌜ (Bookable (q .amount) s → changed r (now (journal .exit)) ≡ onRequest good m q s (now (journal .entry))) ⌝ }
+    ensures { λ r. ⌜ (Bookable (approvalOf m .amount) s → changed r (now (journal .exit)) ≡ onRequest good m q s (now (journal .entry))) ⌝ }
 {
-    if answer_match::approves(m) {
+    if answer_match::approves_request(q.kind, m) {
         if answer_match::is_good(good, m) {
             return granted(s, q, m, journal);
         }

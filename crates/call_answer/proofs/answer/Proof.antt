@@ -1,6 +1,7 @@
 -- `call_answer::answer` meets its contract.
 use mathlib.Core.List.{[]}
 use borrow.Author.Needs.{needs}
+use Rattle.approval.proofs.Approval.{answered-small}
 use Rattle.call_definitions.proofs.Quietly.{roomy}
 use Rattle.call_answer.proofs.Steps.{answer-first-refusal, answer-unread, answer-read}
 use Rattle.call_answer.proofs.answer.Statement.{statement}
@@ -57,7 +58,7 @@ answer-in-requires : tie.Need-answer-in-requires
 answer-in-requires c κs =
     let at-first-refusal = c .before .before .before .before .before .before .first-refusal in
     let at-if1 = c .before .before .before .before .before .if1 in
-    roomy _ _ [] _ (at-first-refusal .ensures) (at-if1 .left)
+    roomy _ _ [] _ (at-first-refusal .ensures) (at-if1 .left) _ (answered-small _)
 
 same-length-5 : tie.Need-same-length-5
 same-length-5 c = search needs

@@ -1,7 +1,6 @@
 -- `call_answer::answer_in` meets its contract.
 use borrow.Author.Needs.{needs}
 use Rattle.state.proofs.Phases.{not-waiting}
-use Rattle.journal_effects.proofs.Booking.{in-phase}
 use Rattle.call_answer.proofs.Steps.{answer-to-card, answer-to-sign-on, answer-unawaited, answer-changes, answer-unmatched}
 use Rattle.call_answer.proofs.answer_in.Statement.{statement}
 use Rattle.call_answer.proofs.answer_in.Tie as tie
@@ -74,7 +73,7 @@ returns-4 c =
     let at-answered = c .before .before .before .answered in
     answer-changes _ _ _ _ _ (at-if1 .left) _ (at-signs-on .ensures) (at-if2 .left) _ (at-phase .given .1) _
     (rw (at-batch-sent .ensures, at-trace-sent .ensures) at (at-is-answer .ensures)) _ _ (at-if3 .taken)
-    (at-answered .ensures (in-phase (at-phase .given .1) at-pre)) (c .quiet .ensures)
+    (at-answered .ensures at-pre) (c .quiet .ensures)
 
 refused-requires-3 : tie.Need-refused-requires-3
 refused-requires-3 c κs = search needs

@@ -1,5 +1,6 @@
 -- `call_answer::no_answer` meets its contract.
 use mathlib.Core.List.{[]}
+use native.Mathlib.Omega.{arith}
 use borrow.Author.Needs.{needs}
 use Rattle.call_definitions.proofs.Quietly.{roomy}
 use Rattle.call_answer.proofs.Steps.{no-answer-first-refusal, no-answer-unawaited, no-answer-changes}
@@ -63,7 +64,7 @@ returns-3 c =
     let at-if2 = c .before .before .before .before .before .if2 in
     let at-unanswered = c .before .before .before .unanswered in
     no-answer-changes _ _ _ (at-first-refusal .ensures) _ (at-if1 .left) _ (at-is-waiting .ensures) _ _ (at-if2 .left)
-    (at-unanswered .ensures (roomy _ _ [] _ (at-first-refusal .ensures) (at-if1 .left) .counts)) (c .quiet .ensures)
+    (at-unanswered .ensures (roomy _ _ [] _ (at-first-refusal .ensures) (at-if1 .left) 0 (omega arith) .counts)) (c .quiet .ensures)
 
 pub no-answer-spec : {M : Type 1} → statement M
 no-answer-spec =

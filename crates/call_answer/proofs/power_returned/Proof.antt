@@ -1,5 +1,6 @@
 -- `call_answer::power_returned` meets its contract.
 use mathlib.Core.List.{[]}
+use native.Mathlib.Omega.{arith}
 use borrow.Author.Needs.{needs}
 use Rattle.call_definitions.proofs.Quietly.{roomy}
 use Rattle.call_answer.proofs.Steps.{power-first-refusal, power-changes}
@@ -44,7 +45,7 @@ returns-2 c =
     let at-if1 = c .before .before .before .before .before .before .if1 in
     let at-unanswered = c .before .before .before .before .unanswered in
     power-changes _ _ _ (at-first-refusal .ensures) _ _ _ _ (at-if1 .left)
-    (at-unanswered .ensures (roomy _ _ [] _ (at-first-refusal .ensures) (at-if1 .left) .counts)) (c .before .signed .ensures)
+    (at-unanswered .ensures (roomy _ _ [] _ (at-first-refusal .ensures) (at-if1 .left) 0 (omega arith) .counts)) (c .before .signed .ensures)
     (c .quiet .ensures)
 
 pub power-returned-spec : {M : Type 1} → statement M

@@ -3,7 +3,7 @@ use mathlib.Core.Path.{sym}
 use borrow.Author.Needs.{needs}
 use Rattle.effect_definitions.specs.JournalEffects.{agreed}
 use Rattle.journal_effects.proofs.Phases.{no-request-agreed}
-use Rattle.journal_effects.proofs.Booking.{of-entry, of-request}
+use Rattle.journal_effects.proofs.Booking.{of-entry}
 use Rattle.journal_effects.proofs.agreed.Statement.{statement}
 use Rattle.journal_effects.proofs.agreed.Tie as tie
 
@@ -38,7 +38,7 @@ returns-2 c room =
       at-a .given .1,
       ← at-approval .ensures,
       ← at-approved-entry .ensures,
-    ) (at-approved .ensures (of-entry _ _ (at-approved-entry .ensures) (of-request (at-a .given .1) room)))
+    ) (at-approved .ensures (of-entry _ _ (at-approved-entry .ensures) (rw (at-approval .ensures) room)))
 
 pub agreed-spec : {M : Type 1} → statement M
 agreed-spec =

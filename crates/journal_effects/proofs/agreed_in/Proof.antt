@@ -4,7 +4,6 @@ use borrow.Author.Needs.{needs}
 use Rattle.state.proofs.Phases.{not-waiting}
 use Rattle.effect_definitions.specs.JournalEffects.{agreedIn}
 use Rattle.journal_effects.proofs.Phases.{nothing-changed, awaited-in}
-use Rattle.journal_effects.proofs.Booking.{in-phase}
 use Rattle.journal_effects.proofs.agreed_in.Statement.{statement}
 use Rattle.journal_effects.proofs.agreed_in.Tie as tie
 
@@ -26,7 +25,7 @@ returns-2 : tie.Need-returns-2
 returns-2 c room =
     let at-phase = c .before .before .before .before .before .phase in
     let at-agreed = c .before .before .agreed in
-    awaited-in agreedIn _ _ _ _ (at-phase .given .1) (at-agreed .ensures (in-phase (at-phase .given .1) room))
+    awaited-in agreedIn _ _ _ _ (at-phase .given .1) (at-agreed .ensures room)
 
 pub agreed-in-spec : {M : Type 1} → statement M
 agreed-in-spec =

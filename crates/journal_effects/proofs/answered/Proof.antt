@@ -1,7 +1,6 @@
 -- `journal_effects::answered` meets its contract.
 use borrow.Author.Needs.{needs}
 use Rattle.effect_definitions.specs.JournalEffects.{answered}
-use Rattle.journal_effects.proofs.Booking.{of-request}
 use Rattle.journal_effects.proofs.answered.Statement.{statement}
 use Rattle.journal_effects.proofs.answered.Tie as tie
 
@@ -46,7 +45,7 @@ unfolding answered
 returns c room =
     let at-a = c .before .before .before .before .before .a in
     let at-on-request = c .before .before .on-request in
-    rw (at-a .given .1) (at-on-request .ensures (of-request (at-a .given .1) room))
+    rw (at-a .given .1) (at-on-request .ensures room)
 
 returns-2 : tie.Need-returns-2
 unfolding answered

@@ -29,7 +29,7 @@ returns c room =
       eq-eqb _ _ (at-if1 .taken),
       ← at-approval-of .ensures,
       ← at-approved-entry .ensures,
-    ) (at-approved .ensures (of-entry _ _ (at-approved-entry .ensures) room))
+    ) (at-approved .ensures (of-entry _ _ (at-approved-entry .ensures) (rw (at-approval-of .ensures) room)))
 
 approved-by-requires : tie.Need-approved-by-requires
 approved-by-requires c κs = search needs

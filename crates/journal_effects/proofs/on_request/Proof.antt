@@ -4,8 +4,8 @@ use Rattle.effect_definitions.specs.JournalEffects.{onRequest}
 use Rattle.journal_effects.proofs.on_request.Statement.{statement}
 use Rattle.journal_effects.proofs.on_request.Tie as tie
 
-approves-requires : tie.Need-approves-requires
-approves-requires c κs = search needs
+approves-request-requires : tie.Need-approves-request-requires
+approves-request-requires c κs = search needs
 
 is-good-requires : tie.Need-is-good-requires
 is-good-requires c κs = search needs
@@ -19,13 +19,13 @@ same-length c = search needs
 returns : tie.Need-returns
 unfolding onRequest
 returns c room =
-    let at-approves = c .before .before .before .before .before .before .before .approves in
+    let at-approves-request = c .before .before .before .before .before .before .before .approves-request in
     let at-if1 = c .before .before .before .before .before .before .if1 in
     let at-is-good = c .before .before .before .before .before .is-good in
     let at-if2 = c .before .before .before .before .if2 in
     let at-granted = c .before .before .granted in
     rw (
-      ← at-approves .ensures,
+      ← at-approves-request .ensures,
       at-if1 .taken,
       ← at-is-good .ensures,
       at-if2 .taken,
@@ -37,10 +37,10 @@ pending-or-unanswered-requires c κs = search needs
 returns-2 : tie.Need-returns-2
 unfolding onRequest
 returns-2 c room =
-    let at-approves = c .before .before .before .before .approves in
+    let at-approves-request = c .before .before .before .before .approves-request in
     let at-if1 = c .before .before .before .if1 in
     let at-is-good = c .before .before .is-good in
-    rw (c .pending-or-unanswered .ensures (room .counts), ← at-approves .ensures, at-if1 .taken, ← at-is-good .ensures, c .before .if2 .left)
+    rw (c .pending-or-unanswered .ensures (room .counts), ← at-approves-request .ensures, at-if1 .taken, ← at-is-good .ensures, c .before .if2 .left)
 
 ended-requires : tie.Need-ended-requires
 ended-requires c κs = search needs
@@ -48,14 +48,14 @@ ended-requires c κs = search needs
 returns-3 : tie.Need-returns-3
 unfolding onRequest
 returns-3 c room =
-    let at-approves = c .before .before .approves in
-    rw (c .ended .ensures (room .counts), ← at-approves .ensures, c .before .if1 .left)
+    let at-approves-request = c .before .before .approves-request in
+    rw (c .ended .ensures (room .counts), ← at-approves-request .ensures, c .before .if1 .left)
 
 pub on-request-spec : {M : Type 1} → statement M
 on-request-spec =
     tie.close
     (tie.spec
-    approves-requires
+    approves-request-requires
     is-good-requires
     granted-requires
     same-length
