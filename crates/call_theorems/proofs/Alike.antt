@@ -17,7 +17,7 @@ use Rattle.state.specs.declared.Phase.the-variants.{Resting, Waiting, Pending, 
 use Rattle.state.specs.declared.Settings.{Settings}
 use Rattle.state.specs.declared.State.{State}
 use Rattle.state.specs.Calls.{Lent}
-use Rattle.answer_match.specs.Match.{repeats, matchesSent, batchIn, signOnHolds, isSignOnAnswer, hasCode, approvalHolds, holdsNamed, isAnswer, goodMac, endsReversal, closesBatch}
+use Rattle.answer_match.specs.Match.{repeats, matchesSent, batchIn, signOnHolds, isSignOnAnswer, hasCode, approvesRequest, amountHolds, approvalHolds, holdsNamed, isAnswer, goodMac, endsReversal, closesBatch}
 use Rattle.approval.specs.Approval.{fieldOr, approvalOf}
 use Rattle.effect_definitions.specs.JournalEffects.{granted, onRequest, onItem, answered, answeredIn, heard}
 use Rattle.effect_definitions.specs.StateEffects.{onReversal, onSettlement, onEnd, onSignOn}
@@ -60,7 +60,7 @@ module _ (a b : Message) (h : AlikeButUnused a b) where
 
   says-same : approvalOf a ≡ approvalOf b
   unfolding approvalOf
-  says-same = rw (field-same 13 2 _ refl refl, field-same 38 6 _ refl refl, field-same 37 12 _ refl refl)
+  says-same = rw (number-same 4 0 12 refl refl, field-same 13 2 _ refl refl, field-same 38 6 _ refl refl, field-same 37 12 _ refl refl)
 
   -- whether it is the answer
   repeats-same : (x : Settings) (n : ℕ) (trace : Trace) → repeats x n trace a ≡ repeats x n trace b
@@ -79,12 +79,17 @@ module _ (a b : Message) (h : AlikeButUnused a b) where
   unfolding isSignOnAnswer signOnHolds
   sign-on-same x trace = rw (repeats-same x 0x0800 trace, h .named 39 refl, code-same 0x30 0x30, batch-same, h .named 62 refl)
 
-  approval-same : (n : ℕ) → approvalHolds n a ≡ approvalHolds n b
-  unfolding approvalHolds
-  approval-same n = rw (code-same 0x30 0x30, matches-same 4 refl refl _, h .named 13 refl, h .named 37 refl)
+  request-same : (kind : ℕ) → approvesRequest kind a ≡ approvesRequest kind b
+  unfolding approvesRequest
+  request-same kind = rw (code-same 0x30 0x30, code-same 0x31 0x30)
+
+  approval-same : (kind n : ℕ) → approvalHolds kind n a ≡ approvalHolds kind n b
+  unfolding approvalHolds amountHolds
+  approval-same kind n =
+      rw (request-same kind, code-same 0x30 0x30, matches-same 4 refl refl _, number-same 4 0 12 refl refl, h .named 13 refl, h .named 37 refl)
 
   holds-same : (w : Awaited) → holdsNamed w a ≡ holdsNamed w b
-  holds-same (awaited.Request q) = rw (h .named 39 refl, approval-same (q .amount))
+  holds-same (awaited.Request q) = rw (h .named 39 refl, approval-same (q .kind) (q .amount))
   holds-same (awaited.Reversal v) = h .named 39 refl
   holds-same (awaited.Settlement x) = rw (number-same 48 30 1 refl refl)
   holds-same (awaited.Item i) = h .named 39 refl
@@ -104,7 +109,7 @@ module _ (a b : Message) (h : AlikeButUnused a b) where
   -- what it leaves
   answered-same : (good : Bool) (w : Awaited) (s : State) (j : List ℕ) → answered good a w s j ≡ answered good b w s j
   unfolding answered onRequest granted onReversal onSettlement onItem onEnd
-  answered-same good (awaited.Request q) s j = rw (code-same 0x30 0x30, mac-same good, says-same)
+  answered-same good (awaited.Request q) s j = rw (request-same (q .kind), mac-same good, says-same)
   answered-same good (awaited.Reversal v) s j = rw (ends-same good)
   answered-same good (awaited.Settlement x) s j = rw (closes-same)
   answered-same good (awaited.Item i) s j = rw (code-same 0x30 0x30)

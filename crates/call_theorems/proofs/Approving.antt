@@ -20,15 +20,14 @@ use Rattle.journal.proofs.Entries.{put-appends, length-put}
 use Rattle.state.specs.declared.Approval.{Approval}
 use Rattle.state.specs.declared.Request.{Request}
 use Rattle.state.specs.declared.Awaited.the-variants as awaited
-use Rattle.state.specs.declared.Chip.{Chip}
-use Rattle.state.specs.declared.Phase.{Phase}
 use Rattle.state.specs.declared.Phase.the-variants.{Resting, Waiting}
 use Rattle.state.specs.declared.State.{State}
-use Rattle.state.specs.State.{hasChip, approvalIn, inPhase}
+use Rattle.state.specs.State.{inPhase}
 use Rattle.state.specs.Calls.{Lent, withJournal}
 use Rattle.rules.specs.Rules.{originalUnvoided, requestKept}
-use Rattle.state_rules.specs.StateRules.{requestInForm, requestAwaited, approvalInForm, past}
-use Rattle.state_rules.proofs.Holds.{request-holds, ApprovalHolds, approval-holds, ChipHolds, no-chip, no-sign-on, none-over-wait}
+use Rattle.state_rules.specs.StateRules.{requestInForm, past}
+use Rattle.state_rules.proofs.Holds.{request-holds, MayApprove, no-chip, no-sign-on, none-over-wait}
+use Rattle.state_rules.proofs.Tests.{past-less}
 use Rattle.rules.proofs.InOrder.{InOrder, Fit}
 use Rattle.approval.specs.Approval.{approvedEntry}
 use Rattle.approval.proofs.Approval.{shaped, in-form}
@@ -103,31 +102,31 @@ more-order q s es fs h l p d c kind amount t =
       phase-kept = refl;
     }
 
--- the entry of an approval has the request's values
+-- the entry of an approval has the request's values, and no more than its amount
 record IsOf (q : Request) (e : Entry) : Type 0 where
   shaped : Shaped e
   new : IsNew e
   kind : e .kind ≡ q .kind
-  amount : e .amount ≡ q .amount
+  amount : e .amount ≤ q .amount
   trace : e .trace ≡ q .trace
 
-entry-of : (q : Request) (a : Approval) → requestInForm q ≡ true → ApprovalHolds a → IsOf q (approvedEntry q a)
+entry-of : (q : Request) (a : Approval) → requestInForm q ≡ true → MayApprove q a → IsOf q (approvedEntry q a)
 unfolding approvedEntry
 entry-of q a f h =
     let w = request-holds q f in
     record {
-      shaped = shaped q a h;
+      shaped = shaped q a (h .0);
       new =
           record {
             in-form =
-                in-form q a (w .kind-listed) (w .trace-least) (w .trace-most) (w .amount-least) (w .amount-most) (w .card-least)
-                (w .card-most) h;
+                in-form q a (w .kind-listed) (w .trace-least) (w .trace-most) (h .1 .least (w .amount-least))
+                (omega (arith, h .1 .most, w .amount-most)) (w .card-least) (w .card-most) (h .0);
             unvoided = refl;
             unmarked = refl;
             unsent = refl;
           };
       kind = refl;
-      amount = refl;
+      amount = h .1 .most;
       trace = refl;
     }
 
@@ -138,7 +137,8 @@ written-fit q e s lent k h o v =
     let w = left (s .settings .limit) n (entriesOf n (lent .journal)) q (h .order .phase-kept) in
     let es = entriesOf n k in
     let f : absent (e .trace .0) es ≡ true = rw (o .trace) (v .absent-same (q .trace .0) ∙ w .free) in
-    let p : past (e .kind) (e .amount) (totalsOf es) ≡ false = rw (o .kind, o .amount, v .totals) (w .sum) in
+    let p : past (e .kind) (e .amount) (totalsOf es) ≡ false =
+    rw (o .kind, v .totals) (past-less (q .kind) (e .amount) (q .amount) _ (o .amount) (w .sum)) in
     let t = sums-last es e (rw (v .totals) (h .order .journal .debit-most)) (rw (v .totals) (h .order .journal .credit-most)) p in
     let r : entrySize * n + entrySize ≤ length k = rw (v .room) (omega (arith, h .journal-room, w .place)) in
     let y : entriesOf (n + 1) (putEntry n e k) ≡ es ++ (e ∷ []) =
@@ -153,12 +153,7 @@ written-fit q e s lent k h o v =
           (rw (h .order .state .totals, totals-last es e, v .totals)));
     }
 
--- the approval that the card's word is awaited for is in form
-pub consent-holds : (p : Phase) (c : Chip) → ChipHolds p c → c .approved ≡ true → ApprovalHolds (approvalIn c)
-consent-holds p c h y =
-    approval-holds (approvalIn c) (and-eq-true-iff (requestAwaited p && hasChip c) (approvalInForm (approvalIn c)) .0 (h .awaited y) .1)
-
-pub approved-fit : (q : Request) (a : Approval) (s : State) (lent : Lent) → Fit (inPhase (Waiting (awaited.Request q)) s) lent → ApprovalHolds a
+pub approved-fit : (q : Request) (a : Approval) (s : State) (lent : Lent) → Fit (inPhase (Waiting (awaited.Request q)) s) lent → MayApprove q a
     → Fit (approved q (approvedEntry q a) s (lent .journal) .state) (withJournal (approved q (approvedEntry q a) s (lent .journal) .journal) lent)
 unfolding approved
 approved-fit q a s lent h w =

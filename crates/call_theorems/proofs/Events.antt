@@ -1,18 +1,14 @@
 -- The calls answer, no answer, power returned, card agrees and card declines keep rules 1 and 2.
 use mathlib.Core.Path.{_≡_, refl}
 use mathlib.Core.List.{List}
-use mathlib.Core.Bool.{Bool, true, false, cond, _&&_, and-eq-true-iff, not}
+use mathlib.Core.Bool.{Bool, true, false, cond, and-eq-true-iff, not}
 use Prim.Native.Nat.{ℕ}
 use borrow.Author.Tests.{not-false}
-use Rattle.digits.specs.Digits.{pack}
-use Rattle.digits.specs.Numbers.{digitsOf}
 use Rattle.field.specs.Bitmap.{names}
 use Rattle.message.specs.declared.Message.{Message}
 use Rattle.reading.specs.Reading.{readMessage}
 use Rattle.reading.specs.declared.ReadOutcome.{ReadOutcome as Judgement}
 use Rattle.reading.specs.declared.ReadOutcome.the-variants.{Read, Refused as Unread}
-use Rattle.message_theorems.proofs.Readable.{date-packed, reference-printable, reference-length, authorisation-printable}
-use Rattle.parts.specs.Parts.{matches}
 use Rattle.numbers.specs.declared.Trace.{Trace}
 use Rattle.numbers.specs.declared.Batch.{Batch}
 use Rattle.entry.specs.declared.Entry.{Entry}
@@ -33,10 +29,10 @@ use Rattle.checks.proofs.Choices.{passed}
 use Rattle.checks.specs.Checks.{firstBroken}
 use Rattle.rules.specs.Rules.{rules12}
 use Rattle.rules.proofs.InOrder.{Fit}
-use Rattle.state_rules.proofs.Holds.{ApprovalHolds}
-use Rattle.answer_match.specs.Match.{isAnswer, isSignOnAnswer, matchesSent, holdsNamed, indicatorSent, approves, approvalHolds, goodMac, endsReversal, closesBatch}
+use Rattle.state_rules.specs.StateRules.{requestInForm}
+use Rattle.state_rules.proofs.Holds.{MayApprove, consent-holds}
+use Rattle.answer_match.specs.Match.{isAnswer, isSignOnAnswer, matchesSent, holdsNamed, indicatorSent, approves, approvesRequest, approvalHolds, goodMac, endsReversal, closesBatch}
 use Rattle.approval.specs.Approval.{approvalOf, approvedEntry}
-use Rattle.approval.proofs.Approval.{answer-holds}
 use Rattle.effect_definitions.proofs.SignOn.{unanswered-as}
 use Rattle.call_definitions.specs.Answer.{noAnswerRules, noAnswer, withoutPower, powerReturned, awaitsCard, cardRules, cardAgrees, cardDeclines, answersIn, answersNow, answerRules, answerIn, readIn, answer}
 use Rattle.effect_definitions.specs.JournalEffects.{Changed, changed, silent, silentIn, unanswered, approved, granted, onRequest, agreed, agreedIn, answered, answeredIn, heard}
@@ -45,7 +41,8 @@ use Rattle.call_theorems.proofs.Refusing.{Fits, judged-fits}
 use Rattle.call_theorems.proofs.Phases.{pending-or-unanswered-fit, declined-fit, consent-fit, failed-fit, reversed-fit, settling-fit, uploading-fit, ending-fit, closed-fit, off-fit}
 use Rattle.call_theorems.proofs.Items.{silent-item, answered-item}
 use Rattle.call_theorems.proofs.Signing.{ended-fit, answered-sign-on}
-use Rattle.call_theorems.proofs.Approving.{consent-holds, approved-fit}
+use Rattle.call_theorems.proofs.Approvals.{approval-read}
+use Rattle.call_theorems.proofs.Approving.{approved-fit}
 
 -- rules 1 and 2 pass after a change
 abbrev FitsAfter : Changed → Lent → Type 0
@@ -111,31 +108,16 @@ card-agrees-fits s lent h =
     judged-fits (firstBroken rs) s lent _ h
     (λ z. agreed-in s lent (not-false (awaitsCard s) (passed 14 rs refl z)) (s .phase) h)
 
--- an approval that is an answer has field 37
-has-reference : (amount : ℕ) (a : Message) → approvalHolds amount a ≡ true → approves a ≡ true → names (a .bitmap) 37 ≡ true
-unfolding approvalHolds
-has-reference amount a h e =
-    let named = names (a .bitmap) 37 in
-    let others = matches a 4 (pack (digitsOf 12 amount)) && names (a .bitmap) 13 in
-    let t : (others && named) ≡ true = rw e at h in
-    and-eq-true-iff others named .0 t .1
-
--- what a message says where it approves is in form
+-- what a message says where it approves a request is in form; a message that was read is such
 abbrev Approves : Message → Type 0
-Approves a = (amount : ℕ) → approvalHolds amount a ≡ true → approves a ≡ true → ApprovalHolds (approvalOf a)
-
--- a message that was read is such
-read-approves : (b : List ℕ) → readMessage b .outcome ≡ Read → Approves (readMessage b .message)
-read-approves b r amount h e =
-    let n = has-reference amount (readMessage b .message) h e in
-    answer-holds (readMessage b .message) (date-packed b r) n (reference-length b r n) (reference-printable b r n)
-    (authorisation-printable b r)
+Approves a = (q : Request) → requestInForm q ≡ true → approvalHolds (q .kind) (q .amount) a ≡ true → approvesRequest (q .kind) a ≡ true
+    → MayApprove q (approvalOf a)
 
 -- an answer to what is awaited
 module _ (a : Message) (good : Bool) (says : Approves a) (s : State) (lent : Lent) where
-  -- a good 00: an entry, or the wait for the card's word
+  -- a good approval: an entry, or the wait for the card's word
   granted-fits : (q : Request) → s .phase ≡ Waiting (awaited.Request q) → Fit (inPhase (Waiting (awaited.Request q)) s) lent
-      → ApprovalHolds (approvalOf a) → FitsAfter (granted a q s (lent .journal)) lent
+      → MayApprove q (approvalOf a) → FitsAfter (granted a q s (lent .journal)) lent
   unfolding granted
   granted-fits q p h w = go (hasChip (s .chip)) refl
     where
@@ -146,14 +128,14 @@ module _ (a : Message) (good : Bool) (says : Approves a) (s : State) (lent : Len
       go false c = approved-fit q (approvalOf a) s lent h w
 
   request-fits : (q : Request) → s .phase ≡ Waiting (awaited.Request q) → Fit (inPhase (Waiting (awaited.Request q)) s) lent
-      → approvalHolds (q .amount) a ≡ true → FitsAfter (onRequest good a q s (lent .journal)) lent
+      → approvalHolds (q .kind) (q .amount) a ≡ true → FitsAfter (onRequest good a q s (lent .journal)) lent
   unfolding onRequest
-  request-fits q p h n = go (approves a) (goodMac good a) refl
+  request-fits q p h n = go (approvesRequest (q .kind) a) (goodMac good a) refl
     where
-      go : (x y : Bool) → approves a ≡ x
+      go : (x y : Bool) → approvesRequest (q .kind) a ≡ x
           → FitsAfter (cond x (cond y (granted a q s (lent .journal)) (changed (pendingOrUnanswered BadMac q s) (lent .journal)))
           (changed (ended Declined s) (lent .journal))) lent
-      go true true e = granted-fits q p h (says (q .amount) n e)
+      go true true e = granted-fits q p h (says q (h .order .state .phase-form) n e)
       go true false e = pending-or-unanswered-fit s lent BadMac q h
       go false y e = declined-fit s lent q h
 
@@ -185,7 +167,7 @@ module _ (a : Message) (good : Bool) (says : Approves a) (s : State) (lent : Len
       → FitsAfter (answered good a w s (lent .journal)) lent
   unfolding answered
   answered-fits (awaited.Request q) p h n =
-      request-fits q p h (and-eq-true-iff (names (a .bitmap) 39) (approvalHolds (q .amount) a) .0 n .1)
+      request-fits q p h (and-eq-true-iff (names (a .bitmap) 39) (approvalHolds (q .kind) (q .amount) a) .0 n .1)
   answered-fits (awaited.Reversal v) p h n = reversal-fits v h
   answered-fits (awaited.Settlement x) p h n = settlement-fits x h
   answered-fits (awaited.Item i) p h n = answered-item s lent i h a
@@ -234,4 +216,4 @@ pub answer-fits : (b : List ℕ) (good : Bool) (s : State) (lent : Lent) → Fit
 unfolding answer
 answer-fits b good s lent h =
     judged-fits (firstBroken (rules12 s lent)) s lent (readIn (readMessage b .outcome) good (readMessage b .message) s lent) h
-    (λ z. read-in (readMessage b .outcome) (readMessage b .message) good (read-approves b) s lent h)
+    (λ z. read-in (readMessage b .outcome) (readMessage b .message) good (approval-read b) s lent h)

@@ -4,6 +4,7 @@ pub mod Refusing
 pub mod Phases
 pub mod Items
 pub mod Growing
+pub mod Approvals
 pub mod Approving
 pub mod Events
 pub mod Signing

@@ -31,7 +31,7 @@ use Rattle.state.specs.State.{noChip, hasChip, asSent, approvedBy, endedIn, plu
 use Rattle.state.specs.Calls.{Lent}
 use Rattle.rules.specs.Rules.{inUpload, awaitedItem, phaseKept, due}
 use Rattle.state_rules.specs.StateRules.{requestInForm, reversalInForm, phaseInForm, kindIn, requestAwaited, signOnKept, waiting}
-use Rattle.state_rules.proofs.Holds.{ApprovalHolds, approval-back, ChipHolds, no-chip, chip-reversed, chip-stays, no-sign-on, none-over-wait}
+use Rattle.state_rules.proofs.Holds.{request-holds, MayApprove, approval-back, answered-back, ChipHolds, no-chip, chip-reversed, chip-stays, no-sign-on, none-over-wait}
 use Rattle.rules.proofs.InOrder.{JournalHolds, Fit}
 use Rattle.effect_definitions.specs.StateEffects.{ended, again, pendingOrUnanswered, failed}
 use Rattle.numbers.proofs.Bounds.{within-yes}
@@ -144,16 +144,21 @@ module _ (s : State) (lent : Lent) where
         alone = over-wait s lent (awaited.Request q) h;
       })
 
-  -- a good 00 to a request with a chip: the card's word is awaited
+  -- a good approval of a request with a chip: the card's word is awaited
   pub consent-fit : (q : Request) (a : Approval) → Fit (inPhase (Waiting (awaited.Request q)) s) lent → hasChip (s .chip) ≡ true
-      → ApprovalHolds a → Fit (inPhase (Waiting (awaited.Request q)) (withChip (approvedBy a (s .chip)) s)) lent
+      → MayApprove q a → Fit (inPhase (Waiting (awaited.Request q)) (withChip (approvedBy a (s .chip)) s)) lent
   consent-fit q a h c w =
       moved (Waiting (awaited.Request q)) (approvedBy a (s .chip)) (s .counts) (inPhase (Waiting (awaited.Request q)) s) lent h
       (record {
         sent-same = refl;
         approved-same = refl;
         phase-form = h .order .state .phase-form;
-        chip = record { sent = h .order .state .chip .sent; awaited = λ y. rw (c, approval-back a w) };
+        chip =
+            record {
+              sent = h .order .state .chip .sent;
+              awaited = λ y. rw (c, approval-back a (w .0))
+                  (answered-back (Waiting (awaited.Request q)) (a .amount) (request-holds q (h .order .state .phase-form) .amount-least) (w .1));
+            };
         journal = h .order .journal;
         balance = h .order .state .balance;
         phase-kept = h .order .phase-kept;

@@ -34,7 +34,7 @@ use Rattle.checks.specs.Checks.{firstBroken}
 use Rattle.checks.proofs.Choices.{passed}
 use Rattle.state_rules.specs.StateRules.{waiting}
 use Rattle.rules.specs.Rules.{tooShort, due}
-use Rattle.answer_match.specs.Match.{approves, goodMac, endsReversal, closesBatch}
+use Rattle.answer_match.specs.Match.{approves, approvesRequest, goodMac, endsReversal, closesBatch}
 use Rattle.approval.specs.Approval.{approvalOf, approvedEntry}
 use Rattle.effect_definitions.specs.StateEffects.{ended, pendingOrUnanswered, silenceOf, failed, onReversal, onSettlement, onEnd, onSignOn}
 use Rattle.effect_definitions.specs.JournalEffects.{Changed, silent, silentIn, unanswered, approved, granted, onRequest, agreed, agreedIn, answered, answeredIn, heard}
@@ -107,7 +107,7 @@ unanswered-keeps s j = one-of s (signsOn s) _ _ (keeps refl refl (λ e. absurd (
 answered-keeps : (w : Awaited) (good : Bool) (a : Message) (s : State) (j : List ℕ) → KeptBy s (answered good a w s j)
 unfolding answered onRequest granted onReversal onSettlement onEnd
 answered-keeps (awaited.Request q) good a s j =
-    one-of s (approves a) _ _
+    one-of s (approvesRequest (q .kind) a) _ _
     (one-of s (goodMac good a) _ _
     (one-of s (hasChip (s .chip)) _ _ (keeps refl refl (λ e. e)) (approved-keeps q (approvedEntry q (approvalOf a)) s j))
     (pending-keeps BadMac q s))

@@ -33,9 +33,9 @@ use Rattle.state.specs.Calls.{Lent, Result, refused, judged}
 use Rattle.checks.specs.Checks.{firstBroken}
 use Rattle.checks.proofs.Choices.{first-none, passed}
 use Rattle.rules.specs.Rules.{rules12, phaseKept, due}
-use Rattle.state_rules.proofs.Holds.{ApprovalHolds}
+use Rattle.state_rules.proofs.Holds.{ApprovalHolds, consent-holds}
 use Rattle.rules.proofs.InOrder.{Fit, fit}
-use Rattle.answer_match.specs.Match.{approves, goodMac}
+use Rattle.answer_match.specs.Match.{approvesRequest, goodMac}
 use Rattle.approval.specs.Approval.{approvalOf, approvedEntry}
 use Rattle.approval.proofs.Approval.{shaped}
 use Rattle.effect_definitions.specs.StateEffects.{ended, pendingOrUnanswered, silenceOf}
@@ -50,7 +50,6 @@ use Rattle.call_definitions.specs.SendNextUpload.{sendsNext, uploadFrom, sendNe
 use Rattle.call_definitions.specs.Events.{Event, call, sign-on, starts, answers, no-answer, power-returned, card-agrees, card-declines, send-reversal, settles, send-next-upload}
 use Rattle.call_theorems.specs.JournalRest.{after, larger, UnusedNotChanged, approvesAwaited, approvesIn, isApproval, EntriesByApproval}
 use Rattle.call_theorems.proofs.Items.{item-next}
-use Rattle.call_theorems.proofs.Approving.{consent-holds}
 use Rattle.call_theorems.proofs.Rest.{answer-shaped, put-after, later-after, set-after, voided-after, voided-length}
 use Rattle.call_theorems.proofs.Unwritten.{Few, pending-few, failed-few, reversal-few, settlement-few, end-few, sign-on-few}
 
@@ -139,9 +138,9 @@ module _ (s : State) (j : List ℕ) where
       go false = approved-kept q (approvedEntry q (approvalOf a)) (answer-shaped q a)
 
   request-kept : (q : Request) (good : Bool) (a : Message)
-      → KeptBy (cond (approves a && goodMac good a && not (hasChip (s .chip))) 1 0) s j (onRequest good a q s j)
+      → KeptBy (cond (approvesRequest (q .kind) a && goodMac good a && not (hasChip (s .chip))) 1 0) s j (onRequest good a q s j)
   unfolding onRequest
-  request-kept q good a = go (approves a) (goodMac good a)
+  request-kept q good a = go (approvesRequest (q .kind) a) (goodMac good a)
     where
       go : (x y : Bool) → KeptBy (cond (x && y && not (hasChip (s .chip))) 1 0) s j
           (cond x (cond y (granted a q s j) (changed (pendingOrUnanswered BadMac q s) j)) (changed (ended Declined s) j))
@@ -245,7 +244,7 @@ module _ (s : State) (lent : Lent) where
       → KeptBy (cond (awaitsCard s) 1 0) s (lent .journal) (agreedIn (s .phase) s (lent .journal))
   agreed-kept-in h y =
       subst (λ (b : Bool). KeptBy (cond b 1 0) s (lent .journal) (agreedIn (s .phase) s (lent .journal))) (sym y)
-      (agreed-in s (lent .journal) (consent-holds (s .phase) (s .chip) (h .order .state .chip) y) (s .phase))
+      (agreed-in s (lent .journal) (consent-holds (s .phase) (s .chip) (h .order .state .chip) y .0) (s .phase))
 
   call-kept : (e : Event) → KeptIn (cond (isApproval e s) 1 0) s lent (call e s lent)
   unfolding signOn start answer noAnswer powerReturned cardAgrees cardDeclines sendReversal settle sendNextUpload

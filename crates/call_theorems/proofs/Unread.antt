@@ -31,9 +31,9 @@ use Rattle.state.specs.State.{hasChip, approvedBy, approvalIn, withChip, signsO
 use Rattle.state.specs.Calls.{lend, Result, refused, judged}
 use Rattle.checks.proofs.Choices.{first-none, passed}
 use Rattle.rules.specs.Rules.{tooShort, rules12, phaseKept, due}
-use Rattle.state_rules.proofs.Holds.{ApprovalHolds}
+use Rattle.state_rules.proofs.Holds.{ApprovalHolds, consent-holds}
 use Rattle.rules.proofs.InOrder.{Fit, fit}
-use Rattle.answer_match.specs.Match.{approves, goodMac}
+use Rattle.answer_match.specs.Match.{approvesRequest, goodMac}
 use Rattle.approval.specs.Approval.{approvalOf, approvedEntry}
 use Rattle.approval.proofs.Approval.{shaped}
 use Rattle.effect_definitions.specs.StateEffects.{signOnEnded, onSignOn, ended, pendingOrUnanswered, silenceOf}
@@ -46,7 +46,7 @@ use Rattle.call_definitions.specs.Settle.{settle}
 use Rattle.call_definitions.specs.SendNextUpload.{sendsNext, uploadFrom, sendNextUpload}
 use Rattle.call_definitions.specs.Events.{Event, call, sign-on, starts, answers, no-answer, power-returned, card-agrees, card-declines, send-reversal, settles, send-next-upload}
 use Rattle.call_theorems.specs.JournalRest.{upTo, SameButRest, UnusedNotRead}
-use Rattle.call_theorems.proofs.Approving.{left, consent-holds}
+use Rattle.call_theorems.proofs.Approving.{left}
 use Rattle.call_theorems.proofs.Rest.{answer-shaped, fewer-agree, set-agree, resent-agree, voided-agree, voided-length, put-agree}
 use Rattle.call_theorems.proofs.Unwritten.{Few, pending-few, failed-few, reversal-few, settlement-few, end-few, sign-on-few}
 
@@ -117,7 +117,7 @@ module _ (s : State) (i j : List ℕ) (l : length i ≡ length j) (e : upTo (s .
   request-agree : (q : Request) (good : Bool) (a : Message) → entrySize * s .entries + entrySize ≤ length j
       → Agree (onRequest good a q s i) (onRequest good a q s j)
   unfolding onRequest
-  request-agree q good a h = go (approves a) (goodMac good a)
+  request-agree q good a h = go (approvesRequest (q .kind) a) (goodMac good a)
     where
       go : (x y : Bool) → Agree
           (cond x (cond y (granted a q s i) (changed (pendingOrUnanswered BadMac q s) i)) (changed (ended Declined s) i))
@@ -204,7 +204,7 @@ module _ (s : State) (i j : List ℕ) (l : length i ≡ length j) (e : upTo (s .
     agrees-same : Fit s (lend j m) → awaitsCard s ≡ true
         → SameButRest (quietly (agreedIn (s .phase) s i) (lend i m)) (quietly (agreedIn (s .phase) s j) (lend j m))
     agrees-same h y =
-        quiet-same (agreed-in (h .journal-room) (consent-holds (s .phase) (s .chip) (h .order .state .chip) y) (s .phase) (h .order .phase-kept))
+        quiet-same (agreed-in (h .journal-room) (consent-holds (s .phase) (s .chip) (h .order .state .chip) y .0) (s .phase) (h .order .phase-kept))
 
     send-same : (p : Phase) → SameButRest (sendFrom p s (lend i m)) (sendFrom p s (lend j m))
     send-same Resting = same refl refl refl e

@@ -15,7 +15,7 @@ use Rattle.state.specs.declared.Phase.the-variants.{Resting, Waiting, Pending, 
 use Rattle.state.specs.declared.State.{State}
 use Rattle.state.specs.State.{hasChip}
 use Rattle.state.specs.Calls.{Lent, lend, Result}
-use Rattle.answer_match.specs.Match.{approves, goodMac}
+use Rattle.answer_match.specs.Match.{approvesRequest, goodMac}
 use Rattle.call_definitions.specs.Answer.{awaitsCard}
 use Rattle.call_definitions.specs.Events.{Event, call, sign-on, starts, answers, no-answer, power-returned, card-agrees, card-declines, send-reversal, settles, send-next-upload}
 
@@ -48,10 +48,10 @@ pub record RestStays (s : State) (lent : Lent) (r : Result) : Type 0 where
 abbrev pub UnusedNotChanged : Type 0
 UnusedNotChanged = (e : Event) (s : State) (lent : Lent) → RestStays s lent (call e s lent)
 
--- only an approval writes an entry, and no more than one: a card request is awaited, and 39 is 00 with good MAC;
+-- only an approval writes an entry, and no more than one: a card request is awaited, and 39 is 00, for a sale also 10, with good MAC;
 -- with a chip it is the card's consent after that (document 02, request 1)
 abbrev pub approvesAwaited : Awaited → Bool → Message → Bool
-approvesAwaited (awaited.Request q) good a = approves a && goodMac good a
+approvesAwaited (awaited.Request q) good a = approvesRequest (q .kind) a && goodMac good a
 approvesAwaited (awaited.Reversal v) good a = false
 approvesAwaited (awaited.Settlement x) good a = false
 approvesAwaited (awaited.Item i) good a = false

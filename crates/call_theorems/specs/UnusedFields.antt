@@ -13,13 +13,13 @@ use Rattle.state.specs.declared.State.{State}
 use Rattle.state.specs.Calls.{Lent}
 use Rattle.call_definitions.specs.Events.{call, answers}
 
--- answers carry 32, 44 and 63, and the terminal doesn't use them
+-- answers carry 32, 44 and 63, and the terminal doesn't use them; nor does it use 54 (document 02, request 4)
 abbrev pub unused : ℕ → Bool
-unused n = among n (32 ∷ 44 ∷ 63 ∷ [])
+unused n = among n (32 ∷ 44 ∷ 54 ∷ 63 ∷ [])
 
 -- document 02, request 3: of key material, field 62, only that it is there
 abbrev pub unread : ℕ → Bool
-unread n = among n (32 ∷ 44 ∷ 62 ∷ 63 ∷ [])
+unread n = among n (32 ∷ 44 ∷ 54 ∷ 62 ∷ 63 ∷ [])
 
 -- two messages of one type that name the same fields but for the unused, and hold the same in them but for the bytes of 62
 pub record AlikeButUnused (a b : Message) : Type 0 where

@@ -3,6 +3,7 @@ use mathlib.Core.Path.{_≡_, refl, sym, _∙_}
 use mathlib.Core.List.{List, [], _∷_}
 use mathlib.Core.Bool.{Bool, true, false, cond, and-false}
 use Prim.Native.Nat.{ℕ}
+use Rattle.message.specs.declared.Message.{Message}
 use Rattle.reading.specs.Reading.{readMessage}
 use Rattle.reading.specs.declared.ReadOutcome.the-variants.{Read}
 use Rattle.numbers.specs.declared.Trace.{Trace}
@@ -18,7 +19,7 @@ use Rattle.state.specs.declared.State.{State}
 use Rattle.state.specs.declared.Count.the-variants.{Declined, Reversed}
 use Rattle.state.specs.State.{hasChip, approvedBy, inPhase, withChip, closed}
 use Rattle.answer_match.specs.Match as terminal
-use Rattle.answer_match.specs.Match.{isAnswer, approves, goodMac, endsReversal}
+use Rattle.answer_match.specs.Match.{isAnswer, approves, approvesRequest, goodMac, endsReversal}
 use Rattle.approval.specs.Approval.{approvalOf, approvedEntry}
 use Rattle.effect_definitions.specs.JournalEffects as effects
 use Rattle.call_definitions.specs.Answer.{traceSent}
@@ -27,9 +28,9 @@ use Rattle.effect_definitions.specs.StateEffects as state-effects
 use Rattle.effect_definitions.specs.StateEffects.{pendingOrUnanswered, failed, onReversal, onSettlement, onEnd}
 use Rattle.history.specs.Words.{messageIn, amountIn, isMatching, closesBatch}
 use Rattle.history.specs.History as history
-use Rattle.history.specs.History.{declined, reversed, Fate, deciding, consenting, out, ended, Request, Account, becomes, approvedAsAsked, isWaiting, byFate, whenHeard, decided, afterAnswer}
+use Rattle.history.specs.History.{declined, reversed, Fate, deciding, consenting, out, approved, ended, Request, Account, becomes, approvedFor, isWaiting, byFate, whenHeard, decided, afterAnswer}
 use Rattle.history.proofs.Sent.{reversal-typed, settlement-typed, end-typed}
-use Rattle.history.proofs.Matching.{request-accepted, reversal-accepted, settlement-accepted, end-accepted, approves-alike, mac-alike, ends-alike, settlement-closes, end-closes}
+use Rattle.history.proofs.Matching.{request-accepted, reversal-accepted, settlement-accepted, end-accepted, request-alike, mac-alike, ends-alike, settlement-closes, end-closes}
 use Rattle.history.proofs.Requests.{AllDone, heard-ended, heard-same}
 use Rattle.history.proofs.Books.{no-books, one-waits, one-approved}
 use Rattle.history.proofs.Tied.{accountOf, NeverCloses, Latest, latest-changed, Deciding, fate-of, Kept, Tied}
@@ -54,13 +55,13 @@ maybe-closed l good b a n d = rw (n, heard-same l good b l (a .requests) d)
 module _ (l : ℕ) (s : State) (j : List ℕ) (a : Account) (q : Asked)
     (kept : Kept l (s .settings) (s .counts) (s .totals) (a .requests))
     (f : Fate) (waits : isWaiting f ≡ true) (d : Deciding l (s .settings) (s .batch) (s .chip) f q a) where
-  pub approved-tied : (v : Approval)
-      → TiedAfter l (effects.approved q (approvedEntry q v) s j) (accountOf (approvedAsAsked (d .latest .head) ∷ d .latest .rest) (a .last))
+  pub approved-tied : (v : Approval) (x : ℕ) → v .amount ≡ x
+      → TiedAfter l (effects.approved q (approvedEntry q v) s j) (accountOf (approvedFor x (ended approved) (d .latest .head) ∷ d .latest .rest) (a .last))
   unfolding effects.approved
-  approved-tied v =
+  approved-tied v x e =
       let latest = d .latest in
       let k = approved-kind q v ∙ sym (d .asks .kind-is) in
-      let w = approved-amount q v ∙ sym (d .asks .amount-is) in
+      let w = approved-amount q v ∙ e in
       record {
         kept =
             record {
@@ -68,10 +69,15 @@ module _ (l : ℕ) (s : State) (j : List ℕ) (a : Account) (q : Asked)
               shaped = kept .shaped;
               books =
                   one-approved (s .counts) (s .totals) (latest .rest) (latest .head) (head-waits l s a f 0 waits kept latest)
-                  (open-books l s a f 0 waits kept latest) (approvedEntry q v .kind) (approvedEntry q v .amount) (amountIn (latest .head .message)) k w;
+                  (open-books l s a f 0 waits kept latest) (approvedEntry q v .kind) (approvedEntry q v .amount) x k w;
             };
         shape = (record { has-ended = refl; few = head-few l s a f 0 waits kept latest }, latest .done);
       }
+
+-- the amount that an answer approves, as the terminal and as the history reads it
+pub answered-alike : (a : Message) → approvalOf a .amount ≡ amountIn a
+unfolding approvalOf amountIn
+answered-alike a = refl
 
 -- an answer to a card request
 module _ (l : ℕ) (good : Bool) (b : List ℕ) (read : readMessage b .outcome ≡ Read) (s : State) (j : List ℕ) (a : Account) (q : Asked)
@@ -84,9 +90,9 @@ module _ (l : ℕ) (good : Bool) (b : List ℕ) (read : readMessage b .outcome �
   head = latest .head
 
   -- with a chip the card has the last word
-  consenting-tied : (v : Approval)
-      → Tied l (withChip (approvedBy v (s .chip)) s) (accountOf (becomes consenting head ∷ latest .rest) (a .last))
-  consenting-tied v =
+  consenting-tied : (v : Approval) (x : ℕ) → v .amount ≡ x
+      → Tied l (withChip (approvedBy v (s .chip)) s) (accountOf (approvedFor x consenting head ∷ latest .rest) (a .last))
+  consenting-tied v x e =
       record {
         kept =
             record {
@@ -94,14 +100,14 @@ module _ (l : ℕ) (good : Bool) (b : List ℕ) (read : readMessage b .outcome �
               shaped = kept .shaped;
               books =
                   one-waits (s .counts) _ (latest .rest) head (head-waits l s a deciding 0 refl kept latest)
-                  (open-books l s a deciding 0 refl kept latest) (becomes consenting head) refl;
+                  (open-books l s a deciding 0 refl kept latest) (approvedFor x consenting head) refl;
             };
         shape =
             rw phase
             (record {
               latest =
                   record {
-                    head = becomes consenting head;
+                    head = approvedFor x consenting head;
                     rest = latest .rest;
                     requests-are = refl;
                     fate-is = refl;
@@ -111,6 +117,7 @@ module _ (l : ℕ) (good : Bool) (b : List ℕ) (read : readMessage b .outcome �
                   };
               asks = d .asks;
               chip-is = d .chip-is;
+              approved-for = λ y. e;
               never-closes = d .never-closes;
             });
       }
@@ -118,24 +125,30 @@ module _ (l : ℕ) (good : Bool) (b : List ℕ) (read : readMessage b .outcome �
   request-decided : TiedAfter l (onRequest good (messageIn b) q s j) (accountOf (decided good (messageIn b) head ∷ latest .rest) (a .last))
   unfolding onRequest granted decided
   request-decided =
-      rw (approves-alike (messageIn b), mac-alike good (messageIn b), d .chip-is)
-      (go (approves (messageIn b)) (goodMac good (messageIn b)) (hasChip (s .chip)))
+      rw (request-alike (head .message) (d .asks .kind-is) (messageIn b), mac-alike good (messageIn b), d .chip-is)
+      (go (approvesRequest (q .kind) (messageIn b)) (goodMac good (messageIn b)) (hasChip (s .chip)))
     where
       v : Approval
       v = approvalOf (messageIn b)
 
-      go : (x y z : Bool) → TiedAfter l
-          (cond x
+      x : ℕ
+      x = amountIn (messageIn b)
+
+      same : v .amount ≡ x
+      same = answered-alike (messageIn b)
+
+      go : (w y z : Bool) → TiedAfter l
+          (cond w
           (cond y
           (cond z (changed (withChip (approvedBy v (s .chip)) s) j) (effects.approved q (approvedEntry q v) s j))
           (changed (pendingOrUnanswered BadMac q s) j))
           (changed (state-effects.ended Declined s) j))
           (accountOf
-          (cond x (cond y (cond z (becomes consenting head) (approvedAsAsked head)) (history.pendingOrUnanswered head)) (becomes (ended declined) head)
+          (cond w (cond y (approvedFor x (cond z consenting (ended approved)) head) (history.pendingOrUnanswered head)) (becomes (ended declined) head)
           ∷ latest .rest)
           (a .last))
-      go true true true = consenting-tied v
-      go true true false = approved-tied l s j a q kept deciding refl d v
+      go true true true = consenting-tied v x same
+      go true true false = approved-tied l s j a q kept deciding refl d v x same
       go true false z = pending-or-unanswered-tied l s a deciding 0 refl kept latest BadMac q refl (d .asks .kind-is)
       go false y z = ended-tied l s a deciding 0 refl kept latest declined refl
 

@@ -1,20 +1,12 @@
 -- A good approval, and the entries with its own.
 use mathlib.Core.Path.{_≡_, refl}
 use mathlib.Core.List.{List, [], _∷_, _++_}
-use mathlib.Core.Bool.{Bool, true, false, cond, _&&_, and-eq-true-iff}
+use mathlib.Core.Bool.{Bool, true, false, cond, and-eq-true-iff}
 use Prim.Native.Nat.{ℕ, _+_, _*_, _≤_, _<_}
 use native.Mathlib.Numerals.{add-one}
 use native.Mathlib.Omega.{arith}
 use lib.ListN.{length}
 use borrow.Author.Tests.{ltb-true}
-use Rattle.digits.specs.Digits.{pack}
-use Rattle.digits.specs.Numbers.{digitsOf}
-use Rattle.field.specs.Bitmap.{names}
-use Rattle.message.specs.declared.Message.{Message}
-use Rattle.reading.specs.Reading.{readMessage}
-use Rattle.reading.specs.declared.ReadOutcome.the-variants.{Read}
-use Rattle.message_theorems.proofs.Readable.{date-packed, reference-printable, reference-length, authorisation-printable}
-use Rattle.parts.specs.Parts.{matches}
 use Rattle.kinds.specs.Kinds.{takesOriginal, originalKind}
 use Rattle.entry.specs.Entry.{entrySize}
 use Rattle.entry.specs.Form.{inForm}
@@ -33,12 +25,10 @@ use Rattle.state.specs.Calls.{Lent}
 use Rattle.rules.specs.Rules.{requestKept}
 use Rattle.state_rules.specs.StateRules.{requestInForm}
 use Rattle.rules.proofs.InOrder.{Fit}
-use Rattle.state_rules.proofs.Holds.{ApprovalHolds, request-holds}
-use Rattle.answer_match.specs.Match.{approves, approvalHolds}
-use Rattle.approval.specs.Approval.{approvalOf, approvedEntry}
-use Rattle.approval.proofs.Approval.{answer-holds, shaped, in-form}
+use Rattle.state_rules.proofs.Holds.{MayApprove, request-holds}
+use Rattle.approval.specs.Approval.{approvedEntry}
+use Rattle.approval.proofs.Approval.{shaped, in-form}
 use Rattle.effect_definitions.specs.JournalEffects.{voidedAt, originalVoided, approved}
-use Rattle.history.specs.Words.{messageIn}
 
 -- the journal in which an original is voided is as long
 length-voided : (q : Request) (es : List Entry) (j : List ℕ) → length (originalVoided q es j) ≡ length j
@@ -55,30 +45,15 @@ place-left : (limit n : ℕ) (es : List Entry) (q : Request) → requestKept lim
 unfolding requestKept
 place-left limit n es q h = let t = simp and-eq-true-iff at h in ltb-true n limit (t .0 .0 .0)
 
--- an approval that is an answer has field 37
-has-reference : (amount : ℕ) (a : Message) → approvalHolds amount a ≡ true → approves a ≡ true → names (a .bitmap) 37 ≡ true
-unfolding approvalHolds
-has-reference amount a h e =
-    let named = names (a .bitmap) 37 in
-    let others = matches a 4 (pack (digitsOf 12 amount)) && names (a .bitmap) 13 in
-    let t : (others && named) ≡ true = rw e at h in
-    and-eq-true-iff others named .0 t .1
-
--- what an answer says that was read and approves is in form
-pub approval-read : (b : List ℕ) (amount : ℕ) → readMessage b .outcome ≡ Read → approvalHolds amount (messageIn b) ≡ true
-    → approves (messageIn b) ≡ true → ApprovalHolds (approvalOf (messageIn b))
-approval-read b amount r h e =
-    let n = has-reference amount (messageIn b) h e in
-    answer-holds (messageIn b) (date-packed b r) n (reference-length b r n) (reference-printable b r n) (authorisation-printable b r)
-
 -- the entry of a request in form and such an approval is in form
-entry-in-form : (q : Request) (v : Approval) → requestInForm q ≡ true → ApprovalHolds v → inForm (approvedEntry q v) ≡ true
+entry-in-form : (q : Request) (v : Approval) → requestInForm q ≡ true → MayApprove q v → inForm (approvedEntry q v) ≡ true
 entry-in-form q v f h =
     let w = request-holds q f in
-    in-form q v (w .kind-listed) (w .trace-least) (w .trace-most) (w .amount-least) (w .amount-most) (w .card-least) (w .card-most) h
+    in-form q v (w .kind-listed) (w .trace-least) (w .trace-most) (h .1 .least (w .amount-least)) (omega (arith, h .1 .most, w .amount-most)) (w .card-least)
+    (w .card-most) (h .0)
 
 -- the entries with that of an approval
-module _ (q : Request) (v : Approval) (s : State) (lent : Lent) (h : Fit (inPhase (Waiting (awaited.Request q)) s) lent) (g : ApprovalHolds v) where
+module _ (q : Request) (v : Approval) (s : State) (lent : Lent) (h : Fit (inPhase (Waiting (awaited.Request q)) s) lent) (g : MayApprove q v) where
   pub approved-entries : entriesOf (s .entries + 1) (approved q (approvedEntry q v) s (lent .journal) .journal)
       ≡ entriesOf (s .entries) (originalVoided q (entriesOf (s .entries) (lent .journal)) (lent .journal)) ++ (approvedEntry q v ∷ [])
   unfolding approved
@@ -88,13 +63,13 @@ module _ (q : Request) (v : Approval) (s : State) (lent : Lent) (h : Fit (inPhas
       let k = originalVoided q (entriesOf c j) j in
       let p = place-left (s .settings .limit) c (entriesOf c j) q (h .order .phase-kept) in
       let room : entrySize * c + entrySize ≤ length k = rw (length-voided q (entriesOf c j) j) (omega (arith, h .journal-room, p)) in
-      rw (add-one c) (put-appends c (approvedEntry q v) k (shaped q v g) (entry-in-form q v (h .order .state .phase-form) g) room)
+      rw (add-one c) (put-appends c (approvedEntry q v) k (shaped q v (g .0)) (entry-in-form q v (h .order .state .phase-form) g) room)
 
--- it has the request's kind and amount
+-- it has the request's kind and the approved amount
 pub approved-kind : (q : Request) (v : Approval) → approvedEntry q v .kind ≡ q .kind
 unfolding approvedEntry
 approved-kind q v = refl
 
-pub approved-amount : (q : Request) (v : Approval) → approvedEntry q v .amount ≡ q .amount
+pub approved-amount : (q : Request) (v : Approval) → approvedEntry q v .amount ≡ v .amount
 unfolding approvedEntry
 approved-amount q v = refl

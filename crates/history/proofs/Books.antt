@@ -104,7 +104,7 @@ module _ (c : Counts) (t : Totals) (rs : List Request) where
         record { counted = counted-ended e; summed = summed-before ∙ sym (unsummed (becomes (ended e) r) rs u) }
 
     -- it is approved, and its amount is booked
-    summed-more : (kind x : ℕ) → kind ≡ kindIn (r .message) → booked kind x t ≡ requestSums (approvedFor x r ∷ rs)
+    summed-more : (kind x : ℕ) → kind ≡ kindIn (r .message) → booked kind x t ≡ requestSums (approvedFor x (ended approved) r ∷ rs)
     unfolding booked isDebit isCredit kinds.isDebit kinds.isCredit
     summed-more kind x k =
         rw (
@@ -117,7 +117,7 @@ module _ (c : Counts) (t : Totals) (rs : List Request) where
         )
 
     pub one-approved : (kind amount x : ℕ) → kind ≡ kindIn (r .message) → amount ≡ x
-        → Books (plus Approved c) (booked kind amount t) (approvedFor x r ∷ rs)
+        → Books (plus Approved c) (booked kind amount t) (approvedFor x (ended approved) r ∷ rs)
     one-approved kind amount x k e = rw e (record { counted = counted-ended approved; summed = summed-more kind x k })
 
 -- each request has one fate

@@ -23,7 +23,7 @@ use Rattle.state.specs.declared.State.{State}
 use lib.Dec.{eqb}
 use borrow.Author.Tests.{not-false, eqb-true}
 use Rattle.state.specs.State.{hasChip, approvalIn, inPhase, signed, waits, signsOn}
-use Rattle.state_rules.specs.StateRules.{awaitsRequest, requestAwaited, approvalInForm}
+use Rattle.state_rules.specs.StateRules.{awaitsRequest, requestAwaited, approvalInForm, answeredKept}
 use Rattle.state_rules.proofs.Holds.{ChipHolds, none-over-wait}
 use Rattle.checks.specs.Checks.{firstBroken}
 use Rattle.state.specs.declared.Outcome.{Outcome}
@@ -53,7 +53,8 @@ use Rattle.history.proofs.Tied.{accountOf, NeverCloses, latest-changed,
 use Rattle.history.proofs.Silence.{TiedAfter, afterSilence, silent-tied}
 use Rattle.history.proofs.Answered.{not-closed, approved-tied, answered-tied}
 use Rattle.history.proofs.After.{After, refused-after, judged-after, no, sent-sign-on, sign-on-alone}
-use Rattle.history.proofs.Starts.{fit-first, start-after, reverse-after}
+use Rattle.call_definitions.proofs.Quietly.{fit-first}
+use Rattle.history.proofs.Starts.{start-after, reverse-after}
 use Rattle.history.proofs.Settles.{settings-held, settle-after, upload-after}
 
 -- signed on: the batch number matters to what is awaited only
@@ -98,7 +99,7 @@ sign-on-after l s lent a h =
     let b = handedOut (messageBytes (signOnMessage (s .settings) (s .batch) trace)) (lent .message) in
     judged-after l sign-on a (firstBroken rs) s lent _ h
     (λ z.
-    let f = fit-first s lent _ refl z in
+    let f = fit-first s lent _ _ refl z in
     let t = sign-on-sent l s lent a h f trace in
     record {
       tied =
@@ -180,7 +181,7 @@ silence-after : (l : ℕ) (s : State) (lent : Lent) (a : Account) → Tied l s a
 unfolding noAnswer
 silence-after l s lent a h =
     judged-after l no-answer a (firstBroken (noAnswerRules s lent)) s lent (quietly (unanswered s (lent .journal)) lent) h
-    (λ z. record { tied = unanswered-tied l s lent a (fit-first s lent _ refl z) h; lawful = tt })
+    (λ z. record { tied = unanswered-tied l s lent a (fit-first s lent _ _ refl z) h; lawful = tt })
 
 -- power returned
 off-tied : (l : ℕ) (s : State) (a : Account) → Tied l s a → Tied l (signed false s) a
@@ -200,8 +201,9 @@ power-after l s lent a h =
 -- the card's word, where it is awaited: its request is
 pub consent-awaited : (p : Phase) (c : Chip) → ChipHolds p c → c .approved ≡ true → requestAwaited p ≡ true
 consent-awaited p c k e =
-    let t = and-eq-true-iff (requestAwaited p && hasChip c) (approvalInForm (approvalIn c)) .0 (k .awaited e) in
-    and-eq-true-iff (requestAwaited p) (hasChip c) .0 (t .0) .0
+    let first : Bool = requestAwaited p && hasChip c in
+    let t = and-eq-true-iff (first && approvalInForm (approvalIn c)) (answeredKept p (c .amount)) .0 (k .awaited e) in
+    and-eq-true-iff (requestAwaited p) (hasChip c) .0 (and-eq-true-iff first (approvalInForm (approvalIn c)) .0 (t .0) .0) .0
 
 -- the account after the card's consent
 abbrev afterConsent : Account → Account
@@ -214,7 +216,7 @@ unfolding agreed whenAgreed
 agreed-awaited (awaited.Request q) l s j a h e r =
     let d = fate-of l (s .settings) (s .batch) (s .chip) q a true e (h .shape) in
     rw (latest-changed (d .latest) whenAgreed agreed-ended)
-    (approved-tied l s j a q (h .kept) consenting refl d (approvalIn (s .chip)))
+    (approved-tied l s j a q (h .kept) consenting refl d (approvalIn (s .chip)) _ (d .approved-for e))
 agreed-awaited (awaited.Reversal v) l s j a h e r = absurd (true≢false (sym r))
 agreed-awaited (awaited.Settlement x) l s j a h e r = absurd (true≢false (sym r))
 agreed-awaited (awaited.Item i) l s j a h e r = absurd (true≢false (sym r))
@@ -234,7 +236,7 @@ agrees-after l s lent a h =
     let rs = cardRules s lent in
     judged-after l card-agrees a (firstBroken rs) s lent (quietly (agreedIn (s .phase) s (lent .journal)) lent) h
     (λ z.
-    let f = fit-first s lent _ refl z in
+    let f = fit-first s lent _ _ refl z in
     let e : s .chip .approved ≡ true = not-false _ (passed 14 rs refl z) in
     record {
       tied = agreed-in (s .phase) l s (lent .journal) a h e (consent-awaited (s .phase) (s .chip) (chip-fits s lent f) e);
@@ -267,7 +269,7 @@ declines-after l s lent a h =
     let rs = cardRules s lent in
     judged-after l card-declines a (firstBroken rs) s lent (quietly (silentIn (s .phase) s (lent .journal)) lent) h
     (λ z.
-    let f = fit-first s lent _ refl z in
+    let f = fit-first s lent _ _ refl z in
     let k = chip-fits s lent f in
     let e : s .chip .approved ≡ true = not-false _ (passed 14 rs refl z) in
     record {
@@ -350,7 +352,7 @@ sign-on-signing l s lent a h g = go (eqb (firstBroken (signOnRules s lent)) 0) r
     go : (b : Bool) → eqb (firstBroken (signOnRules s lent)) 0 ≡ b
         → (let r = cond b (signOnNow s trace lent) (refused (firstBroken (signOnRules s lent)) s lent)
         in Signing (r .state) (whenGiven l (givenBy (r .outcome) (r .lent .message)) sign-on a))
-    go true e y = sign-on-closes (sign-on-sent l s lent a h (fit-first s lent _ refl (eqb-true _ 0 e)) trace)
+    go true e y = sign-on-closes (sign-on-sent l s lent a h (fit-first s lent _ _ refl (eqb-true _ 0 e)) trace)
     go false e y = g y
 
 -- any call

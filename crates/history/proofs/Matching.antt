@@ -20,8 +20,8 @@ use Rattle.state.specs.declared.Awaited.{Awaited}
 use Rattle.state.specs.declared.Awaited.the-variants as awaited
 use Rattle.state.specs.declared.Settings.{Settings}
 use Rattle.answer_match.specs.Match as terminal
-use Rattle.answer_match.specs.Match.{isValue, isValueWithin, repeats, matchesSent, indicatorSent, approvalHolds, holdsNamed, isAnswer, approves, goodMac, endsReversal}
-use Rattle.history.specs.Words.{messageIn, isSignOn, sameField, sameNumber, codeIs, isApproval, digitIn, matchesMessage, holdsItsFields, isMatching, macGood, endsIt, closesBatch}
+use Rattle.answer_match.specs.Match.{isValue, isValueWithin, repeats, matchesSent, indicatorSent, amountHolds, approvalHolds, holdsNamed, isAnswer, approves, goodMac, endsReversal}
+use Rattle.history.specs.Words.{messageIn, kindIn, amountIn, isSignOn, sameField, sameNumber, codeIs, isApproval, approvesRequest, amountFits, digitIn, matchesMessage, holdsItsFields, isMatching, macGood, endsIt, closesBatch}
 use Rattle.history.proofs.Said.{Says}
 use Rattle.history.proofs.Sent.{Typed, SignsOn, Asks}
 
@@ -33,9 +33,9 @@ value-is : (n : Number) → isValue 1 n ≡ eqb (numeral n) 1
 value-is (Is x) = refl
 value-is Not = refl
 
-value-within : (n : Number) → isValueWithin 1 3 n ≡ (leb 1 (numeral n) && leb (numeral n) 3)
-value-within (Is x) = refl
-value-within Not = refl
+value-within : (most : ℕ) (n : Number) → isValueWithin 1 most n ≡ (leb 1 (numeral n) && leb (numeral n) most)
+value-within most (Is x) = refl
+value-within most Not = refl
 
 -- what an answer must repeat stands in the message that left
 pub matches-alike : {x : Settings} {batch : Batch} {trace : Trace} {i kind code : ℕ} {m : Message} → Says x batch trace i kind code m
@@ -44,11 +44,25 @@ unfolding matchesSent repeats matchesMessage sameField matches
 matches-alike {x} {batch} s n a =
     rw (n, s .batch-number, s .trace-bytes, s .terminal-bytes, s .merchant-bytes, s .indicator, same-value (batch .0) (partOf a part.Batch))
 
+-- what approves a request, and its amount
+pub request-alike : (m : Message) {kind : ℕ} → kindIn m ≡ kind → (a : Message) → approvesRequest m a ≡ terminal.approvesRequest kind a
+unfolding approvesRequest terminal.approvesRequest codeIs matches
+request-alike m e a = rw e
+
+amount-read : (a : Message) → amountIn a ≡ numeral (partOf a part.Amount)
+unfolding amountIn
+amount-read a = refl
+
+amount-alike : {x : Settings} {batch : Batch} {q : Request} {m : Message} → Asks x batch q m
+    → (a : Message) → amountHolds (q .amount) a ≡ amountFits m a
+unfolding amountHolds amountFits sameField codeIs matches
+amount-alike {q = q} s a = rw (s .amount-bytes, s .amount-is, amount-read a, value-within (q .amount) (partOf a part.Amount))
+
 -- what else it must hold
 pub request-holds : {x : Settings} {batch : Batch} {q : Request} {m : Message} → Asks x batch q m
     → (a : Message) → holdsNamed (awaited.Request q) a ≡ holdsItsFields m a
-unfolding holdsItsFields approvalHolds sameField codeIs matches
-request-holds s a = rw (s .typed .is-settlement, s .typed .is-request, s .typed .is-sign-on, s .amount-bytes, and-true)
+unfolding holdsItsFields approvalHolds
+request-holds {m = m} s a = rw (s .typed .is-settlement, s .typed .is-request, s .typed .is-sign-on, request-alike m (s .kind-is) a, amount-alike s a, and-true)
 
 pub other-holds : {reversal end : Bool} {m : Message} → Typed false reversal false end m → (a : Message)
     → terminal.holdsNamed (awaited.Item 0) a ≡ holdsItsFields m a
@@ -58,7 +72,7 @@ other-holds t a = rw (t .is-settlement, t .is-request, t .is-sign-on, and-true, 
 pub settlement-holds : {m : Message} (x : Trace) → Typed false false true false m → (a : Message)
     → holdsNamed (awaited.Settlement x) a ≡ holdsItsFields m a
 unfolding holdsItsFields digitIn
-settlement-holds x t a = rw (t .is-settlement) (value-within (partOf a part.Reconciliation))
+settlement-holds x t a = rw (t .is-settlement) (value-within 3 (partOf a part.Reconciliation))
 
 -- an accepted answer is a matching one
 pub accepted : {x : Settings} {batch : Batch} {trace : Trace} {kind code : ℕ} {m : Message} (w : Awaited) (b : List ℕ)

@@ -5,14 +5,11 @@ use mathlib.Core.Bool.{true}
 use Prim.Native.Nat.{ℕ, _+_, _^_, _≤_, _<_}
 use native.Mathlib.Omega.{arith}
 use lib.ListN.{length, take, drop}
-use borrow.Author.Tests.{le-leb}
 use Rattle.digits.specs.Digits.{pack, allDigits}
 use Rattle.digits.specs.Numbers.{digitsOf}
 use Rattle.digits.specs.declared.Number.the-variants.{Is}
-use Rattle.digits.proofs.Numbers.{length-digitsOf, digitsOf-digits, value-digitsOf, number-is}
-use Rattle.digits.proofs.Packing.{unpack-pack}
+use Rattle.digits.proofs.Packing.{digits-append}
 use Rattle.field.specs.Table.{among, indicators}
-use Rattle.field.specs.Bitmap.{names}
 use Rattle.message.specs.Build.{Item, has, find, digits, bytes, messageOf}
 use Rattle.message.specs.Message.{largest, fieldOf}
 use Rattle.message.specs.declared.Message.{Message}
@@ -20,6 +17,7 @@ use Rattle.reading.specs.Reading.{readMessage}
 use Rattle.writing.specs.Writing.{messageBytes}
 use Rattle.parts.specs.Parts.{numberIn, partOf}
 use Rattle.parts.specs.declared.Part.the-variants as part
+use Rattle.parts.proofs.Numbers.{number-at}
 use Rattle.numbers.specs.declared.Trace.{Trace}
 use Rattle.numbers.specs.declared.Batch.{Batch}
 use Rattle.state.specs.declared.Settings.{Settings}
@@ -39,23 +37,6 @@ handedOut bs m = take (length bs) (bs ++ drop (length bs) m)
 pub sent-reads : (i : ℕ) (xs : List Item) (m : List ℕ) → among i indicators ≡ true → allHeld xs ≡ true → largest ≤ length m
     → Reads i xs (readMessage (handedOut (messageBytes (messageOf i xs)) m))
 sent-reads i xs m l h r = rw (written-is i xs m l h r) at (sent-reads-back i xs m l h r)
-
--- a number in a field of digits
-module _ (m : Message) (n : ℕ) (ds : List ℕ) (named : names (m .bitmap) n ≡ true) (held : fieldOf m n ≡ digits n ds .field)
-    (all : allDigits ds ≡ true) where
-  pub number-at : (i k x : ℕ) → i + k ≤ length ds → take k (drop i ds) ≡ digitsOf k x → k ≤ 19 → x < 10 ^ k → numberIn m n i k ≡ Is x
-  unfolding numberIn
-  number-at i k x h e s b =
-      let l : length (digitsOf k x) ≤ 19 = rw length-digitsOf s in
-      rw (
-        named,
-        held,
-        le-leb (i + k) (length ds) h,
-        unpack-pack ds all,
-        e,
-        number-is (digitsOf k x) l (digitsOf-digits k x),
-        value-digitsOf k x b,
-      )
 
 -- a list of items has this one, the first of its number
 abbrev pub Contains : List Item → Item → Type 0
@@ -79,11 +60,11 @@ module _ (b : List ℕ) (i : ℕ) (xs : List Item) (r : Reads i xs (readMessage 
   number-read n ds p q h f a = number-at (messageIn b) n ds (r .named n p q ∙ h) (r .fields n h ∙ f) a
 
   pub says : (x : Settings) (batch : Batch) (trace : Trace) (kind code : ℕ) → Contains xs (digits 11 (digitsOf 6 (trace .0)))
-      → Contains xs (bytes 41 (x .terminal)) → Contains xs (bytes 42 (x .merchant)) → Contains xs (digits 60 (field60 kind batch code))
-      → batch .0 ≤ lastNumber → kind ≤ 99 → code ≤ 999 → Says x batch trace i kind code (messageIn b)
-  says x batch trace kind code trace-in terminal-in merchant-in kind-in u v w =
-      let part = number-read 60 (field60 kind batch code) (omega arith) (omega arith) (kind-in .0) (kind-in .1)
-      (field60-digits kind batch code) in
+      → Contains xs (bytes 41 (x .terminal)) → Contains xs (bytes 42 (x .merchant))
+      → (rest : List ℕ) → allDigits rest ≡ true → Contains xs (digits 60 (field60 kind batch code ++ rest)) → batch .0 ≤ lastNumber → kind ≤ 99 → code ≤ 999 → Says x batch trace i kind code (messageIn b)
+  says x batch trace kind code trace-in terminal-in merchant-in rest d kind-in u v w =
+      let part = number-read 60 (field60 kind batch code ++ rest) (omega arith) (omega arith) (kind-in .0) (kind-in .1)
+      (digits-append (field60 kind batch code) rest (field60-digits kind batch code) d) in
       record {
         indicator = r .indicator;
         trace-bytes = ap (λ f. f .bytes) (r .fields 11 (trace-in .0) ∙ trace-in .1);

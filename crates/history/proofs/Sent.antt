@@ -7,7 +7,7 @@ use native.Mathlib.Omega.{arith}
 use lib.Dec.{eqb}
 use lib.ListN.{length}
 use Rattle.numbers.specs.Limits.{largestTotal, lastNumber}
-use Rattle.digits.specs.Digits.{pack}
+use Rattle.digits.specs.Digits.{pack, allDigits}
 use Rattle.digits.specs.Numbers.{digitsOf}
 use Rattle.digits.specs.declared.Number.the-variants.{Is}
 use Rattle.digits.proofs.Numbers.{digitsOf-digits}
@@ -31,8 +31,9 @@ use Rattle.state.specs.declared.Reversal.{Reversal}
 use Rattle.state.specs.declared.Settings.{Settings}
 use Rattle.state_rules.proofs.Holds.{RequestHolds}
 use Rattle.outgoing.specs.declared.Original.{Original}
-use Rattle.outgoing.specs.Outgoing.{requestFields, reversalFields, requestMessage, reversalMessage}
+use Rattle.outgoing.specs.Outgoing.{requestFields, reversalFields, requestMessage, reversalMessage, asksPartial}
 use Rattle.outgoing.specs.Held.{CardHeld, OriginalHeld, SettingsHeld}
+use Rattle.outgoing.proofs.Codes.{asks-digits}
 use Rattle.outgoing.proofs.Leaving.{request-held, reversal-held, request-listed, reversal-listed}
 use Rattle.outgoing_theorems.specs.Theorems.{Reads}
 use Rattle.outgoing_theorems.proofs.Theorems.{request-chip}
@@ -142,7 +143,8 @@ module _ (x : Settings) (batch : Batch) (m : List ℕ) (room : largest ≤ lengt
       let xs = requestFields x batch c q o in
       let r = request-read c q o w g in
       let k = kind-small (q .kind) (h .kind-listed) in
-      let s = says _ i xs r x batch (q .trace) (q .kind) 0 (refl, refl) (refl, refl) (refl, refl) (refl, refl) small k (omega arith) in
+      let s = says _ i xs r x batch (q .trace) (q .kind) 0 (refl, refl) (refl, refl) (refl, refl) (asksPartial (q .kind)) (asks-digits (q .kind))
+      (refl, refl) small k (omega arith) in
       let a = number-read _ i xs r 4 (digitsOf 12 (q .amount)) (omega arith) (omega arith) refl refl (digitsOf-digits 12 (q .amount))
       0 12 (q .amount) (omega arith) refl (omega arith) (omega (arith, h .amount-most)) in
       record {
@@ -159,17 +161,18 @@ module _ (x : Settings) (batch : Batch) (m : List ℕ) (room : largest ≤ lengt
   reversal-says c v w h =
       let xs = reversalFields x batch c v in
       says _ 0x0400 xs (sent-reads 0x0400 xs m reversal-listed (reversal-held x batch c v w) room) x batch (v .request .trace)
-      (v .request .kind) 0 (refl, refl) (refl, refl) (refl, refl) (refl, refl) small (kind-small (v .request .kind) (h .kind-listed)) (omega arith)
+      (v .request .kind) 0 (refl, refl) (refl, refl) (refl, refl) (asksPartial (v .request .kind)) (asks-digits (v .request .kind)) (refl, refl) small
+      (kind-small (v .request .kind) (h .kind-listed)) (omega arith)
 
   pub settlement-settles : (trace : Trace) (t : Totals) → SettingsHeld x → Sayable t
       → Settles x batch trace t (messageIn (handedOut (messageBytes (settlementMessage x batch trace t)) m))
-  unfolding settlementMessage
+  unfolding settlementMessage allDigits
   settlement-settles trace t h f =
       let xs = settlementFields x batch trace t in
       let r = sent-reads 0x0500 xs m settlement-listed (settlement-held x batch h trace t) room in
       let sum = number-read _ 0x0500 xs r 48 (field48 t) (omega arith) (omega arith) refl refl (field48-digits t) in
       record {
-        said = says _ 0x0500 xs r x batch trace 0 201 (refl, refl) (refl, refl) (refl, refl) (refl, refl) small (omega arith) (omega arith);
+        said = says _ 0x0500 xs r x batch trace 0 201 (refl, refl) (refl, refl) (refl, refl) [] refl (refl, refl) small (omega arith) (omega arith);
         debit-amount = sum 0 12 (t .debit) (omega arith) refl (omega arith) (omega (arith, f .debit-most));
         debit-count = sum 12 3 (t .debits) (omega arith) refl (omega arith) (omega (arith, f .debits-most));
         credit-amount = sum 15 12 (t .credit) (omega arith) refl (omega arith) (omega (arith, f .credit-most));
@@ -178,24 +181,24 @@ module _ (x : Settings) (batch : Batch) (m : List ℕ) (room : largest ≤ lengt
 
   pub item-says : (e : Entry) → SettingsHeld x → EntryHeld e → isKind (e .kind) ≡ true
       → Says x batch (e .trace) 0x0320 (e .kind) 201 (messageIn (handedOut (messageBytes (itemMessage x batch e)) m))
-  unfolding itemMessage
+  unfolding itemMessage allDigits
   item-says e h g k =
       let xs = itemFields x batch e in
       says _ 0x0320 xs (sent-reads 0x0320 xs m upload-listed (item-held x batch h e g) room) x batch (e .trace) (e .kind) 201
-      (refl, refl) (refl, refl) (refl, refl) (refl, refl) small (kind-small (e .kind) k) (omega arith)
+      (refl, refl) (refl, refl) (refl, refl) [] refl (refl, refl) small (kind-small (e .kind) k) (omega arith)
 
   pub end-says : (trace : Trace) → SettingsHeld x
       → Says x batch trace 0x0320 0 202 (messageIn (handedOut (messageBytes (endMessage x batch trace)) m))
-  unfolding endMessage
+  unfolding endMessage allDigits
   end-says trace h =
       let xs = endFields x batch trace in
       says _ 0x0320 xs (sent-reads 0x0320 xs m upload-listed (end-held x batch h trace) room) x batch trace 0 202
-      (refl, refl) (refl, refl) (refl, refl) (refl, refl) small (omega arith) (omega arith)
+      (refl, refl) (refl, refl) (refl, refl) [] refl (refl, refl) small (omega arith) (omega arith)
 
   pub sign-on-says : (trace : Trace) → SettingsHeld x
       → Says x batch trace 0x0800 0 3 (messageIn (handedOut (messageBytes (signOnMessage x batch trace)) m))
-  unfolding signOnMessage
+  unfolding signOnMessage allDigits
   sign-on-says trace h =
       let xs = signOnFields x batch trace in
       says _ 0x0800 xs (sent-reads 0x0800 xs m sign-on-listed (sign-on-held x batch h trace) room) x batch trace 0 3
-      (refl, refl) (refl, refl) (refl, refl) (refl, refl) small (omega arith) (omega arith)
+      (refl, refl) (refl, refl) (refl, refl) [] refl (refl, refl) small (omega arith) (omega arith)

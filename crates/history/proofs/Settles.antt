@@ -46,7 +46,7 @@ use Rattle.history.proofs.Requests.{AllDone, none-reversing, none-conse
 use Rattle.history.proofs.Books.{requestSums}
 use Rattle.history.proofs.Tied.{Tied}
 use Rattle.history.proofs.After.{LawfulMessage, After, judged-after, no, sent-other, idle}
-use Rattle.history.proofs.Starts.{fit-first}
+use Rattle.call_definitions.proofs.Quietly.{fit-first}
 
 pub settings-held : (l : ℕ) (s : State) (lent : Lent) (a : Account) → Tied l s a → Fit s lent → SettingsHeld (s .settings)
 settings-held l s lent a h f =
@@ -126,7 +126,7 @@ settle-after l s lent a h =
     let trace : Trace = record { 0 = taken es (s .next .0) } in
     judged-after l settles a (firstBroken rs) s lent _ h
     (λ z.
-    let f = fit-first s lent _ refl z in
+    let f = fit-first s lent _ _ refl z in
     let w = settlement-settles (s .settings) (s .batch) (lent .message) (f .message-room) (f .order .state .batch-most) trace t
     (settings-held l s lent a h f) (sayable s lent f) in
     let done = idle l (s .settings) (s .batch) (s .chip) a (s .phase) (resting s (passed 11 rs refl z) .0) (passed 12 rs refl z) (h .shape) in
@@ -207,4 +207,4 @@ pub upload-after : (l : ℕ) (s : State) (lent : Lent) (a : Account) → Tied l 
 unfolding sendNextUpload
 upload-after l s lent a h =
     judged-after l send-next-upload a (firstBroken (sendNextUploadRules s lent)) s lent (uploadFrom (s .phase) s lent) h
-    (λ z. upload-from (s .phase) l s lent a h (fit-first s lent _ refl z))
+    (λ z. upload-from (s .phase) l s lent a h (fit-first s lent _ _ refl z))

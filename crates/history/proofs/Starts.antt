@@ -1,8 +1,8 @@
 -- Start and send reversal keep the invariant, and what leaves is lawful.
-use mathlib.Core.Path.{_≡_, refl}
-use mathlib.Core.List.{List, _++_}
-use mathlib.Core.Bool.{Bool, true, false, cond, not, and-eq-true-iff}
-use Prim.Native.Nat.{ℕ, _+_, _≤_}
+use mathlib.Core.Path.{_≡_, refl, sym}
+use mathlib.Core.List.{List}
+use mathlib.Core.Bool.{Bool, true, false, cond, not, and-eq-true-iff, true≢false}
+use Prim.Native.Nat.{ℕ, _≤_}
 use native.Mathlib.Omega.{arith}
 use lib.ListN.{length}
 use borrow.Author.Tests.{ltb-true}
@@ -18,16 +18,15 @@ use Rattle.state.specs.declared.Phase.{Phase}
 use Rattle.state.specs.declared.Phase.the-variants.{Resting, Waiting, Pending, Settling, Uploading}
 use Rattle.state.specs.declared.State.{State}
 use Rattle.state.specs.State.{noChip, chipOf, chipBytes, hasChip, inPhase}
-use Rattle.checks.specs.Checks.{Rule, firstBroken}
+use Rattle.checks.specs.Checks.{firstBroken}
 use Rattle.state.specs.Calls.{Lent, judged}
-use Rattle.checks.proofs.Choices.{numbered, passed}
-use Rattle.rules.specs.Rules.{tooShort, keepsRule2, rules12}
+use Rattle.checks.proofs.Choices.{passed}
 use Rattle.state_rules.specs.StateRules.{requestInForm}
-use Rattle.rules.proofs.InOrder.{Fit, fit}
+use Rattle.rules.proofs.InOrder.{Fit}
 use Rattle.state_rules.proofs.Holds.{request-holds, reversal-holds}
 use Rattle.outgoing.specs.Held.{CardHeld}
 use Rattle.outgoing.specs.Outgoing.{requestMessage, reversalMessage}
-use Rattle.call_definitions.proofs.Quietly.{idle as resting}
+use Rattle.call_definitions.proofs.Quietly.{idle as resting, fit-first}
 use Rattle.call_definitions.specs.Start.{originalOf, entryOf, namedBy, startRules, start}
 use Rattle.desk.specs.DeskRules.{sendsField55, chipFrom, requestOf}
 use Rattle.effect_definitions.specs.StateEffects.{requested, again}
@@ -46,15 +45,6 @@ use Rattle.history.proofs.Requests.{AllDone, none-reversing, none-conse
 use Rattle.history.proofs.Books.{one-sent, one-waits}
 use Rattle.history.proofs.Tied.{reversal-latest, Tied, one-reversing}
 use Rattle.history.proofs.After.{reversal-alone, LawfulMessage, After, judged-after, no, sent-request, sent-reversal, idle}
-
--- rules 1 and 2 have passed where no rule of a call is broken
-pub fit-first : (s : State) (lent : Lent) (rs : List Rule) → numbered (rules12 s lent ++ rs) ≡ true
-    → firstBroken (rules12 s lent ++ rs) ≡ 0 → Fit s lent
-unfolding firstBroken
-fit-first s lent rs n z =
-    let a : tooShort s lent ≡ false = passed 1 (rules12 s lent ++ rs) n z in
-    let b : not (keepsRule2 s (entriesOf (s .entries) (lent .journal))) ≡ false = passed 2 (rules12 s lent ++ rs) n z in
-    fit s lent (rw (a, b))
 
 -- a request leaves a terminal at which none waits
 module _ (l : ℕ) (e : Event) (s : State) (a : Account) (c : Chip) (q : Asked) (b : List ℕ) (h : Tied l s a)
@@ -85,6 +75,7 @@ module _ (l : ℕ) (e : Event) (s : State) (a : Account) (c : Chip) (q : Asked) 
                   };
               asks = asks;
               chip-is = chip-is;
+              approved-for = λ y. absurd (true≢false (sym y));
               never-closes = other-closes (asks .typed);
             });
       })
@@ -226,4 +217,4 @@ unfolding sendReversal
 reverse-after l s lent a h =
     let rs = sendReversalRules s lent in
     judged-after l send-reversal a (firstBroken rs) s lent (sendFrom (s .phase) s lent) h
-    (λ z. send-from (s .phase) l s lent a h (fit-first s lent _ refl z))
+    (λ z. send-from (s .phase) l s lent a h (fit-first s lent _ _ refl z))

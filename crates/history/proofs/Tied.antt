@@ -61,11 +61,13 @@ reversal-latest d v = rw (d .requests-are) (ap (λ (f : Fate). withSending (reve
 abbrev pub awaitedFate : Bool → Fate
 awaitedFate approved = cond approved consenting deciding
 
--- a card request is awaited: it is the latest, of this fate, and carries field 55 where there is a chip
+-- a card request is awaited: it is the latest, of this fate, and carries field 55 where there is a chip; where the card's word is awaited,
+-- the centre has approved it for the amount that the chip keeps
 pub record Deciding (l : ℕ) (x : Settings) (batch : Batch) (c : Chip) (f : Fate) (q : Asked) (a : Account) : Type 0 where
   pub latest : Latest l f 0 a
   pub asks : Asks x batch q (latest .head .message)
   pub chip-is : carriesChip (latest .head .message) ≡ hasChip c
+  pub approved-for : c .approved ≡ true → c .amount ≡ latest .head .approved-amount
   pub never-closes : NeverCloses (a .last)
 
 -- by whether the card's word is awaited

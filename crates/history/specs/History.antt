@@ -7,7 +7,7 @@ use lib.Dec.{leb, eqb}
 use Rattle.message.specs.Message.{empty}
 use Rattle.message.specs.declared.Message.{Message}
 use Rattle.call_definitions.specs.Events.{Event, sign-on, starts, answers, no-answer, power-returned, card-agrees, card-declines, send-reversal, settles, send-next-upload}
-use Rattle.history.specs.Words.{messageIn, kindIn, amountIn, carriesChip, isRequest, isReversal, isMatching, isApproval, macGood, endsIt, closesBatch, isDebit, isCredit}
+use Rattle.history.specs.Words.{messageIn, kindIn, amountIn, carriesChip, isRequest, isReversal, isMatching, approvesRequest, macGood, endsIt, closesBatch, isDebit, isCredit}
 
 -- what came back: the message to send, a quiet change or a refusal number
 pub data Given : Type 0 where
@@ -35,8 +35,8 @@ pub data Fate : Type 0 where
   out : Message → Fate
   ended : Ending → Fate
 
--- a card request: the event that started it, the message sent, its fate, how often its reversal was sent, and the approved amount,
--- 0 until it is approved
+-- a card request: the event that started it, the message sent, its fate, how often its reversal was sent, and the amount that the centre
+-- has approved, 0 until then
 pub record Request : Type 0 where
   pub start : Event
   pub message : Message
@@ -58,10 +58,10 @@ abbrev pub becomes : Fate → Request → Request
 becomes f r =
     record { start = r .start; message = r .message; fate = f; sendings = r .sendings; approved-amount = r .approved-amount }
 
--- a request approved for an amount
-abbrev pub approvedFor : ℕ → Request → Request
-approvedFor x r =
-    record { start = r .start; message = r .message; fate = ended approved; sendings = r .sendings; approved-amount = x }
+-- a request that the centre approves for an amount, with its fate
+abbrev pub approvedFor : ℕ → Fate → Request → Request
+approvedFor x f r =
+    record { start = r .start; message = r .message; fate = f; sendings = r .sendings; approved-amount = x }
 
 -- a request whose reversal is sent once more
 abbrev pub withSending : Fate → Request → Request
@@ -84,17 +84,14 @@ whenSilent l pending r = r
 whenSilent l (out v) r = failed l r
 whenSilent l (ended e) r = r
 
--- a request is approved for the amount asked for
-abbrev pub approvedAsAsked : Request → Request
-approvedAsAsked r = approvedFor (amountIn (r .message)) r
+-- a good approval, for the amount in the answer (document 02, request 4); with a chip the card has the last word
+abbrev pub granted : Message → Request → Request
+granted a r = approvedFor (amountIn a) (cond (carriesChip (r .message)) consenting (ended approved)) r
 
--- an answer that was accepted decides the request or the reversal that it matches; a good 00 approves, but with a chip only once the
--- card agrees
+-- an answer that was accepted decides the request or the reversal that it matches
 unfoldable pub decided : Bool → Message → Request → Request
 decided good a r =
-    cond (isApproval a)
-      (cond (macGood good a) (cond (carriesChip (r .message)) (becomes consenting r) (approvedAsAsked r)) (pendingOrUnanswered r))
-      (becomes (ended declined) r)
+    cond (approvesRequest (r .message) a) (cond (macGood good a) (granted a r) (pendingOrUnanswered r)) (becomes (ended declined) r)
 
 unfoldable pub whenHeard : ℕ → Bool → List ℕ → Fate → Request → Request
 whenHeard l good b deciding r = cond (isMatching (r .message) b) (decided good (messageIn b) r) r
@@ -106,7 +103,7 @@ whenHeard l good b (ended e) r = r
 -- the card agrees, or declines
 unfoldable pub whenAgreed : Fate → Request → Request
 whenAgreed deciding r = r
-whenAgreed consenting r = approvedAsAsked r
+whenAgreed consenting r = becomes (ended approved) r
 whenAgreed pending r = r
 whenAgreed (out v) r = r
 whenAgreed (ended e) r = r

@@ -71,6 +71,14 @@ codeIs x y a = names (a .bitmap) 39 && sameBytes (fieldOf a 39 .bytes) (x ∷ y 
 abbrev pub isApproval : Message → Bool
 isApproval a = codeIs 0x30 0x30 a
 
+-- document 02, request 4: a request is approved by 00, a sale also by 10, in part
+unfoldable pub approvesRequest : Message → Message → Bool
+approvesRequest m a = isApproval a || eqb (kindIn m) 22 && codeIs 0x31 0x30 a
+
+-- field 4 of the approval is that of the request or, in part, from 1 to the amount asked
+unfoldable pub amountFits : Message → Message → Bool
+amountFits m a = cond (isApproval a) (sameField 4 m a) (leb 1 (amountIn a) && leb (amountIn a) (amountIn m))
+
 -- the reconciliation digit of field 48
 unfoldable pub digitIn : Message → ℕ
 digitIn a = numeral (partOf a part.Reconciliation)
@@ -86,14 +94,14 @@ matchesMessage m a =
 unfoldable pub batchIn : Message → ℕ
 batchIn a = numeral (partOf a part.Batch)
 
--- it must hold 39, but an 0510 must hold 48 instead, its digit 1, 2 or 3; a card approval also needs 4 equal, 13 and 37; a sign-on's 00
--- needs a batch number other than 000000, and key material
+-- it must hold 39, but an 0510 must hold 48 instead, its digit 1, 2 or 3; a card approval also needs 4, 13 and 37; a sign-on's 00 needs a
+-- batch number other than 000000, and key material
 unfoldable pub holdsItsFields : Message → Message → Bool
 holdsItsFields m a =
     cond (isSettlement m)
       (leb 1 (digitIn a) && leb (digitIn a) 3)
       (names (a .bitmap) 39
-      && (not (isRequest m && isApproval a) || sameField 4 m a && names (a .bitmap) 13 && names (a .bitmap) 37)
+      && (not (isRequest m && approvesRequest m a) || amountFits m a && names (a .bitmap) 13 && names (a .bitmap) 37)
       && (not (isSignOn m && isApproval a) || leb 1 (batchIn a) && leb (batchIn a) 999999 && names (a .bitmap) 62))
 
 -- these bytes are a matching answer to the message sent

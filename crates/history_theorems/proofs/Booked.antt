@@ -4,19 +4,17 @@ use mathlib.Core.List.{List, [], _∷_, _++_}
 use mathlib.Core.Bool.{Bool, true, false, cond, not, _&&_, _||_, and-eq-true-iff, true≢false}
 use Prim.Native.Nat.{ℕ, _+_}
 use native.Mathlib.Nat.{zero-add}
+use native.Mathlib.Decide.{ℕ-discrete}
 use lib.Dec.{eqb, leb}
-use borrow.Author.Tests.{eqb-true, not-false}
-use Rattle.digits.specs.Digits.{pack}
-use Rattle.digits.specs.Numbers.{digitsOf}
+use borrow.Author.Tests.{eqb-true, ne-eqb, not-false}
 use Rattle.field.specs.Bitmap.{names}
 use Rattle.message.specs.declared.Message.{Message}
 use Rattle.reading.specs.Reading.{readMessage}
 use Rattle.reading.specs.declared.ReadOutcome.{ReadOutcome}
 use Rattle.reading.specs.declared.ReadOutcome.the-variants.{Read, Refused}
-use Rattle.parts.specs.Parts.{matches}
-use Rattle.kinds.specs.Kinds.{isNeverReversed, takesOriginal, originalKind}
+use Rattle.kinds.specs.Kinds.{isNeverReversed, takesOriginal, originalKind, allowsPartial}
 use Rattle.entry.specs.declared.Entry.{Entry}
-use Rattle.journal.specs.Journal.{entriesOf, setByte, originalFor, nextDue, withMark, withResends}
+use Rattle.journal.specs.Journal.{entriesOf, entryAt, setByte, originalFor, nextDue, withMark, withResends}
 use Rattle.journal.specs.declared.Found.{Found}
 use Rattle.journal.specs.declared.Found.the-variants.{At as Place, Nowhere}
 use Rattle.journal.proofs.Entries.{set-mark, set-resends, set-voided}
@@ -36,9 +34,9 @@ use Rattle.checks.specs.Checks.{firstBroken}
 use Rattle.checks.proofs.Choices.{passed}
 use Rattle.rules.specs.Rules.{rules12, due, requestKept, unvoidedAt, originalUnvoided}
 use Rattle.rules.proofs.InOrder.{Fit, fit}
-use Rattle.state_rules.proofs.Holds.{request-holds}
+use Rattle.state_rules.proofs.Holds.{request-holds, MayApprove}
 use Rattle.answer_match.specs.Match as match
-use Rattle.answer_match.specs.Match.{isAnswer, matchesSent, indicatorSent, holdsNamed, approves, goodMac, approvalHolds, endsReversal}
+use Rattle.answer_match.specs.Match.{isAnswer, matchesSent, indicatorSent, holdsNamed, approves, approvesRequest, goodMac, approvalHolds, endsReversal}
 use Rattle.approval.specs.Approval.{approvalOf, approvedEntry}
 use Rattle.effect_definitions.specs.StateEffects as effects
 use Rattle.effect_definitions.specs.StateEffects.{pendingOrUnanswered, silenceOf, failed, onReversal, onSettlement, onEnd}
@@ -51,12 +49,13 @@ use Rattle.call_definitions.specs.Settle.{settle}
 use Rattle.call_definitions.specs.SendNextUpload.{sendsNext, uploadFrom, sendNextUpload}
 use Rattle.call_definitions.specs.Events.{Event, sign-on, starts, answers, no-answer, power-returned, card-agrees, card-declines, send-reversal, settles, send-next-upload, call}
 use Rattle.effect_definitions.proofs.SignOn.{heard-as}
-use Rattle.call_definitions.proofs.Quietly.{plainly}
-use Rattle.history.specs.Words.{messageIn, carriesChip, isRequest, closesBatch}
+use Rattle.call_definitions.proofs.Quietly.{plainly, fit-first}
+use Rattle.history.specs.Words.{messageIn, amountIn, carriesChip, isRequest, closesBatch}
 use Rattle.history.proofs.Sent.{Typed, reversal-typed, settlement-typed, item-typed, end-typed}
-use Rattle.history.proofs.Matching.{approves-alike, mac-alike, settlement-closes, end-closes, other-closes}
-use Rattle.history.proofs.Approved.{approval-read, approved-entries}
-use Rattle.history.proofs.Starts.{fit-first}
+use Rattle.history.proofs.Matching.{request-alike, mac-alike, settlement-closes, end-closes, other-closes}
+use Rattle.call_theorems.proofs.Approvals.{approval-names, approval-read}
+use Rattle.history.proofs.Answered.{answered-alike}
+use Rattle.history.proofs.Approved.{approved-entries}
 use Rattle.history.proofs.Events.{consent-awaited}
 use Rattle.history_theorems.specs.Standing.{Standing}
 use Rattle.history_theorems.specs.Approvals.{Approval, whenHeard, whenQuiet, whenGiven, AreEntries}
@@ -65,6 +64,7 @@ use Rattle.history_theorems.proofs.Signs.{silence-keeps, told-leaves, c
 use Rattle.history_theorems.proofs.Said.{givenIn}
 use Rattle.history_theorems.proofs.Ledger.{mark-leaves, resends-leave, changed-entries, WithOne, one-more, none-voided, one-voided}
 use Rattle.history_theorems.proofs.Entered.{entered, voids-none, voids-alike}
+use Rattle.history_theorems.proofs.Repaid.{RepaysIn, Repaying}
 
 abbrev pub Booked : State → List ℕ → List Approval → Type 0
 Booked s j xs = AreEntries (entriesOf (s .entries) j) xs
@@ -120,32 +120,39 @@ silence-booked s lent xs f h = silence-keeps (λ c. Left c xs) (λ c k. k) s len
 
 -- an approval: its original is voided, and its entry is the last
 module _ (b : List ℕ) (read : readMessage b .outcome ≡ Read) (s : State) (lent : Lent) (q : Request) (r : Message) (xs : List Approval)
-    (fits : Fit (inPhase (Waiting (awaited.Request q)) s) lent) (said : Names q r) (holds : approvalHolds (q .amount) (messageIn b) ≡ true)
-    (good : approves (messageIn b) ≡ true) (h : Booked s (lent .journal) xs) where
+    (fits : Fit (inPhase (Waiting (awaited.Request q)) s) lent) (said : Names q r) (holds : approvalHolds (q .kind) (q .amount) (messageIn b) ≡ true)
+    (good : approvesRequest (q .kind) (messageIn b) ≡ true) (paid : RepaysIn (Waiting (awaited.Request q)) (entriesOf (s .entries) (lent .journal)))
+    (h : Booked s (lent .journal) xs) where
   abbrev approval : Approval
   approval = record { request = r; answer = messageIn b }
 
   abbrev es : List Entry
   es = entriesOf (s .entries) (lent .journal)
 
+  -- what the answer says
+  may : MayApprove q (approvalOf (messageIn b))
+  may = approval-read b read q (fits .order .state .phase-form) holds good
+
+  -- a void is never in part
+  not-partial : (kind : ℕ) → takesOriginal kind ≡ true → allowsPartial kind ≡ false
+  unfolding takesOriginal
+  not-partial kind t = go (ℕ-discrete kind 22)
+    where
+      go : Dec (kind ≡ 22) → eqb kind 22 ≡ false
+      go (yes e) = absurd (true≢false (sym (rw e at t)))
+      go (no e) = ne-eqb kind 22 e
+
+  repaid : takesOriginal (q .kind) ≡ true → (i : ℕ) → originalFor (q .kind) (q .original .0) es ≡ Place i → entryAt es i .amount ≡ amountIn (messageIn b)
+  repaid t i f = paid t i f ∙ sym (may .1 .whole (not-partial (q .kind) t)) ∙ answered-alike (messageIn b)
+
   voided-entries : (t : Bool) → takesOriginal (q .kind) ≡ t → (f : Found) → originalFor (q .kind) (q .original .0) es ≡ f
       → cond t (unvoidedAt f es) true ≡ true
       → WithOne approval (entriesOf (s .entries) (cond t (voidedAt f (lent .journal)) (lent .journal))) xs
   voided-entries true t (Place i) f k =
       rw (set-voided (s .entries) i 1 (lent .journal))
-      (one-voided approval (originalKind (q .kind)) (q .original .0) (voids-alike q r said t) 0 i es xs (f ∙ ap Place (sym (zero-add i))) (fits .order .journal .apart) h)
+      (one-voided approval (originalKind (q .kind)) (q .original .0) (voids-alike q r said t) 0 i es xs (f ∙ ap Place (sym (zero-add i))) (fits .order .journal .apart) (repaid t i f) h)
   voided-entries true t Nowhere f k = absurd (true≢false (sym k))
   voided-entries false t f e k = none-voided approval es xs (voids-none q r said t) h
-
-  -- an approval that is an answer has fields 13 and 37
-  answer-names : (names (messageIn b .bitmap) 13 ≡ true) × (names (messageIn b .bitmap) 37 ≡ true)
-  unfolding approvalHolds
-  answer-names =
-      let a = messageIn b in
-      let date = matches a 4 (pack (digitsOf 12 (q .amount))) && names (a .bitmap) 13 in
-      let t : (date && names (a .bitmap) 37) ≡ true = rw good at holds in
-      let k = and-eq-true-iff date (names (a .bitmap) 37) .0 t in
-      (and-eq-true-iff (matches a 4 (pack (digitsOf 12 (q .amount)))) (names (a .bitmap) 13) .0 (k .0) .1, k .1)
 
   -- the journal had an original left that was not voided
   original-left : cond (takesOriginal (q .kind)) (unvoidedAt (originalFor (q .kind) (q .original .0) es) es) true ≡ true
@@ -155,10 +162,11 @@ module _ (b : List ℕ) (read : readMessage b .outcome ≡ Read) (s : State) (le
   approved-booked : Left (approved q (approvedEntry q (approvalOf (messageIn b))) s (lent .journal)) (xs ++ (approval ∷ []))
   unfolding approved originalVoided
   approved-booked =
-      rw (approved-entries q (approvalOf (messageIn b)) s lent fits (approval-read b (q .amount) read holds good))
+      let n = approval-names (q .kind) (q .amount) (messageIn b) holds good in
+      rw (approved-entries q (approvalOf (messageIn b)) s lent fits may)
       (one-more approval (approvedEntry q (approvalOf (messageIn b))) (entriesOf (s .entries) (originalVoided q es (lent .journal))) xs
       (voided-entries (takesOriginal (q .kind)) refl (originalFor (q .kind) (q .original .0) es) refl original-left)
-      (entered q r said b read (answer-names .0) (answer-names .1) (request-holds q (fits .order .state .phase-form) .card-most)))
+      (entered q r said b read (n .date) (n .reference) (request-holds q (fits .order .state .phase-form) .card-most) (may .1)))
 
 -- an accepted answer
 module _ (b : List ℕ) (good : Bool) (read : readMessage b .outcome ≡ Read) (s : State) (lent : Lent) (y : Standing) (xs : List Approval)
@@ -175,14 +183,14 @@ module _ (b : List ℕ) (good : Bool) (read : readMessage b .outcome ≡ Read) (
   same-approvals c t = rw (c, t)
 
   request-booked : (q : Request) → Fit (inPhase (Waiting (awaited.Request q)) s) lent → Typed true false false false (y .message)
-      → Names q (y .message) → carriesChip (y .message) ≡ hasChip (s .chip) → approvalHolds (q .amount) a ≡ true
-      → Heard (onRequest good a q s (lent .journal))
+      → Names q (y .message) → carriesChip (y .message) ≡ hasChip (s .chip) → approvalHolds (q .kind) (q .amount) a ≡ true
+      → Repaying (inPhase (Waiting (awaited.Request q)) s) (lent .journal) → Heard (onRequest good a q s (lent .journal))
   unfolding onRequest granted whenHeard pendingOrUnanswered
-  request-booked q f t n m k =
-      rw (other-closes t a, t .is-request, m, approves-alike a, mac-alike good a)
-      (go (approves a) (goodMac good a) (hasChip (s .chip)) (isNeverReversed (q .kind)) refl)
+  request-booked q f t n m k p =
+      rw (other-closes t a, t .is-request, m, request-alike (y .message) (n .kind-is) a, mac-alike good a)
+      (go (approvesRequest (q .kind) a) (goodMac good a) (hasChip (s .chip)) (isNeverReversed (q .kind)) refl)
     where
-      go : (x z c w : Bool) → approves a ≡ x → Left
+      go : (x z c w : Bool) → approvesRequest (q .kind) a ≡ x → Left
           (cond x
           (cond z
           (cond c (changed (withChip (approvedBy (approvalOf a) (s .chip)) s) (lent .journal)) (approved q (approvedEntry q (approvalOf a)) s (lent .journal)))
@@ -191,7 +199,7 @@ module _ (b : List ℕ) (good : Bool) (read : readMessage b .outcome ≡ Read) (
           (changed (effects.ended count.Declined s) (lent .journal)))
           (cond (not c && (x && z)) (xs ++ (record { request = y .message; answer = a } ∷ [])) xs)
       go true true true w e = h
-      go true true false w e = approved-booked b read s lent q (y .message) xs f n k e h
+      go true true false w e = approved-booked b read s lent q (y .message) xs f n k e p h
       go true false true true e = h
       go true false true false e = h
       go true false false true e = h
@@ -218,45 +226,47 @@ module _ (b : List ℕ) (good : Bool) (read : readMessage b .outcome ≡ Read) (
   closed-booked false e t = rw (e, t) h
 
   heard-booked : (w : Awaited) → Fit (inPhase (Waiting w) s) lent → Stands (inPhase (Waiting w) s) (lent .journal) y
+      → Repaying (inPhase (Waiting w) s) (lent .journal)
       → isAnswer (s .settings) (s .batch) (traceSent (entriesOf (s .entries) (lent .journal)) w) w a ≡ true → Heard (answered good a w s (lent .journal))
   unfolding answered isAnswer onSettlement onEnd onItem
-  heard-booked (awaited.Request q) f d e =
+  heard-booked (awaited.Request q) f d p e =
       let t = and-eq-true-iff (matchesSent (s .settings) (s .batch) (indicatorSent (awaited.Request q)) (q .trace) a)
       (holdsNamed (awaited.Request q) a) .0 e in
-      let n = and-eq-true-iff (names (a .bitmap) 39) (approvalHolds (q .amount) a) .0 (t .1) in
-      request-booked q f (d .phase-is .1 .typed) (d .details .says) (d .details .carries) (n .1)
-  heard-booked (awaited.Reversal v) f d e = reversal-booked v (reversal-typed (y .message) (d .phase-is .1 .indicator))
-  heard-booked (awaited.Settlement t) f d e =
+      let n = and-eq-true-iff (names (a .bitmap) 39) (approvalHolds (q .kind) (q .amount) a) .0 (t .1) in
+      request-booked q f (d .phase-is .1 .typed) (d .details .says) (d .details .carries) (n .1) p
+  heard-booked (awaited.Reversal v) f d p e = reversal-booked v (reversal-typed (y .message) (d .phase-is .1 .indicator))
+  heard-booked (awaited.Settlement t) f d p e =
       let k = settlement-typed (y .message) (d .phase-is .1 .indicator) in
       closed-booked (match.closesBatch a) (settlement-closes k a) (k .is-request)
-  heard-booked (awaited.Item i) f d e =
+  heard-booked (awaited.Item i) f d p e =
       let k = item-typed (y .message) (d .phase-is .1 .indicator) (d .phase-is .1 .code-number) in
       rw (same-approvals (other-closes k a) (k .is-request)) (marked-booked (s .entries) i (cond (approves a) 2 3) (lent .journal) xs h)
-  heard-booked (awaited.End t) f d e =
+  heard-booked (awaited.End t) f d p e =
       let k = end-typed (y .message) (d .phase-is .1 .indicator) (d .phase-is .1 .code-number) in
       closed-booked (approves a) (end-closes k a) (k .is-request)
 
 -- the card's consent
 agreed-booked : (w : Awaited) (s : State) (lent : Lent) (y : Standing) (xs : List Approval) → Fit (inPhase (Waiting w) s) lent
-    → Stands (inPhase (Waiting w) s) (lent .journal) y → Booked s (lent .journal) xs → s .chip .approved ≡ true → awaitsRequest w ≡ true
+    → Stands (inPhase (Waiting w) s) (lent .journal) y → Repaying (inPhase (Waiting w) s) (lent .journal) → Booked s (lent .journal) xs
+    → s .chip .approved ≡ true → awaitsRequest w ≡ true
     → Left (agreed w s (lent .journal)) (xs ++ (record { request = y .message; answer = y .answer } ∷ []))
 unfolding agreed
-agreed-booked (awaited.Request q) s lent y xs f d h e r =
+agreed-booked (awaited.Request q) s lent y xs f d p h e r =
     let g = d .details .granted e in
-    rw (g .answer-is, g .approval-is) (approved-booked (g .bytes) (g .read) s lent q (y .message) xs f (d .details .says) (g .holds) (g .good) h)
-agreed-booked (awaited.Reversal v) s lent y xs f d h e r = absurd (true≢false (sym r))
-agreed-booked (awaited.Settlement t) s lent y xs f d h e r = absurd (true≢false (sym r))
-agreed-booked (awaited.Item i) s lent y xs f d h e r = absurd (true≢false (sym r))
-agreed-booked (awaited.End t) s lent y xs f d h e r = absurd (true≢false (sym r))
+    rw (g .answer-is, g .approval-is) (approved-booked (g .bytes) (g .read) s lent q (y .message) xs f (d .details .says) (g .holds) (g .good) p h)
+agreed-booked (awaited.Reversal v) s lent y xs f d p h e r = absurd (true≢false (sym r))
+agreed-booked (awaited.Settlement t) s lent y xs f d p h e r = absurd (true≢false (sym r))
+agreed-booked (awaited.Item i) s lent y xs f d p h e r = absurd (true≢false (sym r))
+agreed-booked (awaited.End t) s lent y xs f d p h e r = absurd (true≢false (sym r))
 
 agreed-in : (p : Phase) (s : State) (lent : Lent) (y : Standing) (xs : List Approval) → Fit (inPhase p s) lent → Stands (inPhase p s) (lent .journal) y
-    → Booked s (lent .journal) xs → s .chip .approved ≡ true → requestAwaited p ≡ true
+    → Repaying (inPhase p s) (lent .journal) → Booked s (lent .journal) xs → s .chip .approved ≡ true → requestAwaited p ≡ true
     → Left (agreedIn p (inPhase p s) (lent .journal)) (xs ++ (record { request = y .message; answer = y .answer } ∷ []))
-agreed-in Resting s lent y xs f d h e r = absurd (true≢false (sym r))
-agreed-in (Waiting w) s lent y xs f d h e r = agreed-booked w (inPhase (Waiting w) s) lent y xs f d h e r
-agreed-in (Pending v) s lent y xs f d h e r = absurd (true≢false (sym r))
-agreed-in Settling s lent y xs f d h e r = absurd (true≢false (sym r))
-agreed-in Uploading s lent y xs f d h e r = absurd (true≢false (sym r))
+agreed-in Resting s lent y xs f d k h e r = absurd (true≢false (sym r))
+agreed-in (Waiting w) s lent y xs f d k h e r = agreed-booked w (inPhase (Waiting w) s) lent y xs f d k h e r
+agreed-in (Pending v) s lent y xs f d k h e r = absurd (true≢false (sym r))
+agreed-in Settling s lent y xs f d k h e r = absurd (true≢false (sym r))
+agreed-in Uploading s lent y xs f d k h e r = absurd (true≢false (sym r))
 
 -- each call
 module _ (s : State) (lent : Lent) (y : Standing) (xs : List Approval) (d : Stands s (lent .journal) y) (h : Booked s (lent .journal) xs) where
@@ -287,53 +297,54 @@ module _ (s : State) (lent : Lent) (y : Standing) (xs : List Approval) (d : Stan
   upload-booked Uploading = next-booked (nextDue (due Uploading) (entriesOf (s .entries) (lent .journal))) s refl
 
 answered-in : (b : List ℕ) (good : Bool) → readMessage b .outcome ≡ Read → (p : Phase) (s : State) (lent : Lent) (y : Standing) (xs : List Approval)
-    → Fit (inPhase p s) lent → Stands (inPhase p s) (lent .journal) y → Booked s (lent .journal) xs → (not (waits p) || s .chip .approved) ≡ false
+    → Fit (inPhase p s) lent → Stands (inPhase p s) (lent .journal) y → Repaying (inPhase p s) (lent .journal) → Booked s (lent .journal) xs
+    → (not (waits p) || s .chip .approved) ≡ false
     → answersIn p (entriesOf (s .entries) (lent .journal)) (inPhase p s) (messageIn b) ≡ true
     → Left (answeredIn p good (messageIn b) (inPhase p s) (lent .journal)) (whenQuiet (answers b good) y xs)
-answered-in b good r Resting s lent y xs f d h w e = absurd (true≢false w)
-answered-in b good r (Waiting x) s lent y xs f d h w e =
-    rw (chosen (d .phase-is .0 .awaits-is) _ _) (heard-booked b good r (inPhase (Waiting x) s) lent y xs h x f d e)
-answered-in b good r (Pending v) s lent y xs f d h w e = absurd (true≢false w)
-answered-in b good r Settling s lent y xs f d h w e = absurd (true≢false w)
-answered-in b good r Uploading s lent y xs f d h w e = absurd (true≢false w)
+answered-in b good r Resting s lent y xs f d k h w e = absurd (true≢false w)
+answered-in b good r (Waiting x) s lent y xs f d k h w e =
+    rw (chosen (d .phase-is .0 .awaits-is) _ _) (heard-booked b good r (inPhase (Waiting x) s) lent y xs h x f d k e)
+answered-in b good r (Pending v) s lent y xs f d k h w e = absurd (true≢false w)
+answered-in b good r Settling s lent y xs f d k h w e = absurd (true≢false w)
+answered-in b good r Uploading s lent y xs f d k h w e = absurd (true≢false w)
 
 read-booked : (o : ReadOutcome) (b : List ℕ) (good : Bool) → readMessage b .outcome ≡ o → (s : State) (lent : Lent) (y : Standing) (xs : List Approval)
-    → Fit s lent → Stands s (lent .journal) y → Booked s (lent .journal) xs → BookedAfter (answers b good) y xs (readIn o good (messageIn b) s lent)
-read-booked Read b good r s lent y xs f d h =
+    → Fit s lent → Stands s (lent .journal) y → Repaying s (lent .journal) → Booked s (lent .journal) xs → BookedAfter (answers b good) y xs (readIn o good (messageIn b) s lent)
+read-booked Read b good r s lent y xs f d k h =
     let rs = answerRules (messageIn b) s (lent .journal) in
     judged-booked s lent y xs d h (answers b good) (firstBroken rs) (quietly (heard good (messageIn b) s (lent .journal)) lent)
     (λ z.
     heard-as (λ c. Left c (whenQuiet (answers b good) y xs)) good (messageIn b) s (lent .journal)
     (λ e.
     rw (chosen (still s lent y f d e) _ _, told-leaves (messageIn b) s (lent .journal) e .entries-stay) h)
-    (λ e. let p = plainly (messageIn b) s (lent .journal) z e in answered-in b good r (s .phase) s lent y xs f d h (p .0) (p .1)))
-read-booked (Refused n) b good r s lent y xs f d h = h
+    (λ e. let p = plainly (messageIn b) s (lent .journal) z e in answered-in b good r (s .phase) s lent y xs f d k h (p .0) (p .1)))
+read-booked (Refused n) b good r s lent y xs f d k h = h
 
-pub call-booked : (e : Event) (s : State) (lent : Lent) (y : Standing) (xs : List Approval) → Stands s (lent .journal) y → Booked s (lent .journal) xs
-    → BookedAfter e y xs (call e s lent)
+pub call-booked : (e : Event) (s : State) (lent : Lent) (y : Standing) (xs : List Approval) → Stands s (lent .journal) y
+    → Repaying s (lent .journal) → Booked s (lent .journal) xs → BookedAfter e y xs (call e s lent)
 unfolding signOn start answer noAnswer powerReturned cardAgrees cardDeclines sendReversal settle sendNextUpload
-call-booked sign-on s lent y xs d h = judged-booked s lent y xs d h sign-on _ _ (λ z. h)
-call-booked (starts k b) s lent y xs d h = judged-booked s lent y xs d h (starts k b) _ _ (λ z. h)
-call-booked (answers b good) s lent y xs d h =
+call-booked sign-on s lent y xs d k h = judged-booked s lent y xs d h sign-on _ _ (λ z. h)
+call-booked (starts i b) s lent y xs d k h = judged-booked s lent y xs d h (starts i b) _ _ (λ z. h)
+call-booked (answers b good) s lent y xs d k h =
     judged-booked s lent y xs d h (answers b good) (firstBroken (rules12 s lent)) (readIn (readMessage b .outcome) good (messageIn b) s lent)
-    (λ z. read-booked (readMessage b .outcome) b good refl s lent y xs (fit s lent z) d h)
-call-booked no-answer s lent y xs d h =
+    (λ z. read-booked (readMessage b .outcome) b good refl s lent y xs (fit s lent z) d k h)
+call-booked no-answer s lent y xs d k h =
     judged-booked s lent y xs d h no-answer (firstBroken (noAnswerRules s lent)) (quietly (unanswered s (lent .journal)) lent)
-    (λ z. silence-booked s lent xs (fit-first s lent _ refl z) h)
-call-booked power-returned s lent y xs d h =
+    (λ z. silence-booked s lent xs (fit-first s lent _ _ refl z) h)
+call-booked power-returned s lent y xs d k h =
     judged-booked s lent y xs d h power-returned (firstBroken (rules12 s lent)) (withoutPower (unanswered s (lent .journal)) lent)
     (λ z. silence-booked s lent xs (fit s lent z) h)
-call-booked card-agrees s lent y xs d h =
+call-booked card-agrees s lent y xs d k h =
     let rs = cardRules s lent in
     judged-booked s lent y xs d h card-agrees (firstBroken rs) (quietly (agreedIn (s .phase) s (lent .journal)) lent)
     (λ z.
-    let f = fit-first s lent _ refl z in
+    let f = fit-first s lent _ _ refl z in
     let e : s .chip .approved ≡ true = not-false _ (passed 14 rs refl z) in
-    agreed-in (s .phase) s lent y xs f d h e (consent-awaited (s .phase) (s .chip) (f .order .state .chip) e))
-call-booked card-declines s lent y xs d h =
+    agreed-in (s .phase) s lent y xs f d k h e (consent-awaited (s .phase) (s .chip) (f .order .state .chip) e))
+call-booked card-declines s lent y xs d k h =
     judged-booked s lent y xs d h card-declines _ (quietly (silentIn (s .phase) s (lent .journal)) lent) (λ z. silent-in (s .phase) s (lent .journal) xs h)
-call-booked send-reversal s lent y xs d h =
+call-booked send-reversal s lent y xs d k h =
     judged-booked s lent y xs d h send-reversal _ (sendFrom (s .phase) s lent) (λ z. send-booked s lent y xs d h (s .phase))
-call-booked settles s lent y xs d h = judged-booked s lent y xs d h settles _ _ (λ z. h)
-call-booked send-next-upload s lent y xs d h =
+call-booked settles s lent y xs d k h = judged-booked s lent y xs d h settles _ _ (λ z. h)
+call-booked send-next-upload s lent y xs d k h =
     judged-booked s lent y xs d h send-next-upload _ (uploadFrom (s .phase) s lent) (λ z. upload-booked s lent y xs d h (s .phase))

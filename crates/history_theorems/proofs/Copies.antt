@@ -38,7 +38,7 @@ use Rattle.state.specs.declared.Phase.the-variants.{Resting, Waiting, Pending, 
 use Rattle.state.specs.declared.Settings.{Settings}
 use Rattle.state.specs.declared.State.{State}
 use Rattle.call_definitions.specs.Events.{Event, sign-on, starts, answers, no-answer, power-returned, card-agrees, card-declines, send-reversal, settles, send-next-upload}
-use Rattle.history.specs.Words.{messageIn, reads, amountIn, carriesChip, isRequest, isSettlement, sameField, batchIn, isApproval, matchesMessage, holdsItsFields, isMatching, macGood, closesBatch}
+use Rattle.history.specs.Words.{messageIn, reads, carriesChip, isRequest, isSettlement, amountFits, batchIn, isApproval, approvesRequest, matchesMessage, holdsItsFields, isMatching, macGood, closesBatch}
 use Rattle.history.specs.History as history
 use Rattle.history.specs.History.{Given}
 use Rattle.history.proofs.NotEmpty.{reading-above}
@@ -48,14 +48,14 @@ use Rattle.history_theorems.specs.Standing.{Standing, SignOn, traceIn, w
 use Rattle.history_theorems.specs.Judged.{unread, awaits, asked, numberOf, JudgedBy}
 use Rattle.history_theorems.specs.Approvals as approvals
 use Rattle.history_theorems.specs.Approvals.{Approval, AtPlace, IsEntry, AreEntries}
+use Rattle.history_theorems.specs.Fields.{approvedAmount}
 use Rattle.history_theorems.proofs.Stands.{PhaseStands, Details, SentLast, AwaitedDetails, Stands}
 use Rattle.history_theorems.proofs.Signs.{chosen}
 
--- a message holds exactly the digits of a card, of its amount and of its trace
+-- a message holds exactly the digits of a card and of its trace
 pub record Exact (m : Message) : Type 0 where
   pub card : Card
   pub card-is : fieldOf m 2 ≡ digits 2 (digitsOf (card .length) (card .number)) .field
-  pub amount-is : fieldOf m 4 ≡ digits 4 (digitsOf 12 (amountIn m)) .field
   pub trace-is : fieldOf m 11 ≡ digits 11 (digitsOf 6 (traceIn m)) .field
 
 -- the digits at the front of some bytes are those of their first bytes
@@ -81,7 +81,7 @@ Whole f = f .count ≡ length (f .bytes)
 -- what is spelt from an entry is copied from the request of its approval and from the answer
 pub record Copied (e : Entry) (x : Approval) : Type 0 where
   pub card-copied : digits 2 (digitsOf (cardOf e .length) (cardOf e .number)) .field ≡ fieldOf (x .request) 2
-  pub amount-copied : digits 4 (digitsOf 12 (e .amount)) .field ≡ fieldOf (x .request) 4
+  pub amount-copied : digits 4 (digitsOf 12 (e .amount)) .field ≡ approvedAmount x .field
   pub trace-copied : digits 11 (digitsOf 6 (e .trace .0)) .field ≡ fieldOf (x .request) 11
   pub reference-copied : bytes 37 (e .reference) .field ≡ fieldOf (x .answer) 37
 
@@ -99,7 +99,7 @@ entry-copied e x later short h m whole =
     rw (m .card-is, length-number (c .length) (c .number)) at (h .card-is) in
     record {
       card-copied = rw (n, m .card-is, read-digits (c .length) (c .number) (e .card) (omega arith) front);
-      amount-copied = rw (h .amount-is) (sym (m .amount-is));
+      amount-copied = rw (h .amount-is);
       trace-copied = rw (h .trace-is) (sym (m .trace-is));
       reference-copied = rw (h .reference-is, ← whole);
     }
@@ -124,7 +124,6 @@ module _ (x : Settings) (batch : Batch) (c : Chip) (es : List Entry) (y : Standi
       record {
         card = q .card;
         card-is = d .says .card-is;
-        amount-is = rw (d .says .amount-is) (held .1 .1 .0);
         trace-is = rw (d .says .trace-is) (held .1 .1 .1 .0);
       }
   awaited-exact (awaited.Reversal v) h d = not-asked (reversal-typed (y .message) (h .indicator) .is-request)
@@ -181,12 +180,12 @@ not-settlement m e = go (eqb (m .indicator) 0x0500) refl
     go true q = absurd (true≢false (sym e ∙ settlement-typed m (eqb-true (m .indicator) 0x0500 q) .is-request))
     go false q = refl
 
-names-reference : (m : Message) (b : List ℕ) → isMatching m b ≡ true → isRequest m ≡ true → isApproval (messageIn b) ≡ true
+names-reference : (m : Message) (b : List ℕ) → isMatching m b ≡ true → isRequest m ≡ true → approvesRequest m (messageIn b) ≡ true
     → names (messageIn b .bitmap) 37 ≡ true
 unfolding isMatching holdsItsFields
 names-reference m b e r k =
     let a = messageIn b in
-    let held = sameField 4 m a && names (a .bitmap) 13 in
+    let held = amountFits m a && names (a .bitmap) 13 in
     let h = rw (not-settlement m r, r, k) at (and-eq-true-iff (reads (readMessage b .outcome) && matchesMessage m a) (holdsItsFields m a) .0 e .1) in
     let c = and-eq-true-iff (names (a .bitmap) 39 && (held && names (a .bitmap) 37)) _ .0 h .0 in
     and-eq-true-iff held (names (a .bitmap) 37) .0 (and-eq-true-iff (names (a .bitmap) 39) (held && names (a .bitmap) 37) .0 c .1) .1
@@ -210,12 +209,12 @@ heard-each : (b : List ℕ) (good : Bool) (y : Standing) (xs : List Approval) �
     → Exactly y xs → EachExact (approvals.whenHeard good (messageIn b) y xs)
 unfolding approvals.whenHeard
 heard-each b good y xs m h =
-    go (closesBatch (y .message) a) (isRequest (y .message)) (carriesChip (y .message)) (isApproval a) (macGood good a) refl refl
+    go (closesBatch (y .message) a) (isRequest (y .message)) (carriesChip (y .message)) (approvesRequest (y .message) a) (macGood good a) refl refl
   where
     a : Message
     a = messageIn b
 
-    go : (c r i k g : Bool) → isRequest (y .message) ≡ r → isApproval a ≡ k
+    go : (c r i k g : Bool) → isRequest (y .message) ≡ r → approvesRequest (y .message) a ≡ k
         → EachExact (cond c [] (cond (r && (not i && (k && g))) (xs ++ (record { request = y .message; answer = a } ∷ [])) xs))
     go true r i k g e p = tt
     go false true false true true e p = exact-more _ xs (h .each) (h .last e) (reference-whole b (m .0) (names-reference (y .message) b (m .1) e p))
@@ -246,9 +245,9 @@ module _ (b : List ℕ) (good : Bool) (y : Standing) (xs : List Approval) (h : E
           → (isRequest (cond c (whenClosed y) (whenDecided good a y) .message) ≡ true) × Whole (fieldOf (cond c (whenClosed y) (whenDecided good a y) .answer) 37)
       go true e = absurd (true≢false (sym e))
       go false e =
-          let r = and-eq-true-iff (isRequest (y .message)) (carriesChip (y .message) && (isApproval a && macGood good a)) .0 e in
-          let i = and-eq-true-iff (carriesChip (y .message)) (isApproval a && macGood good a) .0 (r .1) in
-          let k = and-eq-true-iff (isApproval a) (macGood good a) .0 (i .1) in
+          let r = and-eq-true-iff (isRequest (y .message)) (carriesChip (y .message) && (approvesRequest (y .message) a && macGood good a)) .0 e in
+          let i = and-eq-true-iff (carriesChip (y .message)) (approvesRequest (y .message) a && macGood good a) .0 (r .1) in
+          let k = and-eq-true-iff (approvesRequest (y .message) a) (macGood good a) .0 (i .1) in
           (r .0, reference-whole b (m .0) (names-reference (y .message) b (m .1) (r .0) (k .0)))
 
   -- the card agrees

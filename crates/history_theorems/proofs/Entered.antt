@@ -23,14 +23,16 @@ use Rattle.state.specs.declared.Request.{Request}
 use Rattle.journal.specs.Journal.{isOriginal, hasTrace}
 use Rattle.approval.specs.Approval.{fieldOr, zeroFilled, approvalOf, approvedEntry}
 use Rattle.approval.proofs.Approval.{card-front, field-there}
-use Rattle.history.specs.Words.{messageIn}
+use Rattle.state_rules.proofs.Holds.{AnsweredHolds}
+use Rattle.history.specs.Words.{messageIn, amountIn}
 use Rattle.history_theorems.specs.Approvals.{Approval, voids, IsEntry}
 use Rattle.history_theorems.proofs.Stands.{Names}
 
 module _ (q : Request) (m : Message) (said : Names q m) where
   -- the entry that an answer gives it
   module _ (b : List ℕ) (read : readMessage b .outcome ≡ Read) (date : names (messageIn b .bitmap) 13 ≡ true)
-      (reference : names (messageIn b .bitmap) 37 ≡ true) (short : q .card .length ≤ 19) where
+      (reference : names (messageIn b .bitmap) 37 ≡ true) (short : q .card .length ≤ 19)
+      (may : AnsweredHolds (q .kind) (q .amount) (approvalOf (messageIn b) .amount)) where
     card-taken : take (length (fieldOf m 2 .bytes)) (zeroFilled (q .card)) ≡ fieldOf m 2 .bytes
     card-taken =
         let ds = digitsOf (q .card .length) (q .card .number) in
@@ -44,18 +46,21 @@ module _ (q : Request) (m : Message) (said : Names q m) where
     authorised false e = rw e
 
     pub entered : IsEntry (approvedEntry q (approvalOf (messageIn b))) (record { request = m; answer = messageIn b }) []
-    unfolding approvedEntry approvalOf
+    unfolding approvedEntry approvalOf amountIn
     entered =
         record {
           kind-is = sym (said .kind-is);
           trace-is = sym (said .trace-is);
-          amount-is = sym (said .amount-is);
+          amount-is = refl;
+          amount-most = rw (said .amount-is) (may .most);
+          amount-whole = λ e. rw (said .amount-is) (may .whole (rw (said .kind-is) at e));
           digits-are = sym (ap (λ (f : Field). f .count) (said .card-is) ∙ length-digitsOf (q .card .length) (q .card .number));
           card-is = card-taken;
           date-is = field-there (messageIn b) 13 2 (replicate 2 0) date (date-length b read date);
           authorisation-is = authorised (names (messageIn b .bitmap) 38) refl;
           reference-is = field-there (messageIn b) 37 12 (replicate 12 0) reference (reference-length b read reference);
           voided-is = refl;
+          repaid-is = tt;
         }
 
   -- which entries it voids

@@ -29,7 +29,7 @@ use Rattle.state.specs.State.{noChip, hasChip, asSent, approvedBy, inPhase, wit
 use Rattle.state_rules.proofs.Holds.{ChipHolds}
 use Rattle.outgoing.specs.Outgoing.{reasonCode}
 use Rattle.answer_match.specs.Match as match
-use Rattle.answer_match.specs.Match.{isAnswer, matchesSent, indicatorSent, holdsNamed, approves, approvalHolds, goodMac, endsReversal}
+use Rattle.answer_match.specs.Match.{isAnswer, matchesSent, indicatorSent, holdsNamed, approves, approvesRequest, approvalHolds, goodMac, endsReversal}
 use Rattle.approval.specs.Approval.{approvalOf, approvedEntry}
 use Rattle.effect_definitions.specs.StateEffects as effects
 use Rattle.effect_definitions.specs.StateEffects.{pendingOrUnanswered, silenceOf, failed, onReversal, onSettlement, onEnd}
@@ -38,7 +38,7 @@ use Rattle.call_definitions.specs.Answer.{traceSent}
 use Rattle.history.specs.Words.{messageIn, isRequest, isSettlement, isSignOn, isMatching, holdsItsFields, closesBatch}
 use Rattle.history.proofs.Said.{Says}
 use Rattle.history.proofs.Sent.{Typed, Asks, reversal-typed, settlement-typed, item-typed, end-typed}
-use Rattle.history.proofs.Matching.{matches-alike, request-holds, other-holds, settlement-holds, approves-alike, mac-alike, settlement-closes, end-closes, other-closes}
+use Rattle.history.proofs.Matching.{matches-alike, request-holds, other-holds, settlement-holds, request-alike, mac-alike, settlement-closes, end-closes, other-closes}
 use Rattle.history_theorems.specs.Standing.{Stage, running, uploading, Standing, next, whenClosed, grants, whenDecided, whenHeard, whenSilent}
 use Rattle.history_theorems.proofs.Stands.{At, SentLast, stageOf, PhaseStands, Members, HoldsCard, Reversed, RequestDetails, AwaitedDetails, Details, Stands, unapproved}
 
@@ -183,7 +183,7 @@ module _ (good : Bool) (b : List ℕ) (read : readMessage b .outcome ≡ Read) (
     unfolding whenDecided
     asks-after q k = k
 
-    consent-details : (q : Request) → approvalHolds (q .amount) a ≡ true → approves a ≡ true
+    consent-details : (q : Request) → approvalHolds (q .kind) (q .amount) a ≡ true → approvesRequest (q .kind) a ≡ true
         → RequestDetails (s .settings) (s .batch) (s .chip) q y
         → RequestDetails (s .settings) (s .batch) (approvedBy (approvalOf a) (s .chip)) q (whenDecided good a y)
     unfolding whenDecided
@@ -197,16 +197,16 @@ module _ (good : Bool) (b : List ℕ) (read : readMessage b .outcome ≡ Read) (
 
     -- whether it is
     given : (q : Request) → Typed true false false false (y .message) → RequestDetails (s .settings) (s .batch) (s .chip) q y
-        → (x z c : Bool) → approves a ≡ x → goodMac good a ≡ z → hasChip (s .chip) ≡ c → grants good a (y .message) ≡ (c && (x && z))
+        → (x z c : Bool) → approvesRequest (q .kind) a ≡ x → goodMac good a ≡ z → hasChip (s .chip) ≡ c → grants good a (y .message) ≡ (c && (x && z))
     unfolding grants
-    given q t d x z c e f g = rw (t .is-request, d .carries, approves-alike a, mac-alike good a, e, f, g)
+    given q t d x z c e f g = rw (t .is-request, d .carries, request-alike (y .message) (d .says .kind-is) a, mac-alike good a, e, f, g)
 
     request-heard : (q : Request) → At true running y → Asks (s .settings) (s .batch) q (y .message)
-        → RequestDetails (s .settings) (s .batch) (s .chip) q y → s .phase ≡ Waiting (awaited.Request q) → approvalHolds (q .amount) a ≡ true
+        → RequestDetails (s .settings) (s .batch) (s .chip) q y → s .phase ≡ Waiting (awaited.Request q) → approvalHolds (q .kind) (q .amount) a ≡ true
         → Answered (onRequest good a q s j)
     unfolding onRequest granted approved pendingOrUnanswered
     request-heard q h asks d phase n =
-        rw (heard-open (other-closes t a)) (go (approves a) (goodMac good a) (hasChip (s .chip)) (isNeverReversed (q .kind)) refl refl refl)
+        rw (heard-open (other-closes t a)) (go (approvesRequest (q .kind) a) (goodMac good a) (hasChip (s .chip)) (isNeverReversed (q .kind)) refl refl refl)
       where
         t : Typed true false false false (y .message)
         t = asks .typed
@@ -214,10 +214,10 @@ module _ (good : Bool) (b : List ℕ) (read : readMessage b .outcome ≡ Read) (
         k : (v : Bool) → grants good a (y .message) ≡ v → At v running (whenDecided good a y)
         k v g = decided-at running v (h .stage-is) (t .is-settlement) g
 
-        none : (x z c : Bool) → approves a ≡ x → goodMac good a ≡ z → hasChip (s .chip) ≡ c → (c && (x && z)) ≡ false → grants good a (y .message) ≡ false
+        none : (x z c : Bool) → approvesRequest (q .kind) a ≡ x → goodMac good a ≡ z → hasChip (s .chip) ≡ c → (c && (x && z)) ≡ false → grants good a (y .message) ≡ false
         none x z c e f g w = given q t d x z c e f g ∙ w
 
-        go : (x z c w : Bool) → approves a ≡ x → goodMac good a ≡ z → hasChip (s .chip) ≡ c → (let r = cond x
+        go : (x z c w : Bool) → approvesRequest (q .kind) a ≡ x → goodMac good a ≡ z → hasChip (s .chip) ≡ c → (let r = cond x
             (cond z
             (cond c (changed (withChip (approvedBy (approvalOf a) (s .chip)) s) j) (approved q (approvedEntry q (approvalOf a)) s j))
             (changed (cond w (effects.ended Unanswered s)
@@ -278,7 +278,7 @@ module _ (good : Bool) (b : List ℕ) (read : readMessage b .outcome ≡ Read) (
     heard (awaited.Request q) h d c p u e =
         let w = awaited.Request q in
         let m = and-eq-true-iff (matchesSent (s .settings) (s .batch) (indicatorSent w) (q .trace) a) (holdsNamed w a) .0 e in
-        let n = and-eq-true-iff (names (a .bitmap) 39) (approvalHolds (q .amount) a) .0 (m .1) in
+        let n = and-eq-true-iff (names (a .bitmap) 39) (approvalHolds (q .kind) (q .amount) a) .0 (m .1) in
         request-heard q h d c p (n .1)
     heard (awaited.Reversal v) h d c p u e = reversal-heard v h (reversal-typed (y .message) (d .indicator)) u c
     heard (awaited.Settlement t) h d c p u e =

@@ -49,14 +49,13 @@ use Rattle.call_definitions.specs.Settle.{settle}
 use Rattle.call_definitions.specs.SendNextUpload.{sendsNext, sendNextUploadRules, uploadFrom, sendNextUpload}
 use Rattle.call_definitions.specs.Events.{Event, sign-on, starts, answers, no-answer, power-returned, card-agrees, card-declines, send-reversal, settles, send-next-upload, call}
 use Rattle.effect_definitions.proofs.SignOn.{heard-as}
-use Rattle.call_definitions.proofs.Quietly.{plainly}
-use Rattle.history.specs.Words.{messageIn, kindIn, carriesChip, isRequest, isApproval, macGood, closesBatch, processingFor}
+use Rattle.call_definitions.proofs.Quietly.{plainly, fit-first}
+use Rattle.history.specs.Words.{messageIn, kindIn, carriesChip, isRequest, approvesRequest, macGood, closesBatch, processingFor}
 use Rattle.history.specs.History as history
 use Rattle.history.specs.History.{Given, Account}
 use Rattle.history.proofs.Said.{handedOut, sent-reads}
 use Rattle.history.proofs.Settles.{settings-held, entry-held}
 use Rattle.history.proofs.Events.{consent-awaited}
-use Rattle.history.proofs.Starts.{fit-first}
 use Rattle.history.proofs.Tied.{Tied}
 use Rattle.history_theorems.specs.Standing.{Standing, traceIn}
 use Rattle.history_theorems.specs.Approvals.{Approval, IsEntry}
@@ -308,7 +307,7 @@ module _ (l : ℕ) (s : State) (lent : Lent) (a : Account) (y : Standing) (xs : 
       let done = quietly (unanswered s (lent .journal)) lent in
       judged-uploaded l y xs u no-answer (firstBroken (noAnswerRules s lent)) s lent done h
       (λ z.
-      let k = silence-uploads (fit-first s lent _ refl z) in
+      let k = silence-uploads (fit-first s lent _ _ refl z) in
       quiet-uploaded l y xs u no-answer done refl (record { marks = k .marks; item-is = k .item-is }))
   call-uploaded power-returned =
       let done = withoutPower (unanswered s (lent .journal)) lent in
@@ -321,7 +320,7 @@ module _ (l : ℕ) (s : State) (lent : Lent) (a : Account) (y : Standing) (xs : 
       let rs = cardRules s lent in
       judged-uploaded l y xs u card-agrees (firstBroken rs) s lent done h
       (λ z.
-      let f = fit-first s lent _ refl z in
+      let f = fit-first s lent _ _ refl z in
       let e : s .chip .approved ≡ true = not-false _ (passed 14 rs refl z) in
       let k = agreed-in (s .phase) s lent u f h e (consent-awaited (s .phase) (s .chip) (f .order .state .chip) e) in
       quiet-uploaded l y xs u card-agrees done refl (record { marks = k .marks; item-is = k .item-is }))
@@ -330,7 +329,7 @@ module _ (l : ℕ) (s : State) (lent : Lent) (a : Account) (y : Standing) (xs : 
       let rs = cardRules s lent in
       judged-uploaded l y xs u card-declines (firstBroken rs) s lent done h
       (λ z.
-      let f = fit-first s lent _ refl z in
+      let f = fit-first s lent _ _ refl z in
       let e : s .chip .approved ≡ true = not-false _ (passed 14 rs refl z) in
       let r = consent-awaited (s .phase) (s .chip) (f .order .state .chip) e in
       let k = rw (declined-same (s .phase) l s (lent .journal) y u d r) at (silent-in l y u (s .phase) s lent (tied .kept .sendings-set) f d h) in
@@ -342,13 +341,13 @@ module _ (l : ℕ) (s : State) (lent : Lent) (a : Account) (y : Standing) (xs : 
       (λ z. sent-other l y xs u settles _ (λ p. let q : _≡_ {A = ℕ} 0 1 = cc in omega arith) (record { marks = h .marks; item-is = tt }))
   call-uploaded send-next-upload =
       judged-uploaded l y xs u send-next-upload (firstBroken (sendNextUploadRules s lent)) s lent (uploadFrom (s .phase) s lent) h
-      (λ z. upload-from (s .phase) l s lent a y xs u tied d booked exact h (fit-first s lent _ refl z))
+      (λ z. upload-from (s .phase) l s lent a y xs u tied d booked exact h (fit-first s lent _ _ refl z))
 
 -- the resends stay at most L
 heard-few : (l : ℕ) (good : Bool) (m : Message) (y : Standing) (u : Upload) → EachFew l (u .progress) → EachFew l (whenHeard good m y u .progress)
 unfolding whenHeard
 heard-few l good m y u h =
-    go (closesBatch (y .message) m) (isRequest (y .message) && (not (carriesChip (y .message)) && (isApproval m && macGood good m))) (isItem (y .message))
+    go (closesBatch (y .message) m) (isRequest (y .message) && (not (carriesChip (y .message)) && (approvesRequest (y .message) m && macGood good m))) (isItem (y .message))
   where
     go : (a b c : Bool) → EachFew l (cond a (record { progress = []; item = u .item })
         (cond b (record { progress = u .progress ++ (unsent ∷ []); item = u .item }) (cond c (changed isAnswered u) u)) .progress)

@@ -7,12 +7,13 @@ use native.Mathlib.Omega.{arith}
 use lib.Dec.{eqb}
 use borrow.Author.Tests.{eqb-true}
 use Rattle.entry.specs.declared.Entry.{Entry}
-use Rattle.journal.specs.Journal.{firstOf, hasTrace, isOriginal, absent, distinct, changedAt, withVoided, withMark, withResends}
+use Rattle.journal.specs.Journal.{entryAt, firstOf, hasTrace, isOriginal, absent, distinct, changedAt, withVoided, withMark, withResends}
 use Rattle.journal.specs.declared.Found.the-variants.{At}
 use Rattle.journal.proofs.Searches.{first-at}
 use Rattle.journal.proofs.Traces.{absent-more}
 use Rattle.message.specs.declared.Message.{Message}
-use Rattle.history_theorems.specs.Approvals.{Approval, voids, voidedBy, IsEntry, AreEntries}
+use Rattle.history.specs.Words.{amountIn}
+use Rattle.history_theorems.specs.Approvals.{Approval, voids, voidedBy, Repays, IsEntry, AreEntries}
 
 not-true : (b : Bool) → not b ≡ true → b ≡ false
 not-true true e = absurd (true≢false (sym e))
@@ -29,12 +30,15 @@ marked-leaves mark resends e x later h =
       kind-is = h .kind-is;
       trace-is = h .trace-is;
       amount-is = h .amount-is;
+      amount-most = h .amount-most;
+      amount-whole = h .amount-whole;
       digits-are = h .digits-are;
       card-is = h .card-is;
       date-is = h .date-is;
       authorisation-is = h .authorisation-is;
       reference-is = h .reference-is;
       voided-is = h .voided-is;
+      repaid-is = h .repaid-is;
     }
 
 pub mark-leaves : (n : ℕ) → Leaves (withMark n)
@@ -77,6 +81,12 @@ voided-last m v (x ∷ xs) = rw (voided-last m v xs) (go (voids (x .request) m))
     go true = refl
     go false = refl
 
+-- one approval more
+repays-more : (n : ℕ) (m : Message) (v : Approval) (vs : List Approval) → Repays n m vs → (voids (v .request) m ≡ true → amountIn (v .answer) ≡ n)
+    → Repays n m (vs ++ (v ∷ []))
+repays-more n m v [] h k = (k, tt)
+repays-more n m v (x ∷ xs) h k = (h .0, repays-more n m v xs (h .1) k)
+
 -- an approval that voids nothing of this entry
 unvoided : (v : Approval) (e : Entry) (x : Approval) (xs : List Approval) → voids (v .request) (x .request) ≡ false → IsEntry e x xs
     → IsEntry e x (xs ++ (v ∷ []))
@@ -85,29 +95,35 @@ unvoided v e x xs n h =
       kind-is = h .kind-is;
       trace-is = h .trace-is;
       amount-is = h .amount-is;
+      amount-most = h .amount-most;
+      amount-whole = h .amount-whole;
       digits-are = h .digits-are;
       card-is = h .card-is;
       date-is = h .date-is;
       authorisation-is = h .authorisation-is;
       reference-is = h .reference-is;
       voided-is = rw (voided-last (x .request) v xs, n, or-false) (h .voided-is);
+      repaid-is = repays-more (e .amount) (x .request) v xs (h .repaid-is) (λ q. absurd (true≢false (sym q ∙ n)));
     }
 
--- one that voids it
-nowVoided : (v : Approval) (e : Entry) (x : Approval) (xs : List Approval) → voids (v .request) (x .request) ≡ true → IsEntry e x xs
-    → IsEntry (withVoided 1 e) x (xs ++ (v ∷ []))
+-- one that voids it, for what it holds
+nowVoided : (v : Approval) (e : Entry) (x : Approval) (xs : List Approval) → voids (v .request) (x .request) ≡ true
+    → e .amount ≡ amountIn (v .answer) → IsEntry e x xs → IsEntry (withVoided 1 e) x (xs ++ (v ∷ []))
 unfolding withVoided
-nowVoided v e x xs n h =
+nowVoided v e x xs n p h =
     record {
       kind-is = h .kind-is;
       trace-is = h .trace-is;
       amount-is = h .amount-is;
+      amount-most = h .amount-most;
+      amount-whole = h .amount-whole;
       digits-are = h .digits-are;
       card-is = h .card-is;
       date-is = h .date-is;
       authorisation-is = h .authorisation-is;
       reference-is = h .reference-is;
       voided-is = rw (voided-last (x .request) v xs, n) (go (voidedBy (x .request) xs));
+      repaid-is = repays-more (e .amount) (x .request) v xs (h .repaid-is) (λ q. sym p);
     }
   where
     go : (b : Bool) → _≡_ {A = ℕ} 1 (cond (b || true) 1 0)
@@ -144,10 +160,10 @@ module _ (v : Approval) (kind trace : ℕ)
       (unvoided v e x xs (alike e x xs (h .0) ∙ other-trace e (not-true (hasTrace trace e) (k .0))) (h .0), none-more es xs (k .1) (h .1))
 
   pub one-voided : (k i : ℕ) (es : List Entry) (xs : List Approval) → firstOf (isOriginal kind trace) k es ≡ At (k + i) → distinct es ≡ true
-      → AreEntries es xs → WithOne v (changedAt i (withVoided 1) es) xs
-  one-voided k i [] xs f d h = let z : _≡_ {A = ℕ} 0 1 = cc in absurd (omega arith)
-  one-voided k i (e ∷ es) [] f d h = absurd h
-  one-voided k zero (e ∷ es) (x ∷ xs) f d h = go (isOriginal kind trace e) refl f
+      → entryAt es i .amount ≡ amountIn (v .answer) → AreEntries es xs → WithOne v (changedAt i (withVoided 1) es) xs
+  one-voided k i [] xs f d p h = let z : _≡_ {A = ℕ} 0 1 = cc in absurd (omega arith)
+  one-voided k i (e ∷ es) [] f d p h = absurd h
+  one-voided k zero (e ∷ es) (x ∷ xs) f d p h = go (isOriginal kind trace e) refl f
     where
       apart : (absent (e .trace .0) es ≡ true) × (distinct es ≡ true)
       apart = and-eq-true-iff (absent (e .trace .0) es) (distinct es) .0 d
@@ -155,18 +171,18 @@ module _ (v : Approval) (kind trace : ℕ)
       go : (b : Bool) → isOriginal kind trace e ≡ b → cond b (At k) (firstOf (isOriginal kind trace) (suc k) es) ≡ At (k + 0)
           → WithOne v (changedAt zero (withVoided 1) (e ∷ es)) (x ∷ xs)
       go true q f =
-          (nowVoided v e x xs (alike e x xs (h .0) ∙ q) (h .0), none-more es xs (rw (original-trace kind trace e q) at (apart .0)) (h .1))
+          (nowVoided v e x xs (alike e x xs (h .0) ∙ q) p (h .0), none-more es xs (rw (original-trace kind trace e q) at (apart .0)) (h .1))
       go false q f = let z = first-at (isOriginal kind trace) (suc k) es (k + 0) f .from in absurd (omega arith)
-  one-voided k (suc i) (e ∷ es) (x ∷ xs) f d h = go (one-voided (suc k) i es xs) (isOriginal kind trace e) refl f
+  one-voided k (suc i) (e ∷ es) (x ∷ xs) f d p h = go (one-voided (suc k) i es xs) (isOriginal kind trace e) refl f
     where
       apart : (absent (e .trace .0) es ≡ true) × (distinct es ≡ true)
       apart = and-eq-true-iff (absent (e .trace .0) es) (distinct es) .0 d
 
-      go : (firstOf (isOriginal kind trace) (suc k) es ≡ At (suc k + i) → distinct es ≡ true → AreEntries es xs
+      go : (firstOf (isOriginal kind trace) (suc k) es ≡ At (suc k + i) → distinct es ≡ true → entryAt es i .amount ≡ amountIn (v .answer) → AreEntries es xs
           → WithOne v (changedAt i (withVoided 1) es) xs)
           → (b : Bool) → isOriginal kind trace e ≡ b → cond b (At k) (firstOf (isOriginal kind trace) (suc k) es) ≡ At (k + suc i)
           → WithOne v (changedAt (suc i) (withVoided 1) (e ∷ es)) (x ∷ xs)
       go ih true q f = let z : k ≡ k + suc i = cc in absurd (omega arith)
       go ih false q f =
           let z : k + suc i ≡ suc k + i = omega arith in
-          (unvoided v e x xs (alike e x xs (h .0) ∙ q) (h .0), ih (rw z at f) (apart .1) (h .1))
+          (unvoided v e x xs (alike e x xs (h .0) ∙ q) (h .0), ih (rw z at f) (apart .1) p (h .1))

@@ -8,6 +8,7 @@ pub mod Sends
 pub mod Ledger
 pub mod Starts
 pub mod Entered
+pub mod Repaid
 pub mod Booked
 pub mod Copies
 pub mod Traced

@@ -54,7 +54,7 @@ use Rattle.history.proofs.Said.{handedOut, sent-reads}
 use Rattle.history.proofs.Tied.{Tied}
 use Rattle.history_theorems.specs.Standing.{traceIn, Standing}
 use Rattle.history_theorems.specs.Approvals.{Approval, AtPlace, IsEntry}
-use Rattle.history_theorems.specs.Fields.{copied, sendsChip, entryMode, chipItems, requestItems, keyedDate, keyedItems, originalItems}
+use Rattle.history_theorems.specs.Fields.{copied, approvedAmount, sendsChip, entryMode, chipItems, requestItems, keyedDate, keyedItems, originalItems}
 use Rattle.history_theorems.specs.Requests.{isNamed, SaysRequest}
 use Rattle.history_theorems.proofs.ByKind.{chip-is, authorisation-keyed, processing-is, condition-is, void-is, type-is}
 use Rattle.history_theorems.proofs.Copies.{Copied, EachExact, copied-place}
@@ -203,14 +203,14 @@ module _ (x : Settings) (batch : Batch) (trace : ℕ) (d : Desk) (chip : List �
   abbrev asked : Request
   asked = record { kind = d .kind; amount = e .amount; card = cardOf e; trace = record { 0 = trace }; original = d .original }
 
-  copied-items : plainFields x batch noChip asked ≡ requestItems x (batch .0) trace (d .kind) false (copied 2 (v .request)) (copied 4 (v .request))
+  copied-items : plainFields x batch noChip asked ≡ requestItems x (batch .0) trace (d .kind) false (copied 2 (v .request)) (approvedAmount v)
   copied-items =
       card-items x batch noChip asked
       ∙ ap (λ (i : Item). requestItems x (batch .0) trace (d .kind) false i (digits 4 (digitsOf 12 (e .amount)))) (same-item 2 (w .card-copied))
       ∙ ap (requestItems x (batch .0) trace (d .kind) false (copied 2 (v .request))) (same-item 4 (w .amount-copied))
 
   void-fields : requestFields x batch (chipFrom d chip) (requestOf d e trace) (namedBy d batch e)
-      ≡ requestItems x (batch .0) trace (d .kind) false (copied 2 (v .request)) (copied 4 (v .request)) ++ originalItems (batch .0) v
+      ≡ requestItems x (batch .0) trace (d .kind) false (copied 2 (v .request)) (approvedAmount v) ++ originalItems (batch .0) v
   void-fields =
       let named : namedBy d batch e ≡ nameOf = rw t in
       let request : requestOf d e trace ≡ asked = rw t in
@@ -277,7 +277,7 @@ module _ (l : ℕ) (s : State) (lent : Lent) (a : Account) (y : Standing) (vs : 
     Voids v =
         (isNamed d v ≡ true)
         × Reads (typeFor (d .kind))
-        (requestItems (s .settings) (y .batch) (traceIn (messageIn b)) (d .kind) false (copied 2 (v .request)) (copied 4 (v .request))
+        (requestItems (s .settings) (y .batch) (traceIn (messageIn b)) (d .kind) false (copied 2 (v .request)) (approvedAmount v)
         ++ originalItems (y .batch) v)
         (readMessage b)
 

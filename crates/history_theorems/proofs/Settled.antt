@@ -36,7 +36,7 @@ use Rattle.history.specs.History.{Request, Account}
 use Rattle.history.proofs.Books.{requestSums}
 use Rattle.history.proofs.Said.{handedOut, sent-reads}
 use Rattle.history.proofs.Settles.{settings-held}
-use Rattle.history.proofs.Starts.{fit-first}
+use Rattle.call_definitions.proofs.Quietly.{fit-first}
 use Rattle.history.proofs.Tied.{Tied}
 use Rattle.history_theorems.specs.Standing.{Standing, traceIn}
 use Rattle.history_theorems.specs.Fields.{settlementItems, signOnItems}
@@ -90,7 +90,7 @@ module _ (l : ℕ) (s : State) (lent : Lent) (a : Account) (y : Standing) (tied 
   settle-reads : (b : List ℕ) → givenIn (settle s lent) ≡ history.sent b → ReadsSettled b
   unfolding settle
   settle-reads b g =
-      judged-sends s lent (firstBroken (settleRules s lent)) (settleNow s trace lent) b ReadsSettled (λ z. settled-reads (fit-first s lent _ refl z) b) g
+      judged-sends s lent (firstBroken (settleRules s lent)) (settleNow s trace lent) b ReadsSettled (λ z. settled-reads (fit-first s lent _ _ refl z) b) g
 
   -- by the event, with the settings under another name
   pub call-settled : (e : Event) (x : Settings) → s .settings ≡ x → (b : List ℕ) → e ≡ settles → givenIn (call e s lent) ≡ history.sent b
@@ -115,5 +115,5 @@ module _ (l : ℕ) (s : State) (lent : Lent) (a : Account) (y : Standing) (tied 
   unfolding signOn
   call-signed-on e x same b p g =
       rw same at
-      (judged-sends s lent (firstBroken (signOnRules s lent)) (signOnNow s trace lent) b ReadsSignOn (λ z. sign-on-reads (fit-first s lent _ refl z) b)
+      (judged-sends s lent (firstBroken (signOnRules s lent)) (signOnNow s trace lent) b ReadsSignOn (λ z. sign-on-reads (fit-first s lent _ _ refl z) b)
       (rw p at g))

@@ -45,7 +45,7 @@ use Rattle.call_definitions.specs.SendReversal.{sendReversalRules, sendFrom, se
 use Rattle.call_definitions.specs.Settle.{settleRules, settle}
 use Rattle.call_definitions.specs.SendNextUpload.{sendNextUploadRules, uploadFrom, sendNextUpload}
 use Rattle.call_definitions.specs.Events.{Event, sign-on, starts, answers, no-answer, power-returned, card-agrees, card-declines, send-reversal, settles, send-next-upload, call}
-use Rattle.call_definitions.proofs.Quietly.{idle}
+use Rattle.call_definitions.proofs.Quietly.{idle, fit-first}
 use Rattle.call_theorems.specs.Facts.{isSignOn}
 use Rattle.call_theorems.proofs.Steady.{only-sign-on-awaited}
 use Rattle.history.specs.Words.{messageIn, sameField, codeIs, batchIn, matchesMessage, holdsItsFields, isMatching}
@@ -54,7 +54,6 @@ use Rattle.history.specs.History.{Given, Account}
 use Rattle.history.specs.Demand.{givenBy}
 use Rattle.history.proofs.Said.{Says}
 use Rattle.history.proofs.Sent.{sign-on-typed, sign-on-says}
-use Rattle.history.proofs.Starts.{fit-first}
 use Rattle.history.proofs.Settles.{settings-held}
 use Rattle.history.proofs.Tied.{Tied}
 use Rattle.history.proofs.Events.{under-sign-on}
@@ -166,7 +165,7 @@ module _ (s : State) (lent : Lent) (w : SignOn) (g : Signs s w) where
       let trace : Trace = record { 0 = taken (entriesOf (s .entries) (lent .journal)) (s .next .0) } in
       judged-signs sign-on (firstBroken (signOnRules s lent)) (signOnNow s trace lent)
       (λ z.
-      let f = fit-first s lent _ refl z in
+      let f = fit-first s lent _ _ refl z in
       let least = taken-range (entriesOf (s .entries) (lent .journal)) (s .next .0) (f .order .state .next-least) (f .order .state .next-most) .0 in
       record {
         awaited-is = rw (ne-eqb (trace .0) 0 (λ q. omega arith));
@@ -193,7 +192,7 @@ module _ (s : State) (lent : Lent) (w : SignOn) (g : Signs s w) where
 
     card-busy : firstBroken (cardRules s lent) ≡ 0 → ⊥
     card-busy z =
-        let f = fit-first s lent _ refl z in
+        let f = fit-first s lent _ _ refl z in
         let u = idle-unapproved (s .phase) (s .chip) (f .order .state .chip) (under-sign-on s lent f e) in
         true≢false (sym (not-false _ (passed 14 (cardRules s lent) refl z)) ∙ u)
 

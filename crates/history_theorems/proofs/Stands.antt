@@ -11,7 +11,7 @@ use Rattle.message.specs.declared.Message.{Message}
 use Rattle.reading.specs.Reading.{readMessage}
 use Rattle.reading.specs.declared.Reading.{Reading}
 use Rattle.reading.specs.declared.ReadOutcome.the-variants.{Read}
-use Rattle.answer_match.specs.Match.{approves, approvalHolds}
+use Rattle.answer_match.specs.Match.{approvesRequest, approvalHolds}
 use Rattle.approval.specs.Approval.{approvalOf}
 use Rattle.numbers.specs.declared.Batch.{Batch}
 use Rattle.entry.specs.declared.Entry.{Entry}
@@ -108,8 +108,8 @@ pub record Granted (q : Asked) (c : Chip) (y : Standing) : Type 0 where
   pub bytes : List ℕ
   pub read : readMessage bytes .outcome ≡ Read
   pub answer-is : y .answer ≡ messageIn bytes
-  pub holds : approvalHolds (q .amount) (messageIn bytes) ≡ true
-  pub good : approves (messageIn bytes) ≡ true
+  pub holds : approvalHolds (q .kind) (q .amount) (messageIn bytes) ≡ true
+  pub good : approvesRequest (q .kind) (messageIn bytes) ≡ true
   pub approval-is : approvalIn c ≡ approvalOf (messageIn bytes)
 
 -- an awaited request is the last card request, and the message sent last

@@ -42,6 +42,7 @@ use Rattle.history_theorems.proofs.Quiet.{answer-said, silence-said, po
 use Rattle.history_theorems.proofs.Sends.{sign-on-said, reversal-said, settle-said, upload-said}
 use Rattle.history_theorems.proofs.Starts.{start-said}
 use Rattle.history_theorems.proofs.Booked.{Booked, call-booked}
+use Rattle.history_theorems.proofs.Repaid.{Repaying, call-repaying}
 use Rattle.history_theorems.proofs.Copies.{Exactly, call-exactly}
 use Rattle.history_theorems.proofs.Traced.{call-traced}
 use Rattle.history_theorems.proofs.Started.{call-started}
@@ -116,6 +117,7 @@ record Holds (l : ℕ) (x : Settings) (r : Run) : Type 0 where
   signs : Signs (r .state) (signOn (r .history))
   each : Each (IsJudged l) (r .history)
   reads : Each (λ c h. Reads c) (r .history)
+  repaying : Repaying (r .state) (r .journal)
   booked : Booked (r .state) (r .journal) (approvals (r .history))
   exactly : Exactly (standing (r .history)) (approvals (r .history))
   traced : Each TracedCall (r .history)
@@ -142,6 +144,7 @@ begun-holds x j w =
       signs = record { awaited-is = refl; says = λ e. absurd (true≢false (sym e)) };
       each = tt;
       reads = tt;
+      repaying = tt;
       booked = tt;
       exactly = record { last = λ e. absurd (true≢false (sym e)); granted = λ e. absurd (true≢false (sym e)); each = tt };
       traced = tt;
@@ -179,8 +182,10 @@ all-hold (t ∷ ts) l r w h =
             (λ n e. sent-reads (t .event) (r .state) (lend (r .journal) (t .message)) n (h .tied .kept .shaped) (w .0) e),
         h .reads,
       );
+      repaying = call-repaying (t .event) (r .state) (lend (r .journal) (t .message)) (h .repaying);
       booked =
-          call-booked (t .event) (r .state) (lend (r .journal) (t .message)) (standing (r .history)) (approvals (r .history)) (h .stands) (h .booked);
+          call-booked (t .event) (r .state) (lend (r .journal) (t .message)) (standing (r .history)) (approvals (r .history)) (h .stands)
+          (h .repaying) (h .booked);
       exactly =
           call-exactly (standing (r .history)) (signOn (r .history)) (approvals (r .history)) (reversalPending (a .requests)) (h .exactly) (t .event)
           (givenBy (q .outcome) (q .lent .message)) (q .state) (q .lent .journal) (d .stands) (d .is-judged);

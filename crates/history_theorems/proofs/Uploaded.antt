@@ -29,22 +29,22 @@ use Rattle.state.specs.declared.Approval.{Approval}
 use Rattle.state.specs.declared.State.{State}
 use Rattle.state.specs.State.{hasChip, asSent, approvedBy, approvalIn, inPhase, withChip, closed}
 use Rattle.state_rules.specs.StateRules.{awaitsRequest, requestAwaited}
-use Rattle.state_rules.proofs.Holds.{ApprovalHolds}
+use Rattle.state_rules.proofs.Holds.{MayApprove, consent-holds}
 use Rattle.state.specs.Calls.{Lent}
 use Rattle.rules.specs.Rules.{due}
 use Rattle.rules.proofs.InOrder.{Fit}
 use Rattle.answer_match.specs.Match as match
-use Rattle.answer_match.specs.Match.{isAnswer, matchesSent, indicatorSent, holdsNamed, approves, goodMac, approvalHolds, endsReversal}
+use Rattle.answer_match.specs.Match.{isAnswer, matchesSent, indicatorSent, holdsNamed, approves, approvesRequest, goodMac, approvalHolds, endsReversal}
 use Rattle.approval.specs.Approval.{approvalOf, approvedEntry}
 use Rattle.effect_definitions.specs.StateEffects as effects
 use Rattle.effect_definitions.specs.StateEffects.{pendingOrUnanswered, silenceOf, failed, onReversal, onSettlement, onEnd}
 use Rattle.effect_definitions.specs.JournalEffects.{Changed, changed, marked, silentMark, silent, silentIn, voidedAt, originalVoided, approved, granted, onRequest, agreed, agreedIn, onItem, answered}
 use Rattle.call_definitions.specs.Answer.{traceSent}
-use Rattle.history.specs.Words.{messageIn, carriesChip, isRequest, isEnd, closesBatch}
+use Rattle.history.specs.Words.{messageIn, kindIn, carriesChip, isRequest, isEnd, closesBatch}
 use Rattle.history.proofs.Sent.{Typed, reversal-typed, settlement-typed, item-typed, end-typed}
-use Rattle.history.proofs.Matching.{approves-alike, mac-alike, settlement-closes, end-closes, other-closes}
-use Rattle.history.proofs.Approved.{approval-read, approved-entries}
-use Rattle.call_theorems.proofs.Approving.{consent-holds}
+use Rattle.history.proofs.Matching.{request-alike, mac-alike, settlement-closes, end-closes, other-closes}
+use Rattle.call_theorems.proofs.Approvals.{approval-read}
+use Rattle.history.proofs.Approved.{approved-entries}
 use Rattle.history_theorems.specs.Standing.{Standing}
 use Rattle.history_theorems.specs.Judged.{isUpload}
 use Rattle.history_theorems.specs.Uploads as uploads
@@ -192,7 +192,7 @@ unfolding approvedEntry
 approved-unsent q v = (refl, refl)
 
 approved-uploads : (q : Request) (v : Approval) (s : State) (lent : Lent) (u : Upload) → Fit (inPhase (Waiting (awaited.Request q)) s) lent
-    → ApprovalHolds v → Marks (entriesOf (s .entries) (lent .journal)) (u .progress)
+    → MayApprove q v → Marks (entriesOf (s .entries) (lent .journal)) (u .progress)
     → Left (approved q (approvedEntry q v) s (lent .journal)) (record { progress = u .progress ++ (unsent ∷ []); item = u .item })
 unfolding approved
 approved-uploads q v s lent u f g h =
@@ -260,17 +260,17 @@ module _ (b : List ℕ) (good : Bool) (read : readMessage b .outcome ≡ Read) (
   same-upload c t i = rw (c, t, i)
 
   request-uploads : (q : Request) → Fit (inPhase (Waiting (awaited.Request q)) s) lent → Typed true false false false (y .message)
-      → carriesChip (y .message) ≡ hasChip (s .chip) → s .phase ≡ Waiting (awaited.Request q) → approvalHolds (q .amount) a ≡ true
+      → kindIn (y .message) ≡ q .kind → carriesChip (y .message) ≡ hasChip (s .chip) → s .phase ≡ Waiting (awaited.Request q) → approvalHolds (q .kind) (q .amount) a ≡ true
       → Marks (entriesOf (s .entries) journal) (u .progress) → Heard (onRequest good a q s journal)
   unfolding onRequest granted whenHeard pendingOrUnanswered
-  request-uploads q f t m phase k h =
-      rw (other-closes t a, t .is-request, m, approves-alike a, mac-alike good a, request-other (y .message) (t .is-request))
-      (go (approves a) (goodMac good a) (hasChip (s .chip)) (isNeverReversed (q .kind)) refl)
+  request-uploads q f t n m phase k h =
+      rw (other-closes t a, t .is-request, m, request-alike (y .message) n a, mac-alike good a, request-other (y .message) (t .is-request))
+      (go (approvesRequest (q .kind) a) (goodMac good a) (hasChip (s .chip)) (isNeverReversed (q .kind)) refl)
     where
       stays : ItemIs (s .phase) u
       stays = rw phase tt
 
-      go : (x z c w : Bool) → approves a ≡ x → Left
+      go : (x z c w : Bool) → approvesRequest (q .kind) a ≡ x → Left
           (cond x
           (cond z
           (cond c (changed (withChip (approvedBy (approvalOf a) (s .chip)) s) journal) (approved q (approvedEntry q (approvalOf a)) s journal))
@@ -279,7 +279,7 @@ module _ (b : List ℕ) (good : Bool) (read : readMessage b .outcome ≡ Read) (
           (changed (effects.ended count.Declined s) journal))
           (cond (not c && (x && z)) (record { progress = u .progress ++ (unsent ∷ []); item = u .item }) u)
       go true true true w e = record { marks = h; item-is = stays }
-      go true true false w e = approved-uploads q (approvalOf a) s lent u f (approval-read b (q .amount) read k e) h
+      go true true false w e = approved-uploads q (approvalOf a) s lent u f (approval-read b read q (f .order .state .phase-form) k e) h
       go true false true true e = record { marks = h; item-is = tt }
       go true false true false e = record { marks = h; item-is = tt }
       go true false false true e = record { marks = h; item-is = tt }
@@ -330,8 +330,8 @@ module _ (b : List ℕ) (good : Bool) (read : readMessage b .outcome ≡ Read) (
   heard-uploads (awaited.Request q) f d h p e =
       let t = and-eq-true-iff (matchesSent (s .settings) (s .batch) (indicatorSent (awaited.Request q)) (q .trace) a)
       (holdsNamed (awaited.Request q) a) .0 e in
-      let n = and-eq-true-iff (names (a .bitmap) 39) (approvalHolds (q .amount) a) .0 (t .1) in
-      request-uploads q f (d .phase-is .1 .typed) (d .details .carries) p (n .1) (h .marks)
+      let n = and-eq-true-iff (names (a .bitmap) 39) (approvalHolds (q .kind) (q .amount) a) .0 (t .1) in
+      request-uploads q f (d .phase-is .1 .typed) (d .details .says .kind-is) (d .details .carries) p (n .1) (h .marks)
   heard-uploads (awaited.Reversal v) f d h p e =
       let i = d .phase-is .1 .indicator in reversal-uploads v (reversal-typed (y .message) i) i (h .marks)
   heard-uploads (awaited.Settlement t) f d h p e =

@@ -2,8 +2,8 @@
 -- that approved it hold.
 use mathlib.Core.Path.{_≡_}
 use mathlib.Core.List.{List, [], _∷_, _++_}
-use mathlib.Core.Bool.{Bool, false, cond, not, _&&_, _||_}
-use Prim.Native.Nat.{ℕ, zero, suc}
+use mathlib.Core.Bool.{Bool, true, false, cond, not, _&&_, _||_}
+use Prim.Native.Nat.{ℕ, zero, suc, _≤_}
 use lib.Dec.{eqb}
 use lib.ListN.{length, take}
 use Rattle.digits.specs.Packed.{numeral}
@@ -17,7 +17,7 @@ use Rattle.journal.specs.Journal.{entriesOf}
 use Rattle.state.specs.declared.Settings.{Settings}
 use Rattle.call_definitions.specs.Events.{Event, sign-on, starts, answers, no-answer, power-returned, card-agrees, card-declines, send-reversal, settles, send-next-upload}
 use Rattle.call_definitions.specs.Shapes.{SettingsShaped}
-use Rattle.history.specs.Words.{messageIn, kindIn, amountIn, carriesChip, isRequest, isApproval, macGood, closesBatch}
+use Rattle.history.specs.Words.{messageIn, kindIn, amountIn, carriesChip, isRequest, approvesRequest, macGood, closesBatch}
 use Rattle.history.specs.History.{Given, sent, quiet, refused, History}
 use Rattle.history.specs.Demand.{Invocation, runs, begun, InvocationsShaped}
 use Rattle.history_theorems.specs.Standing.{Standing, traceIn, standing}
@@ -27,11 +27,11 @@ pub record Approval : Type 0 where
   pub request : Message
   pub answer : Message
 
--- a good 00 approves the card request that was sent last, if it has no chip; an answer that closes the batch empties the list
+-- a good answer approves the card request that was sent last, if it has no chip; an answer that closes the batch empties the list
 unfoldable pub whenHeard : Bool → Message → Standing → List Approval → List Approval
 whenHeard good a x xs =
     cond (closesBatch (x .message) a) []
-      (cond (isRequest (x .message) && (not (carriesChip (x .message)) && (isApproval a && macGood good a))) (xs ++ (record { request = x .message; answer = a } ∷ [])) xs)
+      (cond (isRequest (x .message) && (not (carriesChip (x .message)) && (approvesRequest (x .message) a && macGood good a))) (xs ++ (record { request = x .message; answer = a } ∷ [])) xs)
 
 -- the card's consent approves the request that was sent last, by the answer before it
 abbrev pub whenQuiet : Event → Standing → List Approval → List Approval
@@ -80,11 +80,20 @@ AtPlace i P [] = ⊥
 AtPlace zero P (x ∷ xs) = P x
 AtPlace (suc i) P (x ∷ xs) = AtPlace i P xs
 
+-- of the approvals that void a request, that each is for this amount
+abbrev pub Repays : ℕ → Message → List Approval → Type 0
+Repays n m [] = Unit {0}
+Repays n m (v ∷ vs) = (voids (v .request) m ≡ true → amountIn (v .answer) ≡ n) × Repays n m vs
+
 -- an entry of an approval, with those after it
 pub record IsEntry (e : Entry) (x : Approval) (later : List Approval) : Type 0 where
   pub kind-is : e .kind ≡ kindIn (x .request)
   pub trace-is : e .trace .0 ≡ traceIn (x .request)
-  pub amount-is : e .amount ≡ amountIn (x .request)
+  -- for the answered amount (document 02, request 4)
+  pub amount-is : e .amount ≡ amountIn (x .answer)
+  -- no larger than what was asked; only a sale's may be smaller
+  pub amount-most : e .amount ≤ amountIn (x .request)
+  pub amount-whole : eqb (kindIn (x .request)) 22 ≡ false → e .amount ≡ amountIn (x .request)
   pub digits-are : e .digits ≡ fieldOf (x .request) 2 .count
   pub card-is : take (length (fieldOf (x .request) 2 .bytes)) (e .card) ≡ fieldOf (x .request) 2 .bytes
   -- its date is the answer's field 13
@@ -93,6 +102,8 @@ pub record IsEntry (e : Entry) (x : Approval) (later : List Approval) : Type 0 w
   pub reference-is : e .reference ≡ fieldOf (x .answer) 37 .bytes
   -- it is voided exactly where a later approval voids it
   pub voided-is : e .voided ≡ cond (voidedBy (x .request) later) 1 0
+  -- and a void takes back exactly what it holds
+  pub repaid-is : Repays (e .amount) (x .request) later
 
 -- an entry for each approval, in order
 abbrev pub AreEntries : List Entry → List Approval → Type 0

@@ -13,7 +13,7 @@ use Rattle.message.specs.Message.{fieldOf}
 use Rattle.message.specs.declared.Message.{Message}
 use Rattle.state.specs.declared.Settings.{Settings}
 use Rattle.desk.specs.declared.Desk.{Desk}
-use Rattle.history.specs.Words.{kindIn, authorisedKinds, chipKinds, processingFor, conditionFor}
+use Rattle.history.specs.Words.{kindIn, amountIn, authorisedKinds, chipKinds, processingFor, conditionFor}
 use Rattle.history.specs.History.{Request, count, amount, approvedDebit, approvedCredit}
 use Rattle.history_theorems.specs.Standing.{traceIn}
 use Rattle.history_theorems.specs.Approvals.{Approval, authorisationIn}
@@ -40,6 +40,10 @@ entryMode chip = digits 22 (cond chip (0 ∷ 5 ∷ 2 ∷ []) (0 ∷ 1 ∷ 2 ∷ 
 abbrev pub chipItems : Desk → List ℕ → List Item
 chipItems d b = cond (sendsChip d) (bytes 55 b ∷ []) []
 
+-- document 02, request 4: a sale's field 60 has the digits 001 behind them
+abbrev pub asksPart : ℕ → List ℕ
+asksPart kind = cond (eqb kind 22) (0 ∷ 0 ∷ 1 ∷ []) []
+
 -- every card request holds 2, 3, 4, 11, 22, 25, 41, 42, 49, 60, 64; the management code is 000, and 64 leaves as eight zero bytes
 abbrev pub requestItems : Settings → ℕ → ℕ → ℕ → Bool → Item → Item → List Item
 requestItems x batch trace kind chip card amount =
@@ -52,7 +56,7 @@ requestItems x batch trace kind chip card amount =
     ∷ bytes 41 (x .terminal)
     ∷ bytes 42 (x .merchant)
     ∷ bytes 49 yuan
-    ∷ digits 60 (field60 kind batch 0)
+    ∷ digits 60 (field60 kind batch 0 ++ asksPart kind)
     ∷ bytes 64 (replicate 8 0)
     ∷ []
 
@@ -88,12 +92,16 @@ settlementItems x batch trace rs =
     ∷ digits 60 (field60 0 batch 201)
     ∷ []
 
+-- the amount that was approved
+abbrev pub approvedAmount : Approval → Item
+approvedAmount v = digits 4 (digitsOf 12 (amountIn (v .answer)))
+
 -- an upload item holds 2, 3, 4, 11, 37, 38, 41, 42, 49, 60 = kind, batch, 201
 abbrev pub uploadItems : Settings → ℕ → Approval → List Item
 uploadItems x batch v =
     copied 2 (v .request)
     ∷ digits 3 (processingFor (kindIn (v .request)))
-    ∷ copied 4 (v .request)
+    ∷ approvedAmount v
     ∷ copied 11 (v .request)
     ∷ copied 37 (v .answer)
     ∷ bytes 38 (authorisationIn (v .answer))

@@ -22,7 +22,7 @@ use Rattle.history.specs.Demand.{Invocation, runs, begun, InvocationsShaped, Ea
 use Rattle.history_theorems.specs.Standing.{Standing, traceIn, standing, signOn}
 use Rattle.history_theorems.specs.Approvals.{Approval, approvals, voidedBy, AtPlace}
 use Rattle.history_theorems.specs.Judged.{reversalPending, numberOf}
-use Rattle.history_theorems.specs.Fields.{copied, sendsChip, chipItems, requestItems, keyedItems, originalItems}
+use Rattle.history_theorems.specs.Fields.{copied, approvedAmount, sendsChip, chipItems, requestItems, keyedItems, originalItems}
 
 -- a void of an approved request
 unfoldable pub isVoid : ℕ → Bool
@@ -43,12 +43,12 @@ isVoided d (v ∷ vs) = cond (isNamed d v) (voidedBy (v .request) vs) (isVoided 
 
 abbrev pub amountNamed : Desk → List Approval → ℕ
 amountNamed d [] = 0
-amountNamed d (v ∷ vs) = cond (isNamed d v) (amountIn (v .request)) (amountNamed d vs)
+amountNamed d (v ∷ vs) = cond (isNamed d v) (amountIn (v .answer)) (amountNamed d vs)
 
 -- the amounts of the approvals of these kinds
 abbrev pub amounts : List ℕ → List Approval → ℕ
 amounts kinds [] = 0
-amounts kinds (v ∷ vs) = cond (among (kindIn (v .request)) kinds) (amountIn (v .request)) 0 + amounts kinds vs
+amounts kinds (v ∷ vs) = cond (among (kindIn (v .request)) kinds) (amountIn (v .answer)) 0 + amounts kinds vs
 
 -- 13 to 19 digits
 unfoldable pub cardInForm : Card → Bool
@@ -101,7 +101,7 @@ pub record SaysRequest (x : Settings) (y : Standing) (vs : List Approval) (d : D
       → (i : ℕ) × AtPlace i
       (λ v. (isNamed d v ≡ true)
       × Reads (typeFor (d .kind))
-      (requestItems x (y .batch) (traceIn (messageIn b)) (d .kind) false (copied 2 (v .request)) (copied 4 (v .request)) ++ originalItems (y .batch) v)
+      (requestItems x (y .batch) (traceIn (messageIn b)) (d .kind) false (copied 2 (v .request)) (approvedAmount v) ++ originalItems (y .batch) v)
       (readMessage b))
       vs
 

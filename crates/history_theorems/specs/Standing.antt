@@ -12,7 +12,7 @@ use Rattle.message.specs.declared.Message.{Message}
 use Rattle.parts.specs.Parts.{partOf}
 use Rattle.parts.specs.declared.Part.the-variants as part
 use Rattle.call_definitions.specs.Events.{Event, sign-on, starts, answers, no-answer, power-returned, card-agrees, card-declines, send-reversal, settles, send-next-upload}
-use Rattle.history.specs.Words.{messageIn, carriesChip, isRequest, isSettlement, isEnd, isSignOn, batchIn, isApproval, macGood, closesBatch}
+use Rattle.history.specs.Words.{messageIn, carriesChip, isRequest, isSettlement, isEnd, isSignOn, batchIn, isApproval, approvesRequest, macGood, closesBatch}
 use Rattle.history.specs.History.{Given, sent, quiet, refused, History}
 
 -- the batch is running, its settlement has been sent, or it is being uploaded
@@ -84,9 +84,9 @@ whenClosed x =
       signed = false; message = x .message; awaited = false; card = false; answer = x .answer; stage = running; batch = next (x .batch); requests = 0;
       request = x .request; reason = x .reason; taken = x .taken }
 
--- a good 00 to a request with a chip: the card's word is awaited
+-- a good approval of a request with a chip: the card's word is awaited
 unfoldable pub grants : Bool → Message → Message → Bool
-grants good a m = isRequest m && (carriesChip m && (isApproval a && macGood good a))
+grants good a m = isRequest m && (carriesChip m && (approvesRequest m a && macGood good a))
 
 -- any other to a settlement starts the upload; a card request that an answer makes doubtful is reversed for its MAC, A0
 unfoldable pub whenDecided : Bool → Message → Standing → Standing

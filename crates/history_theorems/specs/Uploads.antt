@@ -11,7 +11,7 @@ use Rattle.outgoing_theorems.specs.Theorems.{Reads}
 use Rattle.state.specs.declared.Settings.{Settings}
 use Rattle.call_definitions.specs.Events.{Event, sign-on, starts, answers, no-answer, power-returned, card-agrees, card-declines, send-reversal, settles, send-next-upload}
 use Rattle.call_definitions.specs.Shapes.{SettingsShaped}
-use Rattle.history.specs.Words.{messageIn, carriesChip, isRequest, isApproval, macGood, isEnd, closesBatch, isDebit, isCredit}
+use Rattle.history.specs.Words.{messageIn, carriesChip, isRequest, approvesRequest, macGood, isEnd, closesBatch, isDebit, isCredit}
 use Rattle.history.specs.History.{Given, sent, quiet, refused, History}
 use Rattle.history.specs.Demand.{Invocation, runs, begun, InvocationsShaped, Each}
 use Rattle.history_theorems.specs.Standing.{Standing, traceIn, standing}
@@ -112,7 +112,7 @@ whenSilent l x u = cond (x .awaited && isItem (x .message)) (changed (falls-sile
 unfoldable pub whenHeard : Bool → Message → Standing → Upload → Upload
 whenHeard good a x u =
     cond (closesBatch (x .message) a) (record { progress = []; item = u .item })
-      (cond (isRequest (x .message) && (not (carriesChip (x .message)) && (isApproval a && macGood good a))) (record { progress = u .progress ++ (unsent ∷ []); item = u .item })
+      (cond (isRequest (x .message) && (not (carriesChip (x .message)) && (approvesRequest (x .message) a && macGood good a))) (record { progress = u .progress ++ (unsent ∷ []); item = u .item })
         (cond (isItem (x .message)) (changed isAnswered u) u))
 
 abbrev pub whenQuiet : ℕ → Event → Standing → Upload → Upload

@@ -30,7 +30,7 @@ use Rattle.outgoing.specs.Outgoing.{field60}
 use Rattle.outgoing.proofs.Leaving.{written-is}
 use Rattle.outgoing_theorems.specs.Theorems.{Reads}
 use Rattle.outgoing_theorems.proofs.Theorems.{sent-reads-back}
-use Rattle.answer_match.specs.Match.{isValue, repeats, matchesSent, approves, approvalHolds, isAnswer, goodMac}
+use Rattle.answer_match.specs.Match.{isValue, repeats, matchesSent, approves, approvesRequest, amountHolds, approvalHolds, isAnswer, goodMac}
 use Rattle.approval.specs.Approval.{approvalOf, approvedEntry}
 use Rattle.approval.proofs.Approval.{answer-holds, in-form}
 use Rattle.state_rules.proofs.Holds.{ApprovalHolds}
@@ -96,13 +96,23 @@ unfolding numberIn unpack half pack packedByte numberOf allDigits value
 batch-same trace = rw (named (reads trace) 60 (omega arith) (omega arith) refl, reads trace .fields 60 refl)
 
 -- it approves
-pub approving : (trace : ℕ) → approves (answered trace) ≡ true
+approving : (trace : ℕ) → approves (answered trace) ≡ true
 approving trace = matching (reads trace) 39 (omega arith) (omega arith) refl
 
-holding : (trace : ℕ) → approvalHolds 9999999999 (answered trace) ≡ true
-unfolding approvalHolds
+pub approving-sale : (trace : ℕ) → approvesRequest 22 (answered trace) ≡ true
+unfolding approvesRequest
+approving-sale trace = rw (approving trace)
+
+-- for this amount
+pub amount-is : (trace : ℕ) → approvalOf (answered trace) .amount ≡ 9999999999
+unfolding approvalOf numberIn unpack half pack packedByte numberOf allDigits value
+amount-is trace = rw (named (reads trace) 4 (omega arith) (omega arith) refl, reads trace .fields 4 refl)
+
+holding : (trace : ℕ) → approvalHolds 22 9999999999 (answered trace) ≡ true
+unfolding approvalHolds amountHolds
 holding trace =
     rw (
+      approving-sale trace,
       approving trace,
       matching (reads trace) 4 (omega arith) (omega arith) refl,
       named (reads trace) 13 (omega arith) (omega arith) refl,
@@ -151,5 +161,5 @@ approval-holds trace =
 pub entry-form : (trace : ℕ) → 1 ≤ trace → trace ≤ 999999
     → inForm (approvedEntry (asked 9999999999 trace) (approvalOf (answered trace))) ≡ true
 entry-form trace least most =
-    in-form (asked 9999999999 trace) (approvalOf (answered trace)) sale-listed least most (omega arith) (omega arith) (omega arith)
-    (omega arith) (approval-holds trace)
+    in-form (asked 9999999999 trace) (approvalOf (answered trace)) sale-listed least most (rw (amount-is trace) (omega arith))
+    (rw (amount-is trace) (omega arith)) (omega arith) (omega arith) (approval-holds trace)

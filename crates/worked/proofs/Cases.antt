@@ -31,7 +31,7 @@ pub d-fields : fieldsNamed (take 8 (drop 2 sent)) 1 64 ≡ 2 ∷ 3 ∷ 4 ∷ 11 
 unfolding machine
 d-fields = ap (λ (s : List ℕ). fieldsNamed s 1 64) (sent-at 2 8)
 
-pub e : firstSent .outcome ≡ Send 76
+pub e : firstSent .outcome ≡ Send 77
 unfolding machine
 e = refl
 

@@ -23,4 +23,7 @@ for-c =
       credit-amount = refl;
       credit-count = refl;
       approved = refl;
+      asked-amount = refl;
+      approved-amount = refl;
+      sign-on-trace = refl;
     }

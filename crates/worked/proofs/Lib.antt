@@ -8,3 +8,4 @@ pub mod Worked
 pub mod WithChip
 pub mod Reached
 pub mod ForC
+pub mod Prepaid

@@ -22,14 +22,14 @@ use Rattle.journal.specs.Journal.{debitEntry, creditEntry, sumsOf, hasTrace, is
 use Rattle.checks.specs.Checks.{firstBroken}
 use Rattle.state.specs.Calls.{judged}
 use Rattle.rules.specs.Rules.{tooShort, originalUnvoided, requestKept, journalKept, keepsRule2}
-use Rattle.state_rules.specs.StateRules.{settingsInForm, isCard, requestInForm, reversalInForm, approvalInForm, consentKept, chipKept, signOnKept, stateInForm, past, sumsKept, balanced, totalsTrue, stateKept}
+use Rattle.state_rules.specs.StateRules.{settingsInForm, isCard, requestInForm, reversalInForm, approvalInForm, answeredKept, consentKept, chipKept, signOnKept, stateInForm, past, sumsKept, balanced, totalsTrue, stateKept}
 use Rattle.outgoing.specs.Outgoing.{requestMessage, reversalMessage}
 use Rattle.call_definitions.specs.Start.{originalOf, start}
 use Rattle.desk.specs.DeskRules.{deskInForm}
 use Rattle.call_definitions.specs.SignOn.{signOn}
 use Rattle.effect_definitions.specs.StateEffects.{adopts, onSignOn, pendingOrUnanswered, failed, onReversal, onSettlement, onEnd}
 use Rattle.call_definitions.specs.SendReversal.{sendReversal}
-use Rattle.answer_match.specs.Match.{repeats, matchesSent, approvalHolds, isAnswer, batchIn, signOnHolds, isSignOnAnswer, goodMac, endsReversal, closesBatch}
+use Rattle.answer_match.specs.Match.{repeats, matchesSent, approvesRequest, amountHolds, approvalHolds, isAnswer, batchIn, signOnHolds, isSignOnAnswer, goodMac, endsReversal, closesBatch}
 use Rattle.approval.specs.Approval.{fieldOr, zeroFilled, approvalOf, approvedEntry}
 use Rattle.call_definitions.specs.Answer.{noAnswer, cardAgrees, cardDeclines, answer}
 use Rattle.effect_definitions.specs.JournalEffects.{silentMark, silent, unanswered, originalVoided, approved, granted, onRequest, agreed, onItem, answered, heard, resent}
@@ -44,10 +44,10 @@ unfolding half unpack packedByte pack halfAllowed isPacked allDigits value numbe
     processingOf conditionOf isDebit isCredit sideOf isDue takesOriginal originalKind isVoidable booked decode encode allZero within
     cardInForm inForm keepsVoided keepsUnmarked keepsResends keepsSilent debitEntry creditEntry sumsOf hasTrace isOriginal dueWith nextDue
     absent following taken putEntry setByte firstBroken judged tooShort settingsInForm isCard requestInForm reversalInForm approvalInForm
-    consentKept chipKept signOnKept stateInForm past sumsKept balanced totalsTrue originalUnvoided requestKept stateKept journalKept
-    keepsRule2 requestMessage reversalMessage deskInForm originalOf start adopts signOn onSignOn sendReversal repeats matchesSent
-    approvalHolds isAnswer batchIn signOnHolds isSignOnAnswer goodMac endsReversal closesBatch fieldOr zeroFilled approvalOf approvedEntry
-    pendingOrUnanswered failed silentMark silent unanswered noAnswer cardAgrees cardDeclines originalVoided approved granted onRequest
-    agreed onReversal onSettlement onItem onEnd answered heard answer settlementMessage settle itemMessage endMessage signOnMessage resent
-    sendNextUpload
+    answeredKept consentKept chipKept signOnKept stateInForm past sumsKept balanced totalsTrue originalUnvoided requestKept stateKept
+    journalKept keepsRule2 requestMessage reversalMessage deskInForm originalOf start adopts signOn onSignOn sendReversal repeats
+    matchesSent approvesRequest amountHolds approvalHolds isAnswer batchIn signOnHolds isSignOnAnswer goodMac endsReversal closesBatch
+    fieldOr zeroFilled approvalOf approvedEntry pendingOrUnanswered failed silentMark silent unanswered noAnswer cardAgrees cardDeclines
+    originalVoided approved granted onRequest agreed onReversal onSettlement onItem onEnd answered heard answer settlementMessage settle
+    itemMessage endMessage signOnMessage resent sendNextUpload
 machine = 0

@@ -48,7 +48,7 @@ use Rattle.call_definitions.specs.Events.{run, sign-on}
 use Rattle.worked.specs.Desk.{settings, signOnBytes, toSignOn, opened, sale, approval}
 use Rattle.worked.specs.Worked.{sales, hundred}
 use Rattle.worked.proofs.Machine.{machine}
-use Rattle.worked.proofs.Approvals.{asked, approvalBytes, answered, reads, approving, is-answer, good-mac, approval-holds, entry-form}
+use Rattle.worked.proofs.Approvals.{asked, approvalBytes, answered, reads, approving-sale, amount-is, is-answer, good-mac, approval-holds, entry-form}
 use Rattle.worked.proofs.Starts.{traceOf, at, desk, saleBytes, goes, goes-not}
 
 -- its approval is taken: one entry more
@@ -61,7 +61,7 @@ taken-in : (n : ℕ) (lent : Lent) → Fit (requested (at n) noChip (asked 99999
 unfolding answer judged firstBroken heard answeredBy onRequest granted approved approvedEntry originalVoided takesOriginal
 taken-in n lent fit =
     let r = fit-ready (requested (at n) noChip (asked 9999999999 (traceOf n))) lent fit in
-    rw (r .long, r .order, reads (traceOf n) .outcome, is-answer (traceOf n), approving (traceOf n), good-mac (traceOf n))
+    rw (r .long, r .order, reads (traceOf n) .outcome, is-answer (traceOf n), approving-sale (traceOf n), good-mac (traceOf n), amount-is (traceOf n))
 
 is-sale : sideOf 22 ≡ Debit
 unfolding sideOf isDebit
@@ -202,7 +202,7 @@ hundred-after =
     (opened-after (lend (replicate (entrySize * 300) 0) (replicate largest 0)) (rw length-replicate (omega arith)) (rw length-replicate (omega arith)))
 
 -- the sale after them, by its message and by rule 21
-sale-length : length (saleBytes 99 102) ≡ 76
+sale-length : length (saleBytes 99 102) ≡ 77
 unfolding machine
 sale-length = refl
 
@@ -210,7 +210,7 @@ amount-form : (within 1 99 9999999999 ≡ true) × (within 1 100 9999999999 ≡ 
 unfolding within
 amount-form = (refl, refl)
 
-one-goes : (s : State) (lent : Lent) → After 100 s lent → run (sale 99 ∷ []) (quiet s lent) .outcome ≡ Send 76
+one-goes : (s : State) (lent : Lent) → After 100 s lent → run (sale 99 ∷ []) (quiet s lent) .outcome ≡ Send 77
 one-goes s lent h =
     let f : Fit (at 100) lent = rw (h .state) at (h .fits) in
     rw (
@@ -227,7 +227,7 @@ one-is-refused s lent h =
       goes-not 100 100 lent f (omega arith) (amount-form .1) (is-past 100 100 lent f (omega arith)),
     )
 
-pub i : run (sale 99 ∷ []) hundred .outcome ≡ Send 76
+pub i : run (sale 99 ∷ []) hundred .outcome ≡ Send 77
 i = one-goes (hundred .state) (hundred .lent) hundred-after
 
 pub i-refused : run (sale 100 ∷ []) hundred .outcome ≡ Refused 21

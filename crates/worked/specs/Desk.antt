@@ -65,11 +65,18 @@ toSignOn trace = answers (signOnBytes trace) true
 abbrev pub opened : ℕ → Result
 opened limit = run (sign-on ∷ toSignOn 1 ∷ []) (signedOff limit)
 
--- 00 with field 4, 13, 37 and 64
+-- fields 4, 13, 37 and 64 of an approval
+abbrev approvalItems : ℕ → List Item
+approvalItems amount =
+    digits 4 (digitsOf 12 amount) ∷ digits 13 (digitsOf 4 1115) ∷ bytes 37 (replicate 12 0x35) ∷ bytes 64 (replicate 8 0) ∷ []
+
+-- 00 with them
 abbrev pub approval : ℕ → ℕ → ℕ → Event
-approval kind amount trace =
-    reply 0x0210 kind trace 0x30 0x30
-      (digits 4 (digitsOf 12 amount) ∷ digits 13 (digitsOf 4 1115) ∷ bytes 37 (replicate 12 0x35) ∷ bytes 64 (replicate 8 0) ∷ [])
+approval kind amount trace = reply 0x0210 kind trace 0x30 0x30 (approvalItems amount)
+
+-- document 02, request 4: 10 with them, of a type to a request of a kind and a trace, its MAC good or bad
+abbrev pub partial : ℕ → ℕ → ℕ → ℕ → Bool → Event
+partial indicator kind amount trace good = answers (replyBytes indicator kind trace 0x31 0x30 (approvalItems amount)) good
 
 -- a code to the reversal of a sale
 abbrev pub toReversal : ℕ → ℕ → ℕ → Event

@@ -1,18 +1,26 @@
--- The functions for C on the worked cases: fields of the sale that leaves, and the totals and counts after its approval.
+-- The functions for C on the worked cases: fields of the sale that leaves, the totals and counts after its approval, and what is awaited.
 use mathlib.Core.Path.{_≡_}
 use mathlib.Core.List.{[], _∷_}
-use mathlib.Core.Bool.{false}
+use mathlib.Core.Bool.{true, false}
 use lib.ListN.{replicate}
 use Rattle.state.specs.Calls.{Result}
-use Rattle.call_definitions.specs.Events.{run, starts}
+use Rattle.call_definitions.specs.Events.{run, sign-on, starts, no-answer}
 use Rattle.image_definitions.specs.Image.{image}
 use Rattle.interface_definitions.specs.Interface.{deskOf, settingsOf, returned, held, fieldAt, numberAt, totalsOn}
-use Rattle.worked.specs.Desk.{settings, opened, sale, approval}
+use Rattle.worked.specs.Desk.{settings, signedOff, opened, sale, field55, chipSale, approval, partial}
 use Rattle.worked.specs.Worked.{sent, afterF}
 
 -- a sale of 12,000 fen, approved
 abbrev pub sold : Result
 sold = run (sale 12000 ∷ approval 22 12000 2 ∷ []) (opened 1)
+
+-- document 02, request 4: 10 to a sale of 12,000 fen with a chip, for 7,000 of them; the card has the last word
+abbrev pub inPart : Result
+inPart = run (chipSale field55 12000 ∷ partial 0x0210 22 7000 2 true ∷ []) (opened 1)
+
+-- document 02, request 3: a sign-on that nobody answered, and a second, of trace 2
+abbrev pub signingOn : Result
+signingOn = run (sign-on ∷ no-answer ∷ sign-on ∷ []) (signedOff 1)
 
 pub record ForC : Type 0 where
   -- what is keyed and what is set, in the order of C
@@ -34,3 +42,8 @@ pub record ForC : Type 0 where
   pub credit-count : numberAt (image (afterF .state)) 20 7 ≡ returned 0 1
   -- one request approved, by its row
   pub approved : numberAt (image (sold .state)) 12 7 ≡ returned 0 1
+  -- the amount asked and the amount approved while the card's word is awaited, by their rows
+  pub asked-amount : numberAt (image (inPart .state)) 23 7 ≡ returned 0 12000
+  pub approved-amount : numberAt (image (inPart .state)) 33 7 ≡ returned 0 7000
+  -- the trace of the sign-on that is awaited, by its row
+  pub sign-on-trace : numberAt (image (signingOn .state)) 34 7 ≡ returned 0 2

@@ -5,7 +5,8 @@ use Prim.Native.Nat.{ℕ}
 use lib.ListN.{take, drop, replicate}
 use Rattle.entry.specs.Entry.{entrySize}
 use Rattle.state.specs.declared.Outcome.the-variants.{Send, Refused}
-use Rattle.state.specs.declared.Phase.the-variants.{Pending}
+use Rattle.state.specs.declared.Awaited.the-variants as awaited
+use Rattle.state.specs.declared.Phase.the-variants.{Waiting, Pending}
 use Rattle.state.specs.declared.Reason.the-variants.{CardDeclined}
 use Rattle.state.specs.Calls.{Result}
 use Rattle.call_definitions.specs.Events.{Event, run, no-answer, card-agrees, card-declines, send-reversal}
@@ -44,13 +45,13 @@ abbrev pub twice : List ℕ
 twice = 0x82 ∷ 0x00 ∷ 0x82 ∷ 0x00 ∷ []
 
 pub record WithChip : Type 0 where
-  -- with a 16-digit card and a field 55 of eight bytes it is 86 bytes
-  pub sent : chipSent .outcome ≡ Send 86
-  pub sent-bytes : take 86 (chipSent .lent .message) ≡ chipOnWire
-  -- a good 00 leaves journal, counts and phase: the request waits
+  -- with a 16-digit card and a field 55 of eight bytes it is 87 bytes
+  pub sent : chipSent .outcome ≡ Send 87
+  pub sent-bytes : take 87 (chipSent .lent .message) ≡ chipOnWire
+  -- a good 00 leaves the journal, counts nothing, and the request waits
   pub journal-stays : granted .lent .journal ≡ replicate entrySize 0
-  pub counts-stay : granted .state .counts ≡ chipSent .state .counts
-  pub phase-stays : granted .state .phase ≡ chipSent .state .phase
+  pub counts-stay : granted .state .counts ≡ record { sent = 1; approved = 0; declined = 0; reversed = 0; «given_up» = 0; unanswered = 0 }
+  pub phase-stays : granted .state .phase ≡ Waiting (awaited.Request (firstSale 12000))
   -- meanwhile an answer is refused (14), and another sale (11)
   pub answer-refused : after (approval 22 12000 2) .outcome ≡ Refused 14
   pub sale-refused : after (sale 100) .outcome ≡ Refused 11
@@ -61,7 +62,7 @@ pub record WithChip : Type 0 where
   pub declined : after card-declines .state .phase ≡ Pending (record { request = firstSale 12000; reason = CardDeclined; sendings = 0 })
   pub silent : after no-answer ≡ after card-declines
   -- field 39 of the reversal is 06, and field 55 is in it
-  pub reversal : reversalSent .outcome ≡ Send 88
+  pub reversal : reversalSent .outcome ≡ Send 89
   pub reversal-reason : take 2 (drop 34 (reversalSent .lent .message)) ≡ 0x30 ∷ 0x36 ∷ []
   pub reversal-chip : take 10 (drop 62 (reversalSent .lent .message)) ≡ 0x00 ∷ 0x08 ∷ field55
   -- outside the wait the card's word is refused (14)

@@ -40,7 +40,7 @@ abbrev pub firstSent : Result
 firstSent = run (sale 12000 ∷ []) (opened 1)
 
 abbrev pub sent : List ℕ
-sent = take 76 (firstSent .lent .message)
+sent = take 77 (firstSent .lent .message)
 
 -- the same, field by field
 abbrev pub saleOnWire : List ℕ
@@ -60,8 +60,8 @@ saleOnWire =
     0x31 ∷ 0x31 ∷ 0x31 ∷ 0x31 ∷ 0x31 ∷ 0x31 ∷ 0x31 ∷ 0x31 ∷
     0x32 ∷ 0x32 ∷ 0x32 ∷ 0x32 ∷ 0x32 ∷ 0x32 ∷ 0x32 ∷ 0x32 ∷ 0x32 ∷ 0x32 ∷ 0x32 ∷ 0x32 ∷ 0x32 ∷ 0x32 ∷ 0x32 ∷
     0x31 ∷ 0x35 ∷ 0x36 ∷
-    -- fields 60 and 64: kind 22, batch 1, management code 000; eight zero bytes
-    0x00 ∷ 0x11 ∷ 0x22 ∷ 0x00 ∷ 0x00 ∷ 0x01 ∷ 0x00 ∷ 0x00 ∷
+    -- fields 60 and 64: kind 22, batch 1, management code 000, then 001 (document 02, request 4); eight zero bytes
+    0x00 ∷ 0x14 ∷ 0x22 ∷ 0x00 ∷ 0x00 ∷ 0x01 ∷ 0x00 ∷ 0x00 ∷ 0x01 ∷
     0x00 ∷ 0x00 ∷ 0x00 ∷ 0x00 ∷ 0x00 ∷ 0x00 ∷ 0x00 ∷ 0x00 ∷ []
 
 -- every field, each as long as it may be; a byte of zeros is two digits or one filler, a space is printable
@@ -129,14 +129,14 @@ pub record Worked : Type 0 where
   pub a : take 6 (drop 22 sent) ≡ 0x00 ∷ 0x00 ∷ 0x00 ∷ 0x01 ∷ 0x20 ∷ 0x00 ∷ []
   -- *b field 22
   pub b : take 2 (drop 31 sent) ≡ 0x01 ∷ 0x20 ∷ []
-  -- *c field 60 for a sale, batch 1
-  pub c : take 8 (drop 60 sent) ≡ 0x00 ∷ 0x11 ∷ 0x22 ∷ 0x00 ∷ 0x00 ∷ 0x01 ∷ 0x00 ∷ 0x00 ∷ []
+  -- *c field 60 for a sale, batch 1 (document 02, request 4)
+  pub c : take 9 (drop 60 sent) ≡ 0x00 ∷ 0x14 ∷ 0x22 ∷ 0x00 ∷ 0x00 ∷ 0x01 ∷ 0x00 ∷ 0x00 ∷ 0x01 ∷ []
   -- *d the sale's bitmap, and the fields that it names
   pub d : take 8 (drop 2 sent) ≡ 0x70 ∷ 0x20 ∷ 0x04 ∷ 0x80 ∷ 0x00 ∷ 0xC0 ∷ 0x80 ∷ 0x11 ∷ []
   pub d-fields : fieldsNamed (take 8 (drop 2 sent)) 1 64 ≡ 2 ∷ 3 ∷ 4 ∷ 11 ∷ 22 ∷ 25 ∷ 41 ∷ 42 ∷ 49 ∷ 60 ∷ 64 ∷ []
-  -- *e a sale with a 16-digit card is 76 bytes
-  pub e : firstSent .outcome ≡ Send 76
-  -- all fields together make 591 bytes
+  -- *e a sale with a 16-digit card is 77 bytes
+  pub e : firstSent .outcome ≡ Send 77
+  -- all fields together make 614 bytes
   pub longest : (writeMessage (messageOf 0x0510 (fullest formats)) (replicate largest 0)) .outcome ≡ Written largest
   -- *f sale 12,000 approved, sale 8,000 silent, reversal answered 25, first sale voided:
   -- debit 12,000/1, credit 12,000/1; sent 3, approved 2, reversed 1
@@ -154,7 +154,7 @@ pub record Worked : Type 0 where
   -- *h code 96 to a reversal is a failed sending
   pub h : afterH .state .phase ≡ Pending (record { request = firstSale 8000; reason = Silence; sendings = 1 })
   -- *i entry limit 300, 100 sales of 9,999,999,999: one more of 99 goes, of 100 is refused (21)
-  pub i : run (sale 99 ∷ []) hundred .outcome ≡ Send 76
+  pub i : run (sale 99 ∷ []) hundred .outcome ≡ Send 77
   pub i-refused : run (sale 100 ∷ []) hundred .outcome ≡ Refused 21
   -- *j refund 100,000 goes, 100,001 is refused (17)
   pub j : run (keyed 25 100000 0 ∷ []) (opened 1) .outcome ≡ Send 98
