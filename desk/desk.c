@@ -526,7 +526,7 @@ static void request(struct desk *desk, const struct card_command *command, char 
     }
     if (card_is_awaited(desk)) {
         desk->card_deadline = line_clock() + desk->card_time_out;
-        tell_card_awaited(&desk->terminal.last);
+        tell_card_awaited(&desk->terminal.last, number(desk, WHISTLAUREL_APPROVED_AMOUNT));
     } else {
         send_reversals(desk);
         tell_end(desk);

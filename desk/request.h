@@ -12,7 +12,8 @@ struct request {
     uint8_t kind;            /* enum whistlaurel_kind */
     enum ending ending;
     uint32_t trace;
-    uint64_t amount;         /* in fen */
+    uint64_t amount;         /* in fen, as it was asked */
+    uint64_t approved;       /* in fen, of an approval: a prepaid card may cover a part of the amount */
     char card[20];           /* masked */
     bool has_chip;
     char code[3];            /* of a decline */

@@ -10,11 +10,11 @@
 #include "trial.h"
 #include "trouble.h"
 
-enum { FORMAT = 4 };
+enum { FORMAT = 5 };
 
 #define REQUEST_COLUMNS \
-    "kind INTEGER NOT NULL, ending INTEGER NOT NULL, trace INTEGER NOT NULL, amount INTEGER NOT NULL, card TEXT NOT NULL, " \
-    "code TEXT NOT NULL, reference TEXT NOT NULL, authorisation TEXT NOT NULL, chip INTEGER NOT NULL"
+    "kind INTEGER NOT NULL, ending INTEGER NOT NULL, trace INTEGER NOT NULL, amount INTEGER NOT NULL, approved INTEGER NOT NULL, " \
+    "card TEXT NOT NULL, code TEXT NOT NULL, reference TEXT NOT NULL, authorisation TEXT NOT NULL, chip INTEGER NOT NULL"
 
 static const char make_tables[] =
     "CREATE TABLE format (version INTEGER NOT NULL);"
@@ -98,10 +98,10 @@ void store_save(struct store *store, const uint8_t image[WHISTLAUREL_IMAGE_SIZE]
     save_image(store, image, journal, entries);
     save_journal(store, journal, entries);
     if (last != NULL) {
-        save_request(store, "INSERT OR REPLACE INTO last_request VALUES (1, ?1, ?2, ?3, ?4, ?5, ?6, ?7, ?8, ?9)", last);
+        save_request(store, "INSERT OR REPLACE INTO last_request VALUES (1, ?1, ?2, ?3, ?4, ?5, ?6, ?7, ?8, ?9, ?10)", last);
     }
     if (last != NULL && (last->ending == GIVEN_UP || last->ending == UNANSWERED)) {
-        save_request(store, "INSERT INTO doubtful VALUES (NULL, ?1, ?2, ?3, ?4, ?5, ?6, ?7, ?8, ?9)", last);
+        save_request(store, "INSERT INTO doubtful VALUES (NULL, ?1, ?2, ?3, ?4, ?5, ?6, ?7, ?8, ?9, ?10)", last);
     }
     trial_point("during-store");
     run(store, "COMMIT");
@@ -293,11 +293,12 @@ static void save_request(struct store *store, const char *sql, const struct requ
     sqlite3_bind_int(statement, 2, (int)request->ending);
     sqlite3_bind_int64(statement, 3, request->trace);
     sqlite3_bind_int64(statement, 4, (int64_t)request->amount);
-    sqlite3_bind_text(statement, 5, request->card, -1, SQLITE_STATIC);
-    sqlite3_bind_text(statement, 6, request->code, -1, SQLITE_STATIC);
-    sqlite3_bind_text(statement, 7, request->reference, -1, SQLITE_STATIC);
-    sqlite3_bind_text(statement, 8, request->authorisation, -1, SQLITE_STATIC);
-    sqlite3_bind_int(statement, 9, request->has_chip);
+    sqlite3_bind_int64(statement, 5, (int64_t)request->approved);
+    sqlite3_bind_text(statement, 6, request->card, -1, SQLITE_STATIC);
+    sqlite3_bind_text(statement, 7, request->code, -1, SQLITE_STATIC);
+    sqlite3_bind_text(statement, 8, request->reference, -1, SQLITE_STATIC);
+    sqlite3_bind_text(statement, 9, request->authorisation, -1, SQLITE_STATIC);
+    sqlite3_bind_int(statement, 10, request->has_chip);
     finish(store, statement);
 }
 
@@ -310,16 +311,17 @@ static struct request request_of(const struct store *store, sqlite3_stmt *statem
         .ending = (enum ending)ending,
         .trace = (uint32_t)sqlite3_column_int64(statement, 3),
         .amount = (uint64_t)sqlite3_column_int64(statement, 4),
-        .has_chip = sqlite3_column_int(statement, 9) != 0,
+        .approved = (uint64_t)sqlite3_column_int64(statement, 5),
+        .has_chip = sqlite3_column_int(statement, 10) != 0,
     };
 
     if (ending < PENDING || ending > UNANSWERED) {
         store_is_damaged(store, "a request has no such ending");
     }
-    copy_text(statement, 5, request.card, sizeof request.card);
-    copy_text(statement, 6, request.code, sizeof request.code);
-    copy_text(statement, 7, request.reference, sizeof request.reference);
-    copy_text(statement, 8, request.authorisation, sizeof request.authorisation);
+    copy_text(statement, 6, request.card, sizeof request.card);
+    copy_text(statement, 7, request.code, sizeof request.code);
+    copy_text(statement, 8, request.reference, sizeof request.reference);
+    copy_text(statement, 9, request.authorisation, sizeof request.authorisation);
     return request;
 }
 

@@ -150,7 +150,7 @@ static void note_start(struct terminal *terminal)
     last->has_chip = terminal_number(terminal, WHISTLAUREL_CHIP_LENGTH) > 0;
 }
 
-/* The code of a decline stands in the answer, reference and authorisation of an approval in the newest entry. */
+/* The code of a decline stands in the answer; amount, reference and authorisation of an approval in the newest entry. */
 static void note_end(struct terminal *terminal, const struct call *call, enum ending ending)
 {
     struct request *last = &terminal->last;
@@ -159,6 +159,7 @@ static void note_end(struct terminal *terminal, const struct call *call, enum en
     if (ending == APPROVED) {
         const uint8_t *entry = terminal->journal + (terminal_number(terminal, WHISTLAUREL_ENTRIES) - 1) * WHISTLAUREL_ENTRY_SIZE;
 
+        last->approved = packed_number(entry + WHISTLAUREL_ENTRY_AMOUNT, 12);
         copy_centre_text(last->reference, entry + WHISTLAUREL_ENTRY_REFERENCE, 12);
         copy_centre_text(last->authorisation, entry + WHISTLAUREL_ENTRY_AUTHORISATION, 6);
     } else if (ending == DECLINED) {

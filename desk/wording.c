@@ -8,6 +8,9 @@
 
 enum { DIGITS_MOST = 19 };
 
+static void tell_part(uint64_t approved, uint64_t asked);
+static void tell_rest(uint64_t approved, uint64_t asked);
+
 bool read_number(const char *text, uint64_t *number)
 {
     size_t length = strlen(text);
@@ -156,7 +159,7 @@ void tell_request(const struct request *request)
     if (request->ending == DECLINED) {
         printf("(%s) ", request->code);
     }
-    tell_amount(request->amount);
+    tell_part(request->ending == APPROVED ? request->approved : request->amount, request->amount);
     printf(", card %s%s", request->card, request->has_chip ? ", chip" : "");
     if (request->ending == APPROVED) {
         printf(", reference %s, authorisation %s", request->reference, request->authorisation);
@@ -164,12 +167,15 @@ void tell_request(const struct request *request)
         printf("; ask the centre");
     }
     printf("\n");
+    if (request->ending == APPROVED) {
+        tell_rest(request->approved, request->amount);
+    }
 }
 
-void tell_card_awaited(const struct request *request)
+void tell_card_awaited(const struct request *request, uint64_t approved)
 {
     printf("%s %06" PRIu32 ": the centre approves ", kind_word(request->kind), request->trace);
-    tell_amount(request->amount);
+    tell_part(approved, request->amount);
     printf(", card %s, chip; card-agrees or card-declines\n", request->card);
 }
 
@@ -187,4 +193,26 @@ void tell_entry(const uint8_t *entry)
     tell_amount(packed_number(entry + WHISTLAUREL_ENTRY_AMOUNT, 12));
     printf(", card %s, date %04" PRIu64 ", reference %s, authorisation %s%s\n", card, packed_number(entry + WHISTLAUREL_ENTRY_DATE, 4),
            reference, authorisation, entry[WHISTLAUREL_ENTRY_VOIDED] == 1 ? ", voided" : "");
+}
+
+/* An amount, and where it is a part, of which. */
+static void tell_part(uint64_t approved, uint64_t asked)
+{
+    tell_amount(approved);
+    if (approved < asked) {
+        printf(" of ");
+        tell_amount(asked);
+    }
+}
+
+/* What the card has paid of an amount and what it has not; nothing where it has paid all. */
+static void tell_rest(uint64_t approved, uint64_t asked)
+{
+    if (approved < asked) {
+        printf("paid by the card ");
+        tell_amount(approved);
+        printf(", still to pay ");
+        tell_amount(asked - approved);
+        printf("\n");
+    }
 }

@@ -34,8 +34,12 @@ const char *refusal_words(uint8_t number);
 
 /* These write to standard output. */
 void tell_amount(uint64_t fen);
+
+/* How a request stands; where a part of its amount is approved, a second line says what is still to pay. */
 void tell_request(const struct request *request);
-void tell_card_awaited(const struct request *request);
+
+/* That the centre approves a request for this amount, and its card has the last word. */
+void tell_card_awaited(const struct request *request, uint64_t approved);
 void tell_entry(const uint8_t *entry);
 
 #endif

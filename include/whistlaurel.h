@@ -29,8 +29,8 @@ extern "C" {
 #endif
 
 /* Bytes of an image, of a message buffer and of a journal entry. */
-#define WHISTLAUREL_IMAGE_SIZE 407
-#define WHISTLAUREL_MESSAGE_SIZE 591
+#define WHISTLAUREL_IMAGE_SIZE 415
+#define WHISTLAUREL_MESSAGE_SIZE 614
 #define WHISTLAUREL_ENTRY_SIZE 48
 
 /* The largest settings: entry limit, sendings of a reversal, largest refund in fen. The smallest of each is 1. */
@@ -126,6 +126,7 @@ enum whistlaurel_row {
     WHISTLAUREL_OTHER,                     /* trace of a settlement or of an upload's end; place of an upload item */
     WHISTLAUREL_CHIP_LENGTH,               /* bytes of field 55 of the request that is awaited or reversed, 0 without a chip */
     WHISTLAUREL_CARD_AWAITED,              /* 1 where the centre has approved and the card's word is awaited, else 0 */
+    WHISTLAUREL_APPROVED_AMOUNT,           /* for which it has approved then, else 0; of a sale it may be a part of the amount asked */
     WHISTLAUREL_SIGN_ON_AWAITED,           /* trace of the sign-on whose answer is awaited, 0 where none is */
     WHISTLAUREL_ROWS
 };
@@ -150,7 +151,7 @@ enum whistlaurel_entry {
     WHISTLAUREL_ENTRY_MARK = 2,            /* upload: 0 not sent, 1 silent, 2 accepted, 3 rejected, 4 given up */
     WHISTLAUREL_ENTRY_RESENDS = 3,
     WHISTLAUREL_ENTRY_TRACE = 4,           /* 3 bytes packed */
-    WHISTLAUREL_ENTRY_AMOUNT = 7,          /* 6 bytes packed, in fen */
+    WHISTLAUREL_ENTRY_AMOUNT = 7,          /* 6 bytes packed, in fen, as it was approved */
     WHISTLAUREL_ENTRY_CARD_LENGTH = 13,
     WHISTLAUREL_ENTRY_CARD = 14,           /* 10 bytes packed, from the left, zeros after the last digit */
     WHISTLAUREL_ENTRY_DATE = 24,           /* MMDD, 2 bytes packed */
@@ -196,7 +197,11 @@ uint8_t whistlaurel_start(uint8_t *image, size_t image_size, uint8_t *journal, s
                           uint8_t month, uint8_t day, const uint8_t authorisation[6], const uint8_t reference[12], bool has_chip,
                           const uint8_t *chip, size_t chip_size);
 
-/* The centre's bytes, and the key pad's word on their MAC, which counts in an answer to a card request or a reversal alone. */
+/*
+ * The centre's bytes, and the key pad's word on their MAC, which counts in an answer to a card request or a reversal alone. Code 10
+ * approves a sale for a part, the amount in its field 4, from 1 to the amount asked: entry, void and totals have that amount, a reversal the
+ * amount asked. Every other kind is declined by 10.
+ */
 uint8_t whistlaurel_answer(uint8_t *image, size_t image_size, uint8_t *journal, size_t journal_size, uint8_t *message, size_t message_size,
                            size_t *length, const uint8_t *bytes, size_t bytes_size, bool mac_is_good);
 

@@ -23,6 +23,8 @@ MASKED = "622202******1234"
 CHIP = "5A08" + CARD + "5713" + CARD + "D2612201123456789F" + "0F9F2608A1B2C3D4E5F60718" + "9F108180" + "5C" * 128
 WITH_CHIP = "sale 12000 %s chip %s" % (CARD, CHIP)
 PROMPT = "sale 000002: the centre approves 120.00 yuan, card %s, chip; card-agrees or card-declines" % MASKED
+# A sale of 120.00 yuan that a prepaid card covers in part.
+PART_PAID = "paid by the card 50.00 yuan, still to pay 70.00 yuan"
 # Key material of a sign-on, field 62.
 KEYS = bytes(range(0xC1, 0xC1 + 24))
 # Seconds: where the centre answers everything, and where it is silent.
@@ -34,7 +36,7 @@ PROGRAMS = {}
 # Field: digits or bytes, bytes of its length, count where it is fixed.
 FIELDS = {2: ("d", 1, 0), 3: ("d", 0, 6), 4: ("d", 0, 12), 11: ("d", 0, 6), 13: ("d", 0, 4), 22: ("d", 0, 3), 25: ("d", 0, 2),
           37: ("b", 0, 12), 38: ("b", 0, 6), 39: ("b", 0, 2), 41: ("b", 0, 8), 42: ("b", 0, 15), 48: ("d", 2, 0), 49: ("b", 0, 3),
-          55: ("b", 2, 0), 60: ("d", 2, 0), 61: ("d", 2, 0), 62: ("b", 2, 0), 64: ("b", 0, 8)}
+          54: ("b", 2, 0), 55: ("b", 2, 0), 60: ("d", 2, 0), 61: ("d", 2, 0), 62: ("b", 2, 0), 64: ("b", 0, 8)}
 
 
 def read_message(data):
@@ -74,7 +76,9 @@ def mac_of(data):
     return bytes(changed[1:] + changed[:1])
 
 
-def answer_to(asked, code="00", digit="1", good=True):
+def answer_to(asked, code="00", digit="1", good=True, part=None):
+    """The answer to a message other than a sign-on; to a card request with a part, code 10, this amount in fen, and a balance in field 54."""
+    code = "10" if part is not None else code
     answer = {"type": "%04d" % (int(asked["type"]) + 10), 11: asked[11], 41: asked[41], 42: asked[42], 60: asked[60]}
     if asked["type"] == "0500":
         return write_message({**answer, 48: asked[48][:30] + digit + asked[48][31:]})
@@ -83,6 +87,8 @@ def answer_to(asked, code="00", digit="1", good=True):
         return write_message(answer)
     if code == "00" and asked["type"] != "0400":
         answer.update({4: asked[4], 13: "1116", 37: b"%012d" % int(asked[11]), 38: b"A%05d" % int(asked[11])})
+    if part is not None:
+        answer.update({4: "%012d" % part, 13: "1116", 37: b"%012d" % int(asked[11]), 38: b"A%05d" % int(asked[11]), 54: b"1002156C000000000000"})
     data = write_message({**answer, 64: bytes(8)})[:-8]
     return data + (mac_of(data) if good else bytes(8))
 
@@ -113,7 +119,7 @@ def frame(message, front=ANSWER_FRONT):
 class Centre(threading.Thread):
     """Answers each message but a sign-on by the next word of its script; with 'good' once the script is at its end.
 
-    good, silent, close, bad-mac, twice NN, noise, foreign, broken-length, code NN, digit N, late.
+    good, silent, close, bad-mac, twice NN, noise, foreign, broken-length, code NN, digit N, late, part N and part-bad-mac N (so many fen).
 
     A sign-on has a script of its own: good, silent, close, code NN, batch NNNNNN, keys N (so many bytes), no-keys, foreign (an answer to
     something else and no other), unfit-then-good. It brings the batch number `batch` or, where that is None, the one that it asks with.
@@ -178,7 +184,7 @@ class Centre(threading.Thread):
         if word == "late":
             time.sleep(1.5 * float(SHORT))
         answer = answer_to(asked, code=rest if word in ("code", "twice") else "00", digit=rest if word == "digit" else "1",
-                           good=word != "bad-mac")
+                           good=not word.endswith("bad-mac"), part=int(rest) if word.startswith("part") else None)
         if word == "noise":
             connection.sendall(frame(answer_to(asked, code="51"), SENT_FRONT) + frame(b"\x02\x10") + frame(b""))
         if word == "broken-length":
@@ -258,7 +264,7 @@ class DeskTest(unittest.TestCase):
             "journal 1 entries", "doubtful: 0"])
         self.assertEqual(centre.frames[0][:11], SENT_FRONT)
         self.assertEqual(centre.frames[0][-8:], mac_of(centre.frames[0][11:-8]))
-        self.assertEqual((centre.asked[0][2], centre.asked[0][60]), (CARD, "22000007000"))
+        self.assertEqual((centre.asked[0][2], centre.asked[0][60]), (CARD, "22000007000001"))
 
     def test_every_kind(self):
         lines = self.desk(self.centre(), "authorise 500 " + CARD, "complete 500 %s A00002 1116" % CARD, "complete-void 3",
@@ -314,6 +320,80 @@ class DeskTest(unittest.TestCase):
         self.assertEqual(lines[3], "sale 000002: reversed 120.00 yuan, card " + MASKED)
         self.assertEqual(centre.types(), ["0200", "0400", "0400", "0400"])
         self.assertEqual(centre.asked[1][39], b"A0")
+
+    def test_part_paid(self):
+        """What the card has paid and what is still to pay, at the sale and at the next start; entry, totals and void have the part."""
+        centre = self.centre("part 5000")
+        approved = "sale 000002: approved 50.00 yuan of 120.00 yuan, card %s, reference 000000000002, authorisation A00002" % MASKED
+        lines = self.desk(centre, "sale 12000 " + CARD, "journal", "counts")
+        self.assertEqual(lines[3:], [
+            approved, PART_PAID, totals(5000, 1),
+            "sale 000002: 50.00 yuan, card %s, date 1116, reference 000000000002, authorisation A00002" % MASKED, "journal 1 entries",
+            "counts sent 1 approved 1 declined 0 reversed 0 given-up 0 unanswered 0"])
+        lines = self.desk(centre, "sale-void 2", "journal", "settle")
+        self.assertEqual(lines[1:4], ["last request: " + approved, PART_PAID, totals(5000, 1)])
+        self.assertEqual(lines[5:7], ["sale-void 000004: approved 50.00 yuan, card %s, reference 000000000004, authorisation A00004" % MASKED,
+                                      totals(5000, 1, 5000, 1)])
+        self.assertTrue(lines[7].startswith("sale 000002: 50.00 yuan") and lines[7].endswith(", voided"), lines)
+        self.assertEqual(lines[-1], "settled batch 000001: debit 50.00 yuan in 1, credit 50.00 yuan in 1")
+        self.assertEqual([(asked["type"], asked.get(4), asked[60]) for asked in centre.asked],
+                         [("0200", "000000012000", "22000001000001"), ("0200", "000000005000", "23000001000"), ("0500", None, "00000001201")])
+
+    def test_part_that_is_the_whole(self):
+        """Code 10 with the amount asked is an ordinary approval; one fen fewer is a part."""
+        lines = self.desk(self.centre("part 12000", "part 11999"), *["sale 12000 " + CARD] * 2)
+        self.assertEqual(lines[3:5], ["sale 000002: approved 120.00 yuan, card %s, reference 000000000002, authorisation A00002" % MASKED,
+                                      totals(12000, 1)])
+        self.assertEqual(lines[6:], ["paid by the card 119.99 yuan, still to pay 0.01 yuan", totals(23999, 2)])
+
+    def test_part_that_is_none(self):
+        """Amounts out of range are waited out, a bad MAC is reversed, each for the amount asked; 10 to another kind is a decline."""
+        self.time_out = SHORT
+        centre = self.centre("part 0", "good", "part 12001", "good", "part-bad-mac 5000", "good", "part 300")
+        lines = self.desk(centre, *["sale 12000 " + CARD] * 3, "authorise 500 " + CARD, "totals")
+        self.assertEqual(lines[3:], ["sale %06d: reversed 120.00 yuan, card %s" % (trace, MASKED) for trace in (2, 3, 4)]
+                         + ["authorise 000005: declined (10) 5.00 yuan, card " + MASKED, totals(0, 0)])
+        self.assertEqual([(asked[39], asked[4], asked[60]) for asked in centre.asked if asked["type"] == "0400"],
+                         [(reason, "000000012000", "22000001000001") for reason in (b"98", b"98", b"A0")])
+
+    def test_part_paid_with_a_chip(self):
+        """The card's consent pays the part; its decline and its silence reverse the amount asked, and nothing is paid."""
+        prompt = PROMPT.replace("120.00 yuan", "50.00 yuan of 120.00 yuan")
+        for words in (("card-agrees",), ("card-declines",), ()):
+            with self.subTest(words):
+                self.store = os.path.join(self.folder, "-".join(("store", *words)))
+                centre = self.centre("part 5000")
+                lines = self.desk(centre, WITH_CHIP, *words)
+                self.assertEqual(lines[3], prompt)
+                if words == ("card-agrees",):
+                    approved = "sale 000002: approved 50.00 yuan of 120.00 yuan, card %s, chip, reference 000000000002, authorisation A00002" % MASKED
+                    self.assertEqual(lines[4:], [approved, PART_PAID, totals(5000, 1)])
+                    self.assertEqual(self.desk(centre)[1:4], ["last request: " + approved, PART_PAID, totals(5000, 1)])
+                else:
+                    self.reversed_by_the_card(centre, lines[4:])
+                    self.assertEqual(self.desk(centre)[1:], ["last request: " + lines[4], "ready, batch 000001"])
+
+    def test_killed_about_a_part(self):
+        """The next start tells the part and what is still to pay where the approval was stored, else a reversal of the amount asked."""
+        for point, command, words, is_paid in (
+                ("after-answer:2", "sale 12000 " + CARD, (), False), ("before-answer-store:2", "sale 12000 " + CARD, (), False),
+                ("during-store:5", "sale 12000 " + CARD, (), False), ("after-answer-store:2", "sale 12000 " + CARD, (), True),
+                ("after-told:1", "sale 12000 " + CARD, (), True), ("after-answer-store:2", WITH_CHIP, (), False),
+                ("after-told:1", WITH_CHIP, (), False), ("before-answer-store:3", WITH_CHIP, ("card-agrees",), False),
+                ("after-answer-store:3", WITH_CHIP, ("card-agrees",), True), ("after-answer-store:3", WITH_CHIP, ("card-declines",), False)):
+            with self.subTest((point, words, "chip" in command)):
+                self.store = os.path.join(self.folder, "-".join((point, *words, str("chip" in command))))
+                centre = self.centre("part 5000")
+                self.desk(centre, command, *words, kill=point, status=-signal.SIGKILL)
+                centre.wait_for(1)
+                lines = self.desk(centre)
+                if is_paid:
+                    self.assertTrue(lines[1].startswith("last request: sale 000002: approved 50.00 yuan of 120.00 yuan, card " + MASKED), lines)
+                    self.assertEqual(lines[2:], [PART_PAID, totals(5000, 1), "ready, batch 000001"])
+                else:
+                    chip = ", chip" if "chip" in command else ""
+                    self.assertEqual(lines[1:], ["last request: sale 000002: reversed 120.00 yuan, card %s%s" % (MASKED, chip), "ready, batch 000001"])
+                    self.assertEqual([asked[4] for asked in centre.asked], ["000000012000"] * 2)
 
     def test_chip_agrees(self):
         centre = self.centre()
@@ -708,7 +788,7 @@ class DeskTest(unittest.TestCase):
         self.desk(centre, "sale 300 " + CARD, "sale 0 " + CARD, "sale-void 3", "sale-void 3")
         self.assertEqual(self.change("SELECT what FROM written"),
                          [("image",), ("image",), ("image",), ("image",), ("image",), (2,), ("image",), ("image",), (1,), (3,)])
-        self.assertEqual(self.change("SELECT version FROM format"), [(4,)])
+        self.assertEqual(self.change("SELECT version FROM format"), [(5,)])
         self.assertEqual(os.stat(self.store).st_mode & 0o077, 0)
 
     def change(self, sql, *values):
@@ -745,7 +825,7 @@ class DeskTest(unittest.TestCase):
                 ("lost entry", lambda: self.change("DELETE FROM journal"), "have changed since they were stored"),
                 ("gap", lambda: self.change("UPDATE journal SET place = 5"), "its journal has gaps"),
                 ("no image", lambda: self.change("DELETE FROM state"), "it holds no image"),
-                ("format", lambda: self.change("UPDATE format SET version = 3"), "another format"),
+                ("format", lambda: self.change("UPDATE format SET version = 4"), "another format"),
                 ("other file", lambda: self.change("DROP TABLE format"), "no store of a desk")):
             with self.subTest(name):
                 self.store = os.path.join(self.folder, name)

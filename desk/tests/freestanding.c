@@ -60,5 +60,5 @@ __attribute__((force_align_arg_pointer)) _Noreturn void _start(void)
                        answer_sign_on(message, answer), false);
     result = whistlaurel_start(image, sizeof image, journal, sizeof journal, message, sizeof message, &length, WHISTLAUREL_SALE, 12000,
                                6222021234567894, 16, 0, 0, 0, none, none, true, chip, sizeof chip);
-    end(result == WHISTLAUREL_SENDS && length == 80 ? 0 : 1);
+    end(result == WHISTLAUREL_SENDS && length == 81 ? 0 : 1);
 }

@@ -43,6 +43,8 @@ static void sign_on_over_a_reversal(void);
 static void sign_on_over_a_closing(void);
 static void reversal_phases(void);
 static void card_phases(void);
+static void part_approvals(void);
+static void part_approval_with_a_chip(void);
 static void closing_phases(void);
 static void kinds(void);
 static void entries(void);
@@ -65,6 +67,8 @@ int main(void)
     sign_on_over_a_closing();
     reversal_phases();
     card_phases();
+    part_approvals();
+    part_approval_with_a_chip();
     closing_phases();
     kinds();
     entries();
@@ -172,6 +176,22 @@ static uint8_t reply(struct terminal *t, const char *code, unsigned digit, bool 
     struct answer a = answer_to(t, code, digit);
 
     HOLDS(whistlaurel_read(a.bytes, a.size) == WHISTLAUREL_QUIET);
+    return whistlaurel_answer(LENT(t), a.bytes, a.size, mac_is_good);
+}
+
+/* The answer to a request that left with code 10 and this amount, packed, in field 4, its first. */
+static struct answer part_answer(const struct terminal *t, const char *amount)
+{
+    struct answer a = answer_to(t, "10", 0);
+
+    memcpy(a.bytes + 10, amount, 6);
+    return a;
+}
+
+static uint8_t reply_part(struct terminal *t, const char *amount, bool mac_is_good)
+{
+    struct answer a = part_answer(t, amount);
+
     return whistlaurel_answer(LENT(t), a.bytes, a.size, mac_is_good);
 }
 
@@ -304,7 +324,7 @@ static void first_rows(void)
     struct terminal t = terminal_of(10, 2);
     uint64_t n;
 
-    HOLDS(number(&t, WHISTLAUREL_VERSION) == 4 && word_of(t.image, 2) == 4);
+    HOLDS(number(&t, WHISTLAUREL_VERSION) == 5 && word_of(t.image, 2) == 5);
     HOLDS(number(&t, WHISTLAUREL_ENTRY_LIMIT) == 10);
     HOLDS(number(&t, WHISTLAUREL_SENDINGS) == 2);
     HOLDS(number(&t, WHISTLAUREL_REFUND_LIMIT) == 100000);
@@ -495,6 +515,7 @@ static void card_phases(void)
     phase_is(&t, WHISTLAUREL_REQUEST_AWAITED, rows);
     HOLDS(reply(&t, "00", 0, true) == WHISTLAUREL_QUIET);
     rows[WHISTLAUREL_CARD_AWAITED] = 1;
+    rows[WHISTLAUREL_APPROVED_AMOUNT] = 100;
     phase_is(&t, WHISTLAUREL_REQUEST_AWAITED, rows);
     counts_are(&t, (uint64_t[]){1, 0, 0, 0, 0, 0});
     totals_are(&t, (uint64_t[4]){0});
@@ -508,6 +529,7 @@ static void card_phases(void)
     rows[WHISTLAUREL_REQUEST_TRACE] = 3;
     rows[WHISTLAUREL_REVERSAL_REASON] = 2;
     rows[WHISTLAUREL_CARD_AWAITED] = 0;
+    rows[WHISTLAUREL_APPROVED_AMOUNT] = 0;
     phase_is(&t, WHISTLAUREL_PENDING, rows);
     HOLDS(whistlaurel_send_reversal(LENT(&t)) == WHISTLAUREL_SENDS);
     chip_left(&t, "06");
@@ -519,6 +541,69 @@ static void card_phases(void)
     HOLDS(number(&t, WHISTLAUREL_PHASE) == WHISTLAUREL_PENDING && number(&t, WHISTLAUREL_REVERSAL_REASON) == 2);
     counts_are(&t, (uint64_t[]){3, 1, 0, 1, 0, 0});
     totals_are(&t, (uint64_t[4]){100, 1, 0, 0});
+}
+
+/* The message that left has this amount, packed, and in field 60 so many digits. */
+static void amount_left(const struct terminal *t, const char *amount, size_t digits)
+{
+    uint8_t field[7];
+    size_t count = 0;
+
+    HOLDS(whistlaurel_field(t->message, t->length, 4, field, sizeof field, &count) == 0 && memcmp(field, amount, 6) == 0);
+    HOLDS(whistlaurel_field(t->message, t->length, 60, field, sizeof field, &count) == 0 && count == digits);
+}
+
+/* A sale answered 10: the bounds of its amount, the entry, the void, a bad MAC. Another kind is declined. */
+static void part_approvals(void)
+{
+    struct terminal t = terminal_of(10, 1);
+    struct answer none;
+    struct answer too_much;
+    struct answer part;
+
+    HOLDS(start(&t, WHISTLAUREL_SALE, 12000, 0) == WHISTLAUREL_SENDS);
+    amount_left(&t, "\x00\x00\x00\x01\x20\x00", 14);
+    none = part_answer(&t, "\x00\x00\x00\x00\x00\x00");
+    too_much = part_answer(&t, "\x00\x00\x00\x01\x20\x01");
+    part = part_answer(&t, "\x00\x00\x00\x00\x50\x00");
+    HOLDS(whistlaurel_answer(LENT(&t), none.bytes, none.size, true) == WHISTLAUREL_ANSWER_NOT_MATCHING);
+    HOLDS(whistlaurel_answer(LENT(&t), too_much.bytes, too_much.size, true) == WHISTLAUREL_ANSWER_NOT_MATCHING);
+    HOLDS(whistlaurel_answer(LENT(&t), part.bytes, part.size, true) == WHISTLAUREL_QUIET);
+    HOLDS(memcmp(t.journal + WHISTLAUREL_ENTRY_AMOUNT, "\x00\x00\x00\x00\x50\x00", 6) == 0);
+    totals_are(&t, (uint64_t[4]){5000, 1, 0, 0});
+    HOLDS(start(&t, WHISTLAUREL_SALE_VOID, 0, 2) == WHISTLAUREL_SENDS);
+    amount_left(&t, "\x00\x00\x00\x00\x50\x00", 11);
+    HOLDS(reply(&t, "00", 0, true) == WHISTLAUREL_QUIET);
+    totals_are(&t, (uint64_t[4]){5000, 1, 5000, 1});
+    HOLDS(start(&t, WHISTLAUREL_SALE, 100, 0) == WHISTLAUREL_SENDS);
+    HOLDS(reply_part(&t, "\x00\x00\x00\x00\x00\x40", false) == WHISTLAUREL_QUIET);
+    HOLDS(number(&t, WHISTLAUREL_PHASE) == WHISTLAUREL_PENDING && number(&t, WHISTLAUREL_REVERSAL_REASON) == 1);
+    HOLDS(whistlaurel_send_reversal(LENT(&t)) == WHISTLAUREL_SENDS);
+    amount_left(&t, "\x00\x00\x00\x00\x01\x00", 14);
+    HOLDS(reply(&t, "00", 0, true) == WHISTLAUREL_QUIET);
+    HOLDS(start(&t, WHISTLAUREL_COMPLETION, 100, 0) == WHISTLAUREL_SENDS);
+    HOLDS(reply_part(&t, "\x00\x00\x00\x00\x00\x40", true) == WHISTLAUREL_QUIET);
+    counts_are(&t, (uint64_t[]){4, 2, 1, 1, 0, 0});
+    totals_are(&t, (uint64_t[4]){5000, 1, 5000, 1});
+}
+
+/* While the card's word is awaited the part stands beside the amount asked; the card's consent enters the part, its decline reverses all. */
+static void part_approval_with_a_chip(void)
+{
+    struct terminal t = terminal_of(10, 1);
+
+    for (int agrees = 1; agrees >= 0; agrees--) {
+        HOLDS(start_chip(&t, WHISTLAUREL_SALE, field_55, sizeof field_55) == WHISTLAUREL_SENDS);
+        HOLDS(reply_part(&t, "\x00\x00\x00\x00\x00\x40", true) == WHISTLAUREL_QUIET);
+        HOLDS(number(&t, WHISTLAUREL_CARD_AWAITED) == 1);
+        HOLDS(number(&t, WHISTLAUREL_REQUEST_AMOUNT) == 100 && number(&t, WHISTLAUREL_APPROVED_AMOUNT) == 40);
+        HOLDS((agrees ? whistlaurel_card_agrees(LENT(&t)) : whistlaurel_card_declines(LENT(&t))) == WHISTLAUREL_QUIET);
+        HOLDS(number(&t, WHISTLAUREL_APPROVED_AMOUNT) == 0);
+        totals_are(&t, (uint64_t[4]){40, 1, 0, 0});
+    }
+    HOLDS(whistlaurel_send_reversal(LENT(&t)) == WHISTLAUREL_SENDS);
+    amount_left(&t, "\x00\x00\x00\x00\x01\x00", 14);
+    chip_left(&t, "06");
 }
 
 /* The message that left holds these first 30 digits of field 48, packed. */
@@ -578,18 +663,19 @@ static void closing_phases(void)
 
 /* ---- kinds and entries */
 
-/* A kind leaves as such: its type, its number in field 60, and its side of the totals. */
+/* A kind leaves as such: its type, its number in field 60, which asks for approval in part for a sale alone, and its side of the totals. */
 static void kind_leaves(struct terminal *t, enum whistlaurel_kind kind, uint32_t original, unsigned type, unsigned side)
 {
     uint64_t before[4];
     uint64_t after[4];
-    uint8_t field_60[6];
+    uint8_t field_60[7] = {0};
     size_t count;
 
     HOLDS(whistlaurel_totals(t->image, sizeof t->image, before) == WHISTLAUREL_QUIET);
     HOLDS(start(t, kind, 100, original) == WHISTLAUREL_SENDS);
     HOLDS(word_of(t->message, 2) == type);
-    HOLDS(whistlaurel_field(t->message, t->length, 60, field_60, sizeof field_60, &count) == 0 && count == 11);
+    HOLDS(whistlaurel_field(t->message, t->length, 60, field_60, sizeof field_60, &count) == 0);
+    HOLDS(count == (kind == WHISTLAUREL_SALE ? 14 : 11) && field_60[6] == (kind == WHISTLAUREL_SALE));
     HOLDS(field_60[0] == kind / 10 * 16 + kind % 10);
     HOLDS(reply(t, "00", 0, true) == WHISTLAUREL_QUIET);
     HOLDS(whistlaurel_totals(t->image, sizeof t->image, after) == WHISTLAUREL_QUIET);
@@ -673,8 +759,10 @@ static void refusals_of_messages(void)
     refused_message(&t, 2, "\x12", 1, WHISTLAUREL_LENGTH_NOT_ALLOWED);
     refused_message(&t, 39, "0\x1F", 2, WHISTLAUREL_NOT_PRINTABLE);
     refused_message(&t, 39, "000", 3, WHISTLAUREL_BYTES_FOLLOW);
+    refused_message(&t, 54, "\x00\x19", 2, WHISTLAUREL_LENGTH_NOT_ALLOWED);
     refused_message(&t, 55, "\x00\x00", 2, WHISTLAUREL_LENGTH_NOT_ALLOWED);
     refused_message(&t, 55, "\x00\x02\x95\x01", 4, WHISTLAUREL_CHIP_OUT_OF_FORM);
+    refused_message(&t, 60, "\x00\x12", 2, WHISTLAUREL_LENGTH_NOT_ALLOWED);
     refused_message(&t, 62, "\x00\x00", 2, WHISTLAUREL_KEYS_OUT_OF_FORM);
     refused_message(&t, 62, "\x00\x24", 2, WHISTLAUREL_MESSAGE_ENDS);
 }

@@ -40,7 +40,7 @@ copied-first at k r h e =
 pub chip-copied : (v r : List ℕ) {n : ℕ} {f d a x : List ℕ} → length r + regionOffset ≡ size → n ≡ bitsOf 8 v 0
     → Copied 0 255 r f → Copied 255 2 r d → Copied 257 6 r a → Copied 263 12 r x
     → _≡_ {A = Chip}
-    (record { length = n; bytes = f; approved = eqb (getD v 1 0) 1; date = d; authorisation = a; reference = x })
+    (record { length = n; bytes = f; approved = eqb (getD v 1 0) 1; amount = getD v 2 0; date = d; authorisation = a; reference = x })
     (chipIn v r)
 chip-copied v r l p ef ed ea ex =
     rw (

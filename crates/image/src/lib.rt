@@ -24,21 +24,21 @@ ghost use Rattle.image_definitions.specs.Layout.{widths, regionOffset, size, by
 ghost use Rattle.image_definitions.specs.Image.{reasonValue, requestValues, reversalValues, plainValues, awaitedValues, phaseValues, flagValue, memberValues, settingsValues, countsValues, totalsValues, chipValues, valuesOf, rowBytes, regionOf, image, merchantOf, settingsOf, countsOf, totalsIn, requestOf, reasonOf, reversalOf, phaseOf, chipIn, stateOf, refused, readImage};
 
 // The bytes of an image.
-pub const SIZE: usize = 407;
+pub const SIZE: usize = 415;
 
 // The version of the format.
-const VERSION: u64 = 4;
+const VERSION: u64 = 5;
 
-pub const ROWS: usize = 34;
+pub const ROWS: usize = 35;
 
 // Where the region stands, and its parts after field 55: date, authorisation, reference.
-const REGION: usize = 132;
+const REGION: usize = 140;
 
-const DATE: usize = 387;
+const DATE: usize = 395;
 
-const AUTHORISATION: usize = 389;
+const AUTHORISATION: usize = 397;
 
-const REFERENCE: usize = 395;
+const REFERENCE: usize = 403;
 
 // The bytes of each number, in the image's order.
 const WIDTHS: [usize; ROWS] = [
@@ -75,6 +75,7 @@ const WIDTHS: [usize; ROWS] = [
     4, // trace of a settlement or an upload's end, place of an item
     1, // length of the chip's field 55
     1, // approved
+    8, // for which amount
     4, // trace of the sign-on that is awaited
 ];
 
@@ -277,6 +278,7 @@ pub fn values_of(s: State) -> [u64; ROWS]
         p[9],
         k[0],
         k[1],
+        k[2],
         sign_on.0 as u64,
     ]
 }
@@ -335,11 +337,11 @@ fn totals_values(t: Totals) -> [u64; 4]
     [t.debit, t.debits as u64, t.credit, t.credits as u64]
 }
 
-// Length of field 55, approved.
-fn chip_values(c: Chip) -> [u64; 2]
+// Length of field 55, approved, for which amount.
+fn chip_values(c: Chip) -> [u64; 3]
     ensures { λ r. ⌜ r ≡ chipValues c ⌝ }
 {
-    [c.length as u64, flag_value(c.approved)]
+    [c.length as u64, flag_value(c.approved), c.amount]
 }
 
 fn phase_values(p: Phase) -> [u64; 10]
@@ -419,8 +421,8 @@ fn state_of(v: [u64; ROWS], region: &[u8]) -> State
     let counts = counts_of(&v[11..17]);
     let totals = totals_in(&v[17..21]);
     let phase = phase_of(&v[21..31]);
-    let chip = chip_in(&v[31..33], region);
-    let sign_on = Trace(low32(v[33]));
+    let chip = chip_in(&v[31..34], region);
+    let sign_on = Trace(low32(v[34]));
     let batch = Batch(low32(v[8]));
     let next = Trace(low32(v[9]));
     State {
@@ -489,9 +491,9 @@ fn totals_in(v: &[u64]) -> Totals
     }
 }
 
-// The chip in its two rows and the region.
+// The chip in its three rows and the region.
 fn chip_in(v: &[u64], region: &[u8]) -> Chip
-    requires { ⌜ (length (now v) ≡ 2) × (length (now region) + regionOffset ≡ size) ⌝ }
+    requires { ⌜ (length (now v) ≡ 3) × (length (now region) + regionOffset ≡ size) ⌝ }
     ensures { λ r. ⌜ r ≡ chipIn (now (v .entry)) (now (region .entry)) ⌝ }
 {
     let mut field55 = [0u8; 255];
@@ -506,6 +508,7 @@ fn chip_in(v: &[u64], region: &[u8]) -> Chip
         length: low8(v[0]),
         bytes: field55,
         approved: v[1] == 1,
+        amount: v[2],
         date: date,
         authorisation: authorisation,
         reference: reference,

@@ -79,7 +79,7 @@ sized-state v r below s =
       entries = omega arith;
       counts = sized-counts (rowsFrom 11 6 v);
       totals = sized-totals (rowsFrom 17 4 v) (rw (rows-at 17 4 v 0 (omega arith)) (below 17)) (rw (rows-at 17 4 v 2 (omega arith)) (below 19));
-      chip = sized-chip (rowsFrom 31 2 v) r s;
+      chip = sized-chip (rowsFrom 31 3 v) r (rw (rows-at 31 3 v 2 (omega arith)) (below 33)) s;
       phase =
           sized-phase (rowsFrom 21 10 v) (rw (rows-at 21 10 v 2 (omega arith)) (below 23)) (rw (rows-at 21 10 v 3 (omega arith)) (below 24))
           (getD (rowsFrom 21 10 v) 0 0);

@@ -66,7 +66,7 @@ accepted-length b h = go (eqb (length b) size) refl
 module _ (b : List ℕ) {s : State} {again : List ℕ} (l : length b ≡ size) (h : Bytes b) (es : s ≡ stateIn b) (ea : again ≡ valuesOf s) where
   region-is : regionOf (s .chip) ≡ drop regionOffset b
   unfolding stateOf
-  region-is = rw es (region-back (rowsFrom 31 2 (numbersIn widths b)) (drop regionOffset b) (rw length-drop (omega arith)))
+  region-is = rw es (region-back (rowsFrom 31 3 (numbersIn widths b)) (drop regionOffset b) (rw length-drop (omega arith)))
 
   rows-are : valuesOf s ≡ numbersIn widths b → rowBytes s ≡ take regionOffset b
   unfolding widths

@@ -2,11 +2,11 @@
 use mathlib.Core.Path.{_≡_, refl, _∙_}
 use mathlib.Core.List.{List, [], _∷_, _++_, append-assoc, append-nil}
 use mathlib.Core.Bool.{Bool, true, false}
-use Prim.Native.Nat.{ℕ, zero, suc, _+_, _≤_}
+use Prim.Native.Nat.{ℕ, zero, suc, _+_, _^_, _≤_, _<_}
 use native.Mathlib.Nat.{mod-eq-of-lt}
 use native.Mathlib.Omega.{arith}
 use lib.Dec.{eqb}
-use lib.ListN.{length, take, drop, replicate, length-append, length-drop, length-replicate, take-append-drop}
+use lib.ListN.{length, getD, take, drop, replicate, length-append, length-drop, length-replicate, take-append-drop}
 use lib.Seq.{drop-at, drop-drop, length-take-le, take-all, take-append-le, take-at}
 use Rattle.state.specs.declared.Chip.{Chip}
 use Rattle.image_definitions.specs.Layout.{regionOffset, size, firstOf}
@@ -46,10 +46,11 @@ unfolding regionOf
 length-region c = simp (length-append, length-first)
 
 -- the chip that bytes say is within the sizes of its types
-pub sized-chip : (v r : List ℕ) → Bytes r → SizedChip (chipIn v r)
-sized-chip v r s =
+pub sized-chip : (v r : List ℕ) → getD v 2 0 < 2 ^ 64 → Bytes r → SizedChip (chipIn v r)
+sized-chip v r amount s =
     record {
       count = omega arith;
+      amount = amount;
       field = length-first 255 r;
       field-bytes = first-bytes 255 r s;
       date = length-first 2 (drop 255 r);

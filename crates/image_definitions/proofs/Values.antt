@@ -111,7 +111,7 @@ state-back s z =
       mod-eq-of-lt (z .entries),
       counts-back (s .counts) (z .counts),
       totals-back (s .totals) (z .totals),
-      after-phase (s .phase) k 2,
+      after-phase (s .phase) k 3,
       mod-eq-of-lt (z .sign-on),
       drop-at (phaseValues (s .phase)) k 10 (length-phase (s .phase)),
       chip-back (s .chip) (z .chip),
@@ -174,9 +174,9 @@ totals-fit : (t : Totals) → SizedTotals t → Fits (rowsFrom 17 4 widths) (tot
 unfolding widths
 totals-fit t z = (z .debit, (z .debits, (z .credit, (z .credits, tt))))
 
-tail-fits : (s : State) → Sized s → Fits (rowsFrom 31 3 widths) (chipValues (s .chip) ++ (s .«sign_on» .0 ∷ []))
+tail-fits : (s : State) → Sized s → Fits (rowsFrom 31 4 widths) (chipValues (s .chip) ++ (s .«sign_on» .0 ∷ []))
 unfolding widths
-tail-fits s z = (z .chip .count, (flag-small (s .chip .approved), (z .sign-on, tt)))
+tail-fits s z = (z .chip .count, (flag-small (s .chip .approved), (z .chip .amount, (z .sign-on, tt))))
 
 -- each number of a state fits its row
 pub values-fit : (s : State) → Sized s → Fits widths (valuesOf s)
@@ -188,11 +188,11 @@ values-fit s z =
     let t = totalsValues (s .totals) in
     let p = phaseValues (s .phase) in
     let k = chipValues (s .chip) ++ (s .«sign_on» .0 ∷ []) in
-    let from21 = fits-append phaseWidths p (rowsFrom 31 3 widths) k (phase-fits (s .phase) (z .phase)) (tail-fits s z) in
-    let from17 = fits-append (rowsFrom 17 4 widths) t (rowsFrom 21 13 widths) (p ++ k) (totals-fit (s .totals) (z .totals)) from21 in
-    let from11 = fits-append (rowsFrom 11 6 widths) c (rowsFrom 17 17 widths) (t ++ (p ++ k)) (counts-fit (s .counts) (z .counts)) from17 in
-    let from7 = fits-append (rowsFrom 7 4 widths) m (rowsFrom 11 23 widths) (c ++ (t ++ (p ++ k))) (members-fit s z) from11 in
-    (lit< tt, fits-append (rowsFrom 1 6 widths) x (rowsFrom 7 27 widths) (m ++ (c ++ (t ++ (p ++ k)))) (settings-fit (s .settings) (z .settings)) from7)
+    let from21 = fits-append phaseWidths p (rowsFrom 31 4 widths) k (phase-fits (s .phase) (z .phase)) (tail-fits s z) in
+    let from17 = fits-append (rowsFrom 17 4 widths) t (rowsFrom 21 14 widths) (p ++ k) (totals-fit (s .totals) (z .totals)) from21 in
+    let from11 = fits-append (rowsFrom 11 6 widths) c (rowsFrom 17 18 widths) (t ++ (p ++ k)) (counts-fit (s .counts) (z .counts)) from17 in
+    let from7 = fits-append (rowsFrom 7 4 widths) m (rowsFrom 11 24 widths) (c ++ (t ++ (p ++ k))) (members-fit s z) from11 in
+    (lit< tt, fits-append (rowsFrom 1 6 widths) x (rowsFrom 7 28 widths) (m ++ (c ++ (t ++ (p ++ k)))) (settings-fit (s .settings) (z .settings)) from7)
 
 -- the ten numbers of a phase, one by one
 phase-listed : (p : Phase) (rest : List ℕ) → getD (phaseValues p) 0 0 ∷ getD (phaseValues p) 1 0 ∷ getD (phaseValues p) 2 0 ∷ getD (phaseValues p) 3 0 ∷ getD (phaseValues p) 4 0 ∷ getD (phaseValues p) 5 0 ∷ getD (phaseValues p) 6 0 ∷ getD (phaseValues p) 7 0 ∷ getD (phaseValues p) 8 0 ∷ getD (phaseValues p) 9 0 ∷ rest ≡ phaseValues p ++ rest
@@ -215,7 +215,7 @@ pub values-listed : (s : State) {x m c t p k : List ℕ} → x ≡ settingsValue
     ∷ getD c 0 0 ∷ getD c 1 0 ∷ getD c 2 0 ∷ getD c 3 0 ∷ getD c 4 0 ∷ getD c 5 0
     ∷ getD t 0 0 ∷ getD t 1 0 ∷ getD t 2 0 ∷ getD t 3 0
     ∷ getD p 0 0 ∷ getD p 1 0 ∷ getD p 2 0 ∷ getD p 3 0 ∷ getD p 4 0 ∷ getD p 5 0 ∷ getD p 6 0 ∷ getD p 7 0 ∷ getD p 8 0 ∷ getD p 9 0
-    ∷ getD k 0 0 ∷ getD k 1 0
+    ∷ getD k 0 0 ∷ getD k 1 0 ∷ getD k 2 0
     ∷ s .«sign_on» .0 ∷ []
     ≡ valuesOf s
 unfolding valuesOf

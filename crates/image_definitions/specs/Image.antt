@@ -25,7 +25,7 @@ use Rattle.image_definitions.specs.declared.Reading.{Reading}
 
 -- the version of the format
 abbrev pub version : ℕ
-version = 4
+version = 5
 
 abbrev pub reasonValue : Reason → ℕ
 reasonValue Silence = 0
@@ -76,9 +76,9 @@ countsValues c = c .sent ∷ c .approved ∷ c .declined ∷ c .reversed ∷ c .
 abbrev pub totalsValues : Totals → List ℕ
 totalsValues t = t .debit ∷ t .debits ∷ t .credit ∷ t .credits ∷ []
 
--- length of field 55, approved
+-- length of field 55, approved, for which amount
 abbrev pub chipValues : Chip → List ℕ
-chipValues c = c .length ∷ flagValue (c .approved) ∷ []
+chipValues c = c .length ∷ flagValue (c .approved) ∷ c .amount ∷ []
 
 -- the number of each row of the layout
 unfoldable pub valuesOf : State → List ℕ
@@ -174,13 +174,14 @@ phaseOf v = getD (phasesOf v) (getD v 0 0) Resting
 abbrev pub rowsFrom : ℕ → ℕ → List ℕ → List ℕ
 rowsFrom at n v = take n (drop at v)
 
--- the chip in its two rows and the region
+-- the chip in its three rows and the region
 abbrev pub chipIn : List ℕ → List ℕ → Chip
 chipIn v r =
     record {
       length = bitsOf 8 v 0;
       bytes = firstOf 255 r;
       approved = eqb (getD v 1 0) 1;
+      amount = getD v 2 0;
       date = firstOf 2 (drop 255 r);
       authorisation = firstOf 6 (drop 257 r);
       reference = firstOf 12 (drop 263 r);
@@ -192,13 +193,13 @@ stateOf v r =
     record {
       settings = settingsOf (rowsFrom 1 6 v);
       «signed_on» = eqb (getD v 7 0) 1;
-      «sign_on» = record { 0 = bitsOf 32 v 33 };
+      «sign_on» = record { 0 = bitsOf 32 v 34 };
       batch = record { 0 = bitsOf 32 v 8 };
       next = record { 0 = bitsOf 32 v 9 };
       entries = bitsOf 16 v 10;
       counts = countsOf (rowsFrom 11 6 v);
       totals = totalsIn (rowsFrom 17 4 v);
-      chip = chipIn (rowsFrom 31 2 v) r;
+      chip = chipIn (rowsFrom 31 3 v) r;
       phase = phaseOf (rowsFrom 21 10 v);
     }
 

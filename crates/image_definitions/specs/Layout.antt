@@ -25,22 +25,22 @@ widths =
     ∷ 1 ∷ 1
     -- trace of a settlement or of an upload's end, place of an item
     ∷ 4
-    -- chip: length of field 55, approved
-    ∷ 1 ∷ 1
+    -- chip: length of field 55, approved, for which amount
+    ∷ 1 ∷ 1 ∷ 8
     -- trace of the sign-on that is awaited, 0 for none
     ∷ 4 ∷ []
 
 -- how many they are
 abbrev pub rows : ℕ
-rows = 34
+rows = 35
 
 -- where the region of bytes stands: after the numbers
 abbrev pub regionOffset : ℕ
-regionOffset = 132
+regionOffset = 140
 
 -- the bytes of the image
 abbrev pub size : ℕ
-size = 407
+size = 415
 
 -- the last n bytes of x
 unfoldable pub bytesOf : ℕ → ℕ → List ℕ

@@ -44,6 +44,7 @@ pub record SizedTotals (t : Totals) : Type 0 where
 
 pub record SizedChip (c : Chip) : Type 0 where
   pub count : c .length < 2 ^ 8
+  pub amount : c .amount < 2 ^ 64
   pub field : length (c .bytes) ≡ 255
   pub field-bytes : Bytes (c .bytes)
   pub date : length (c .date) ≡ 2

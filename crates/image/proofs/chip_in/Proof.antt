@@ -74,18 +74,22 @@ low8-requires c κs = tt
 shared-slice-read-t34 : tie.Need-shared-slice-read-t34
 shared-slice-read-t34 c = search needs
 
+shared-slice-read-t37 : tie.Need-shared-slice-read-t37
+shared-slice-read-t37 c = search needs
+
 returns : tie.Need-returns
 returns c =
     let at-args = c .before .before .before .before .before .before .before .before .before .before .before .before .before .before .before
-    .before .before .before .before .before .before .args in
+    .before .before .before .before .before .before .before .args in
     let at-pre = c .before .before .before .before .before .before .before .before .before .before .before .before .before .before .before
-    .before .before .before .before .before .before .pre in
+    .before .before .before .before .before .before .before .pre in
     let at-copy = c .before .before .before .before .before .before .before .before .before .before .before .before .before .before .before
-    .before .copy in
-    let at-copy2 = c .before .before .before .before .before .before .before .before .before .before .before .before .copy2 in
-    let at-copy3 = c .before .before .before .before .before .before .before .before .copy3 in
-    let at-copy4 = c .before .before .before .before .copy4 in
-    chip-copied (now (at-args .v)) (now (at-args .region)) (at-pre .1) (c .before .low8 .ensures) (at-copy .ensures .1)
+    .before .before .copy in
+    let at-copy2 = c .before .before .before .before .before .before .before .before .before .before .before .before .before .copy2 in
+    let at-copy3 = c .before .before .before .before .before .before .before .before .before .copy3 in
+    let at-copy4 = c .before .before .before .before .before .copy4 in
+    let at-low8 = c .before .before .low8 in
+    chip-copied (now (at-args .v)) (now (at-args .region)) (at-pre .1) (at-low8 .ensures) (at-copy .ensures .1)
     (at-copy2 .ensures .1) (at-copy3 .ensures .1) (at-copy4 .ensures .1)
 
 pub chip-in-spec : {M : Type 1} → statement M
@@ -115,4 +119,5 @@ chip-in-spec =
     shared-slice-read-low8
     low8-requires
     shared-slice-read-t34
+    shared-slice-read-t37
     returns)

@@ -119,8 +119,11 @@ array-read-t110 c = lit< tt
 array-read-t113 : tie.Need-array-read-t113
 array-read-t113 c = lit< tt
 
-cast-t114 : tie.Need-cast-t114
-cast-t114 c = search needs
+array-read-t116 : tie.Need-array-read-t116
+array-read-t116 c = lit< tt
+
+cast-t117 : tie.Need-cast-t117
+cast-t117 c = search needs
 
 returns : tie.Need-returns
 returns c =
@@ -175,5 +178,6 @@ values-of-spec =
     array-read-t107
     array-read-t110
     array-read-t113
-    cast-t114
+    array-read-t116
+    cast-t117
     returns)
