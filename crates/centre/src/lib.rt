@@ -1,5 +1,6 @@
 // The simulated centre: what it answers to a message that left.
 use centre_types::Left;
+use digits::Number;
 use message::Contents;
 use message::Head;
 use message::Message;
@@ -7,31 +8,39 @@ ghost use mathlib.Core.Path.{_≡_};
 ghost use Prim.Native.Nat.{_*_, _≤_};
 ghost use Rattle.message.specs.Message.{whole};
 ghost use Rattle.message.specs.Build.{digits, bytes};
+ghost use Rattle.parts.specs.Parts.{numberIn};
 ghost use Rattle.compose.specs.Compose.{withItem, withAll};
 ghost use Rattle.centre_totals.specs.Totals.{field48With};
-ghost use Rattle.centre.specs.Centre.{sentNumber, digitsSent, bytesSent, ownFields, sentFields, traceFigures, macField, authorisationField, approvalFields, alsoTo, usualReply, broughtNumber, keyField, signOnReply, reply, reconciliation};
+ghost use Rattle.centre.specs.Centre.{sentNumber, digitsSent, bytesSent, ownFields, codesCount, sentFields, traceFigures, macField, isGiven, answeredAmount, authorisationField, approvalFields, alsoTo, usualReply, broughtNumber, keyField, signOnReply, reply, reconciliation};
 
-// The answer to a message that left, with this code: to a card request on this date, to a sign-on with this batch number, where one
-// above 999999 stands for the number as sent.
-pub fn reply(sent: Message, date: u16, batch: u32, code: [u8; 2]) -> Message
-    ensures { λ r. ⌜ r ≡ reply sent date batch code ⌝ }
+// The answer to a message that left, with this code: to a card request on this date and with this amount, where one that is not
+// given stands for the amount as sent; to a sign-on with this batch number, where one above 999999 stands for the number as sent.
+pub fn reply(sent: Message, date: u16, batch: u32, code: [u8; 2], amount: u64) -> Message
+    ensures { λ r. ⌜ r ≡ reply sent date batch code amount ⌝ }
 {
     if sent.indicator == 0x0800 {
         return sign_on_reply(sent, batch, code);
     }
-    usual_reply(sent, date, code)
+    usual_reply(sent, date, code, amount)
+}
+
+// Whether an amount is given: one of more than twelve digits stands for none.
+pub fn is_given(amount: u64) -> bool
+    ensures { λ r. ⌜ r ≡ isGiven amount ⌝ }
+{
+    amount <= 999999999999
 }
 
 // The answer to anything but a sign-on.
-fn usual_reply(sent: Message, date: u16, code: [u8; 2]) -> Message
-    ensures { λ r. ⌜ r ≡ usualReply sent date code ⌝ }
+fn usual_reply(sent: Message, date: u16, code: [u8; 2], amount: u64) -> Message
+    ensures { λ r. ⌜ r ≡ usualReply sent date code amount ⌝ }
 {
     let left = centre_types::left_as(sent.indicator);
     let mut contents = [0u8; message::ROOM];
     let h = compose::typed(centre_types::answer_type(sent.indicator));
     let as_sent = with_sent_fields(h, sent, &mut contents);
     let h39 = compose::with_bytes(as_sent, 39, &code, &mut contents);
-    let all = with_also(h39, left, sent, date, code, &mut contents);
+    let all = with_also(h39, left, sent, date, code, amount, &mut contents);
     message::joined(all, contents)
 }
 
@@ -89,7 +98,17 @@ fn with_sent_fields(h: Head, sent: Message, contents: &mut Contents) -> Head
     ensures { λ r. ⌜ whole r (now (contents .exit)) ≡ withAll (sentFields sent) (whole h (now (contents .entry))) ⌝ }
 {
     let own = with_own_fields(h, sent, contents);
-    with_digits_sent(own, 60, 11, sent, contents)
+    with_digits_sent(own, 60, codes_count(sent), sent, contents)
+}
+
+// How many digits field 60 was sent with.
+fn codes_count(sent: Message) -> u8
+    ensures { λ r. ⌜ r ≡ codesCount (numberIn sent 60 0 14) ⌝ }
+{
+    match parts::number_in(message::head_of(sent), &sent.contents, 60, 0, 14) {
+        Number::Is(_) => 14,
+        Number::Not => 11,
+    }
 }
 
 // So many digits of field n as a number.
@@ -134,10 +153,26 @@ fn with_trace_figures(h: Head, n: u8, pairs: usize, sent: Message, contents: &mu
     compose::with_bytes(h, n, &text[..end], contents)
 }
 
-fn with_authorisation(h: Head, sent: Message, code: [u8; 2], contents: &mut Contents) -> Head
-    ensures { λ r. ⌜ whole r (now (contents .exit)) ≡ withAll (authorisationField sent code) (whole h (now (contents .entry))) ⌝ }
+// Field 4 of the answer to a card request as a number.
+fn answered_amount(sent: Message, amount: u64) -> u64
+    ensures { λ r. ⌜ r ≡ answeredAmount amount sent ⌝ }
 {
-    if centre_types::is_approval(code) {
+    if is_given(amount) {
+        return amount;
+    }
+    number_sent(sent, 4, 12)
+}
+
+fn with_authorisation(
+    h: Head,
+    sent: Message,
+    code: [u8; 2],
+    amount: u64,
+    contents: &mut Contents,
+) -> Head
+    ensures { λ r. ⌜ whole r (now (contents .exit)) ≡ withAll (authorisationField sent code amount) (whole h (now (contents .entry))) ⌝ }
+{
+    if centre_types::is_approval(code) | is_given(amount) {
         return with_trace_figures(h, 38, 3, sent, contents);
     }
     h
@@ -156,14 +191,15 @@ fn with_approval_fields(
     sent: Message,
     date: u16,
     code: [u8; 2],
+    amount: u64,
     contents: &mut Contents,
 ) -> Head
-    ensures { λ r. ⌜ whole r (now (contents .exit)) ≡ withAll (approvalFields sent date code) (whole h (now (contents .entry))) ⌝ }
+    ensures { λ r. ⌜ whole r (now (contents .exit)) ≡ withAll (approvalFields sent date code amount) (whole h (now (contents .entry))) ⌝ }
 {
-    let h4 = with_digits_sent(h, 4, 12, sent, contents);
+    let h4 = compose::with_number(h, 4, 12, answered_amount(sent, amount), contents);
     let h13 = compose::with_number(h4, 13, 4, date as u64, contents);
     let h37 = with_trace_figures(h13, 37, 6, sent, contents);
-    let h38 = with_authorisation(h37, sent, code, contents);
+    let h38 = with_authorisation(h37, sent, code, amount, contents);
     with_mac(h38, contents)
 }
 
@@ -173,13 +209,14 @@ fn with_also(
     sent: Message,
     date: u16,
     code: [u8; 2],
+    amount: u64,
     contents: &mut Contents,
 ) -> Head
-    ensures { λ r. ⌜ whole r (now (contents .exit)) ≡ withAll (alsoTo left sent date code) (whole h (now (contents .entry))) ⌝ }
+    ensures { λ r. ⌜ whole r (now (contents .exit)) ≡ withAll (alsoTo left sent date code amount) (whole h (now (contents .entry))) ⌝ }
 {
     match left {
         Left::Nothing => h,
-        Left::Request => with_approval_fields(h, sent, date, code, contents),
+        Left::Request => with_approval_fields(h, sent, date, code, amount, contents),
         Left::Reversal => with_mac(h, contents),
         Left::Settlement => h,
         Left::Upload => h,

@@ -1,19 +1,21 @@
 -- An answer that repeats the fields of what left is written, and what is written matches.
 use mathlib.Core.Path.{_≡_, refl, _∙_}
-use mathlib.Core.List.{List}
+use mathlib.Core.List.{List, [], _∷_}
 use mathlib.Core.Bool.{true, _||_, or-true}
 use Prim.Native.Nat.{ℕ, _+_, _≤_, _<_}
 use native.Mathlib.Omega.{arith}
 use lib.ListN.{length}
 use borrow.Author.Tests.{eq-eqb}
+use Rattle.digits.specs.Lists.{sameBytes}
 use Rattle.digits.proofs.Lists.{same-bytes}
 use Rattle.digits.specs.declared.Number.{Number}
 use Rattle.digits.specs.declared.Number.the-variants.{Is}
 use Rattle.field.specs.Bitmap.{names}
-use Rattle.field.specs.Table.{among, formats, indicators, variable}
+use Rattle.field.specs.Table.{among, formats, indicators, variable, codes}
 use Rattle.field.specs.declared.Class.the-variants.{Digits, Printable}
-use Rattle.field.specs.declared.Prefix.the-variants.{Absent, Two}
-use Rattle.message.specs.Build.{Item, has, find, messageOf}
+use Rattle.field.specs.declared.Prefix.the-variants.{Absent}
+use Rattle.field.proofs.Contents.{allowed-bounds}
+use Rattle.message.specs.Build.{Item, bytes, has, find, messageOf}
 use Rattle.message.specs.Message.{Field, fieldOf, largest}
 use Rattle.message.specs.declared.Message.{Message}
 use Rattle.reading.specs.Reading.{readMessage}
@@ -26,11 +28,13 @@ use Rattle.outgoing.proofs.Leaving.{written-is}
 use Rattle.outgoing_theorems.specs.Theorems.{outgoingBytes, Reads}
 use Rattle.outgoing_theorems.proofs.Theorems.{sent-reads-back}
 use Rattle.message.specs.Located.{located, formatOf}
+use Rattle.message_theorems.specs.Readable.{Keeps}
 use Rattle.message_theorems.proofs.Readable.{read-keeps-formats}
-use Rattle.centre.specs.Centre.{digitsSent, bytesSent}
-use Rattle.history.specs.Words.{messageIn, isSignOn, sameField, sameNumber, matchesMessage, holdsItsFields, isMatching}
+use Rattle.message_theorems.proofs.Partial.{codes-read}
+use Rattle.centre.specs.Centre.{digitsSent, codesSent, bytesSent}
+use Rattle.history.specs.Words.{messageIn, isSignOn, sameField, sameNumber, codeIs, matchesMessage, holdsItsFields, isMatching}
 use Rattle.centre_theorems.specs.Theorems.{HasLeft, Answers}
-use Rattle.centre_theorems.proofs.Kept.{OfDigits, OfText, of-digits, of-text, part-is, digits-sent, bytes-sent}
+use Rattle.centre_theorems.proofs.Kept.{OfDigits, OfText, of-digits, of-text, of-codes, part-is, digits-sent, codes-sent, bytes-sent}
 
 -- the formats of the fields that are repeated
 format-4 : formatOf 4 ≡ variable 4 Digits Absent 12 12
@@ -49,7 +53,7 @@ format-42 : formatOf 42 ≡ variable 42 Printable Absent 15 15
 unfolding located formats
 format-42 = refl
 
-format-60 : formatOf 60 ≡ variable 60 Digits Two 11 11
+format-60 : formatOf 60 ≡ codes 60
 unfolding located formats
 format-60 = refl
 
@@ -58,17 +62,25 @@ pub record InForm (m : Message) : Type 0 where
   pub trace : OfDigits 6 (fieldOf m 11)
   pub terminal : OfText 8 (fieldOf m 41)
   pub merchant : OfText 15 (fieldOf m 42)
-  pub batch : OfDigits 11 (fieldOf m 60)
+  pub codes-form : OfDigits (fieldOf m 60 .count) (fieldOf m 60)
+  pub codes-bounds : (11 ≤ fieldOf m 60 .count) × (fieldOf m 60 .count ≤ 14)
+  pub codes-repeated : codesSent m .field ≡ fieldOf m 60
 
 module _ (b : List ℕ) (h : HasLeft b) where
   pub in-form : InForm (messageIn b)
   in-form =
+      let m = messageIn b in
       let keeps = read-keeps-formats b (h .reads) in
+      let k : Keeps (codes 60) (fieldOf m 60) = rw format-60 at (keeps 60 (h .batch)) in
+      let f = of-codes 60 (fieldOf m 60) k in
+      let w = allowed-bounds (codes 60) (fieldOf m 60 .count) (k .allows) in
       record {
         trace = of-digits 11 6 Absent _ (rw format-11 at (keeps 11 (h .trace)));
         terminal = of-text 41 8 Absent _ (rw format-41 at (keeps 41 (h .terminal)));
         merchant = of-text 42 15 Absent _ (rw format-42 at (keeps 42 (h .merchant)));
-        batch = of-digits 60 11 Two _ (rw format-60 at (keeps 60 (h .batch)));
+        codes-form = f;
+        codes-bounds = w;
+        codes-repeated = codes-sent m (h .batch) (fieldOf m 60 .count) f (codes-read b (h .reads) (h .batch)) (w .1);
       }
 
   pub amount-in-form : names (messageIn b .bitmap) 4 ≡ true → OfDigits 12 (fieldOf (messageIn b) 4)
@@ -94,6 +106,11 @@ module _ (s : List ℕ) {i : ℕ} {xs : List Item} (r : Reads i xs (readMessage 
   unfolding sameField
   field-repeated n p q h = rw (r .named n p q, h .0, r .fields n (h .0), h .1) (same-bytes (fieldOf m n .bytes))
 
+  -- its code
+  pub code-read : (code : List ℕ) → Holds xs 39 (bytes 39 code .field) → (x y : ℕ) → codeIs x y (messageIn s) ≡ sameBytes code (x ∷ y ∷ [])
+  unfolding codeIs
+  code-read code h x y = rw (r .named 39 (omega arith) (omega arith), h .0, r .fields 39 (h .0), h .1)
+
   number-repeated : (n at k : ℕ) → 0 < n → n ≤ 64 → Holds xs n (fieldOf m n) → names (m .bitmap) n ≡ true
       → numberIn (messageIn s) n at k ≡ numberIn m n at k
   unfolding numberIn
@@ -104,15 +121,16 @@ same-number x y n e q = rw (e, q) (eq-eqb n n refl)
 
 -- what is written of an answer to b
 module _ (b : List ℕ) (left : HasLeft b) (s : List ℕ) {i : ℕ} {xs : List Item} (r : Reads i xs (readMessage s)) where
-  pub batch-repeated : Holds xs 60 (digitsSent 60 11 (messageIn b) .field) → BatchMatches b s
+  pub batch-repeated : Holds xs 60 (codesSent (messageIn b) .field) → BatchMatches b s
   batch-repeated h =
       let m = messageIn b in
       let f = in-form b left in
-      let p : Holds xs 60 (fieldOf m 60) = (h .0, h .1 ∙ digits-sent m 60 (left .batch) 11 (f .batch) (omega arith)) in
+      let w = f .codes-bounds in
+      let p : Holds xs 60 (fieldOf m 60) = (h .0, h .1 ∙ f .codes-repeated) in
       let n : numberIn (messageIn s) 60 2 6 ≡ numberIn m 60 2 6 =
       number-repeated s r m 60 2 6 (omega arith) (omega arith) p (left .batch) in
       rw (same-number (partOf (messageIn s) part.Batch) (partOf m part.Batch) _ n
-      (part-is m 60 (left .batch) 11 2 6 (f .batch) (omega arith) (omega arith)))
+      (part-is m 60 (left .batch) (fieldOf m 60 .count) 2 6 (f .codes-form) (omega arith) (omega arith)))
       (or-true (isSignOn m))
 
   pub repeated : i ≡ messageIn b .indicator + 0x10 → Repeats (messageIn b) xs → BatchMatches b s

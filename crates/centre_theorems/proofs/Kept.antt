@@ -1,20 +1,22 @@
 -- Fields of a message that was read: sent back as numbers or bytes they are the fields themselves.
 use mathlib.Core.Path.{_≡_, refl, sym, _∙_}
-use mathlib.Core.List.{List}
-use mathlib.Core.Bool.{Bool, true, false, cond}
-use Prim.Native.Nat.{ℕ, _+_, _≤_}
+use mathlib.Core.List.{List, [], _∷_}
+use mathlib.Core.Bool.{Bool, true, false, cond, true≢false}
+use Prim.Native.Nat.{ℕ, _+_, _^_, _≤_, _<_}
 use native.Mathlib.Omega.{arith}
+use native.Mathlib.Decide.{ℕ-discrete}
 use lib.ListN.{length, take, drop, length-drop}
 use lib.Seq.{length-take-le, getD-take, getD-drop, take-all}
-use borrow.Author.Tests.{eq-eqb, le-leb}
+use borrow.Author.Tests.{eq-eqb, ne-eqb, le-leb, lt-leb}
 use Rattle.digits.specs.Digits.{unpack, isPacked, allDigits}
 use Rattle.digits.specs.Numbers.{value}
-use Rattle.digits.specs.declared.Number.the-variants.{Is}
+use Rattle.digits.specs.Packed.{numeral}
+use Rattle.digits.specs.declared.Number.the-variants.{Is, Not}
 use Rattle.digits.proofs.Packing.{length-unpack, digit-at, digits-all, unpack-digits}
-use Rattle.digits.proofs.Numbers.{length-digitsOf, number-is}
+use Rattle.digits.proofs.Numbers.{length-digitsOf, value-below, number-is}
 use Rattle.field.specs.Bitmap.{names}
 use Rattle.field.specs.Contents.{allPrintable}
-use Rattle.field.specs.Table.{variable}
+use Rattle.field.specs.Table.{among, variable, codes}
 use Rattle.field.specs.declared.Class.the-variants.{Digits, Printable}
 use Rattle.field.specs.declared.Prefix.{Prefix}
 use Rattle.field.proofs.Contents.{allowed-bounds, digits-packed}
@@ -24,7 +26,7 @@ use Rattle.digits.specs.Packed.{packedNumber}
 use Rattle.digits.proofs.Packed.{number-packs, number-value}
 use Rattle.parts.specs.Parts.{copies, numberIn}
 use Rattle.message_theorems.specs.Readable.{Keeps}
-use Rattle.centre.specs.Centre.{digitsSent, bytesSent}
+use Rattle.centre.specs.Centre.{digitsSent, codesCount, codesSent, bytesSent}
 
 -- a field of k digits, and one of k printable bytes
 pub record OfDigits (k : ℕ) (x : Field) : Type 0 where
@@ -53,6 +55,9 @@ module _ (n k : ℕ) (prefix : Prefix) (x : Field) where
       let e : x .count ≡ k = omega arith in
       record { count = e; size = r .size-is ∙ e; printable = text-fault (allPrintable (x .bytes)) (r .no-fault) }
 
+pub of-codes : (n : ℕ) (x : Field) → Keeps (codes n) x → OfDigits (x .count) x
+of-codes n x r = record { count = refl; packed = digits-packed (x .count) (x .bytes) (r .no-fault) }
+
 -- a part of a list of digits
 part-digits : (i k : ℕ) (ds : List ℕ) → i + k ≤ length ds → allDigits ds ≡ true
     → (length (take k (drop i ds)) ≡ k) × (allDigits (take k (drop i ds)) ≡ true)
@@ -70,6 +75,12 @@ module _ (m : Message) (n : ℕ) (named : names (m .bitmap) n ≡ true) where
       let p = part-digits i k ds (rw length-unpack h) (unpack-digits c (fieldOf m n .bytes) (d .packed)) in
       rw (named, d .count, le-leb (i + k) c h) (number-is (take k (drop i ds)) (omega (arith, p .0)) (p .1))
 
+  pub part-below : (c i k : ℕ) → OfDigits c (fieldOf m n) → i + k ≤ c → k ≤ 19 → numeral (numberIn m n i k) < 10 ^ k
+  part-below c i k d h s =
+      let ds = unpack c (fieldOf m n .bytes) in
+      let p = part-digits i k ds (rw length-unpack h) (unpack-digits c (fieldOf m n .bytes) (d .packed)) in
+      rw (part-is c i k d h s) (rw (p .0) at (value-below (take k (drop i ds)) (p .1)))
+
   pub digits-sent : (k : ℕ) → OfDigits k (fieldOf m n) → k ≤ 19 → digitsSent n k m .field ≡ fieldOf m n
   digits-sent k d s =
       let b = fieldOf m n .bytes in
@@ -84,3 +95,21 @@ module _ (m : Message) (n : ℕ) (named : names (m .bitmap) n ≡ true) where
 
   pub bytes-sent : (k : ℕ) → OfText k (fieldOf m n) → bytesSent n k m .field ≡ fieldOf m n
   bytes-sent k d = rw (copies-all k d, d .size, ← d .count)
+
+-- field 60 of 11 or 14 digits: only 14 of them say a number of 14
+module _ (m : Message) (named : names (m .bitmap) 60 ≡ true) (c : ℕ) (d : OfDigits c (fieldOf m 60)) (l : among c (11 ∷ 14 ∷ []) ≡ true)
+    (most : c ≤ 14) where
+  too-few : c < 14 → numberIn m 60 0 14 ≡ Not
+  unfolding numberIn
+  too-few h = rw (named, d .count, lt-leb 14 c h)
+
+  codes-count : codesCount (numberIn m 60 0 14) ≡ c
+  codes-count = go (ℕ-discrete 11 c) (ℕ-discrete 14 c)
+    where
+      go : Dec (11 ≡ c) → Dec (14 ≡ c) → codesCount (numberIn m 60 0 14) ≡ c
+      go (yes e) b = rw (too-few (omega arith)) e
+      go (no a) (yes e) = rw (part-is m 60 named c 0 14 d (omega arith) (omega arith)) e
+      go (no a) (no b) = absurd (true≢false (sym l ∙ rw (ne-eqb 11 c a, ne-eqb 14 c b)))
+
+  pub codes-sent : codesSent m .field ≡ fieldOf m 60
+  codes-sent = rw codes-count (digits-sent m 60 named c d (omega arith))

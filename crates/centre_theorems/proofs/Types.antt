@@ -1,7 +1,7 @@
 -- The types that leave, and those of their answers.
-use mathlib.Core.Path.{_≡_, refl, sym}
+use mathlib.Core.Path.{_≡_, refl, sym, _∙_}
 use mathlib.Core.List.{[], _∷_}
-use mathlib.Core.Bool.{Bool, true, false}
+use mathlib.Core.Bool.{Bool, true, false, true≢false}
 use Prim.Native.Nat.{ℕ, _+_}
 use native.Mathlib.Decide.{ℕ-discrete}
 use lib.Dec.{eqb}
@@ -54,4 +54,27 @@ leaves i h =
           ne-eqb i 0x0400 f,
           ne-eqb i 0x0500 g,
           ne-eqb i 0x0800 k,
+        )))
+
+-- the type of a card request
+pub record RequestType (i : ℕ) : Type 0 where
+  pub no-settlement : eqb i 0x0500 ≡ false
+  pub no-sign-on : eqb i 0x0800 ≡ false
+  pub left-is : leftAs i ≡ Request
+
+pub request-type : (i : ℕ) → among i (0x0100 ∷ 0x0200 ∷ 0x0220 ∷ []) ≡ true → RequestType i
+unfolding leftAs
+request-type i h = go (ℕ-discrete i 0x0100) (ℕ-discrete i 0x0200) (ℕ-discrete i 0x0220)
+  where
+    go : Dec (i ≡ 0x0100) → Dec (i ≡ 0x0200) → Dec (i ≡ 0x0220) → RequestType i
+    go (yes e) b c = rw e (record { no-settlement = refl; no-sign-on = refl; left-is = refl })
+    go (no a) (yes e) c = rw e (record { no-settlement = refl; no-sign-on = refl; left-is = refl })
+    go (no a) (no b) (yes e) = rw e (record { no-settlement = refl; no-sign-on = refl; left-is = refl })
+    go (no a) (no b) (no c) =
+        absurd
+        (true≢false (sym h
+        ∙ rw (
+          ne-eqb 0x0100 i (λ q. a (sym q)),
+          ne-eqb 0x0200 i (λ q. b (sym q)),
+          ne-eqb 0x0220 i (λ q. c (sym q)),
         )))

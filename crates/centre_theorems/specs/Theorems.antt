@@ -1,6 +1,6 @@
 -- What is proved of the simulated centre's answers, for every message that left: they are written, and they match.
 use mathlib.Core.Path.{_≡_}
-use mathlib.Core.List.{List}
+use mathlib.Core.List.{List, [], _∷_}
 use mathlib.Core.Bool.{true, false}
 use Prim.Native.Nat.{ℕ, _≤_}
 use lib.Dec.{eqb}
@@ -20,10 +20,10 @@ use Rattle.call_definitions.specs.Events.{Event, call}
 use Rattle.call_definitions.specs.Shapes.{SettingsShaped, EventShaped}
 use Rattle.outgoing_theorems.specs.Theorems.{outgoingBytes}
 use Rattle.centre_types.specs.Types.{leftAs}
-use Rattle.centre.specs.Centre.{reply, reconciliation}
+use Rattle.centre.specs.Centre.{isGiven, answeredAmount, reply, reconciliation}
 use Rattle.centre_types.specs.declared.Left.{Left}
 use Rattle.centre_types.specs.declared.Left.the-variants as left
-use Rattle.history.specs.Words.{messageIn, isMatching, digitIn, batchIn}
+use Rattle.history.specs.Words.{messageIn, kindIn, amountIn, isRequest, approvesRequest, isMatching, digitIn, batchIn}
 
 -- what a message that left holds beside the fields of all: a card request its amount, a settlement its totals
 abbrev pub HoldsIts : Left → Message → Type 0
@@ -59,10 +59,32 @@ pub record Answers (b o : List ℕ) (answer : Message) : Type 0 where
   pub accepted : writeMessage answer o .outcome ≡ Written size
   pub matching : isMatching (messageIn b) (outgoingBytes answer o) ≡ true
 
+-- document 02, request 4: the amount that a card request is answered with, given or as sent, is for 00 the amount asked for, and for a
+-- sale's 10 from 1 to that
+pub record Answerable (m : Message) (code : List ℕ) (amount : ℕ) : Type 0 where
+  pub whole : code ≡ 0x30 ∷ 0x30 ∷ [] → answeredAmount amount m ≡ amountIn m
+  pub part : code ≡ 0x31 ∷ 0x30 ∷ [] → kindIn m ≡ 22 → (1 ≤ answeredAmount amount m) × (answeredAmount amount m ≤ amountIn m)
+
+-- as it is where no amount is given
+abbrev pub AsSentAnswerable : Type 0
+AsSentAnswerable = (m : Message) (code : List ℕ) (amount : ℕ) → isGiven amount ≡ false → 1 ≤ amountIn m → Answerable m code amount
+
 -- a reply answers all that left but a settlement and a sign-on, whatever its code, its date and the centre's batch number
 abbrev pub ReplyAnswers : Type 0
-ReplyAnswers = (b o : List ℕ) (date batch : ℕ) (code : List ℕ) → HasLeft b → eqb (messageIn b .indicator) 0x0500 ≡ false
-    → eqb (messageIn b .indicator) 0x0800 ≡ false → IsCode code → largest ≤ length o → Answers b o (reply (messageIn b) date batch code)
+ReplyAnswers = (b o : List ℕ) (date batch : ℕ) (code : List ℕ) (amount : ℕ) → HasLeft b → eqb (messageIn b .indicator) 0x0500 ≡ false
+    → eqb (messageIn b .indicator) 0x0800 ≡ false → IsCode code → (isRequest (messageIn b) ≡ true → Answerable (messageIn b) code amount)
+    → largest ≤ length o → Answers b o (reply (messageIn b) date batch code amount)
+
+-- a reply of 10 with an amount from 1 to the amount asked for approves a sale, for that amount
+pub record ApprovesPart (b o : List ℕ) (amount : ℕ) (answer : Message) : Type 0 where
+  pub answers : Answers b o answer
+  pub approves : approvesRequest (messageIn b) (messageIn (outgoingBytes answer o)) ≡ true
+  pub answered : amountIn (messageIn (outgoingBytes answer o)) ≡ amount
+
+abbrev pub PartAnswers : Type 0
+PartAnswers = (b o : List ℕ) (date batch amount : ℕ) → HasLeft b → isRequest (messageIn b) ≡ true → kindIn (messageIn b) ≡ 22 → 1 ≤ amount
+    → amount ≤ amountIn (messageIn b) → largest ≤ length o
+    → ApprovesPart b o amount (reply (messageIn b) date batch (0x31 ∷ 0x30 ∷ []) amount)
 
 -- a reply answers a sign-on, whatever its code, and brings the batch number that the centre gives
 pub record SignsOnIn (b o : List ℕ) (batch : ℕ) (answer : Message) : Type 0 where
@@ -70,8 +92,8 @@ pub record SignsOnIn (b o : List ℕ) (batch : ℕ) (answer : Message) : Type 0 
   pub brought : batchIn (messageIn (outgoingBytes answer o)) ≡ batch
 
 abbrev pub SignOnReplyAnswers : Type 0
-SignOnReplyAnswers = (b o : List ℕ) (date batch : ℕ) (code : List ℕ) → HasLeft b → eqb (messageIn b .indicator) 0x0800 ≡ true → 1 ≤ batch
-    → batch ≤ 999999 → IsCode code → largest ≤ length o → SignsOnIn b o batch (reply (messageIn b) date batch code)
+SignOnReplyAnswers = (b o : List ℕ) (date batch : ℕ) (code : List ℕ) (amount : ℕ) → HasLeft b → eqb (messageIn b .indicator) 0x0800 ≡ true → 1 ≤ batch
+    → batch ≤ 999999 → IsCode code → largest ≤ length o → SignsOnIn b o batch (reply (messageIn b) date batch code amount)
 
 -- a reconciliation of digit 1, 2 or 3 answers a settlement, and carries that digit
 pub record Reconciles (b o : List ℕ) (digit : ℕ) : Type 0 where

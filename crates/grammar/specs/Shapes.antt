@@ -30,6 +30,10 @@ isEmpty w = eqb (length w) 0
 unfoldable pub isDash : List ℕ → Bool
 isDash w = sameBytes w (0x2D ∷ [])
 
+-- a MAC is bad
+unfoldable pub isBad : List ℕ → Bool
+isBad w = sameBytes w (text "bad")
+
 -- hexadecimal of at most 2,048 bytes
 unfoldable pub isBytes : List ℕ → Bool
 isBytes w = isHex w && leb (length w / 2) 2048
@@ -39,7 +43,7 @@ unfoldable pub isField55 : List ℕ → Bool
 isField55 w = isDash w || not (isEmpty w) && leb (length w / 2) 300 && isBytes w
 
 -- a word is what it must be: a number up to some, a card of up to 19 digits, a text of n bytes, a date MMDD, a code of two
--- printable characters
+-- printable characters, bad or no word or also an amount of up to twelve digits
 abbrev pub fits : Shape → List ℕ → Bool
 fits (Numeral most) w = isIs (numberUpTo most w)
 fits Card w = isIs (numberIn 19 w)
@@ -52,8 +56,8 @@ fits Field55OrNone w = sameBytes w (text "none") || isField55 w
 fits Date w = eqb (length w) 4 && isIs (numberIn 4 w)
 fits Code w = eqb (length w) 2 && allPrintable w
 fits Bytes w = not (isEmpty w) && isBytes w
-fits Mac w = isGood w || sameBytes w (text "bad")
-fits Bad w = isEmpty w || sameBytes w (text "bad")
+fits Mac w = isGood w || isBad w
+fits (Bad amount) w = isEmpty w || isBad w || amount && isIs (numberUpTo 999999999999 w)
 fits Switch w = sameBytes w (text "on") || sameBytes w (text "off")
 fits Any w = true
 fits End w = isEmpty w
@@ -72,7 +76,7 @@ isEnd Date = false
 isEnd Code = false
 isEnd Bytes = false
 isEnd Mac = false
-isEnd Bad = false
+isEnd (Bad amount) = false
 isEnd Switch = false
 isEnd Any = false
 isEnd End = true

@@ -1,5 +1,6 @@
 -- The table of the commands: what each is called, and what its words must be.
 use mathlib.Core.List.{List, [], _∷_, _++_}
+use mathlib.Core.Bool.{true, false}
 use Prim.Native.Nat.{ℕ}
 use lib.ListN.{getD}
 use Rattle.texts.specs.Text.{text}
@@ -22,7 +23,7 @@ commands =
     ++ text "refund amount card text12 date\n"
     ++ text "start word8 amount card? word32 text12? text6? word8 word8 field55?\n"
     ++ text "answer bytes mac\n"
-    ++ text "reply code bad?\n"
+    ++ text "reply code answered? bad?\n"
     ++ text "reconcile digit\n"
     ++ text "date date\n"
     ++ text "centre-batch batch\n"
@@ -65,6 +66,7 @@ shapeNames =
     ++ text "code\n"
     ++ text "bytes\n"
     ++ text "mac\n"
+    ++ text "answered?\n"
     ++ text "bad?\n"
     ++ text "switch\n"
     ++ text "any\n"
@@ -91,14 +93,15 @@ shapes =
     ∷ Code
     ∷ Bytes
     ∷ Mac
-    ∷ Bad
+    ∷ Bad true
+    ∷ Bad false
     ∷ Switch
     ∷ Any
     ∷ End
     ∷ []
 
 unfoldable pub shapeNamed : List ℕ → Shape
-shapeNamed w = getD shapes (rowNamed 23 w shapeNames) End
+shapeNamed w = getD shapes (rowNamed 24 w shapeNames) End
 
 -- what word i of a line must be, where the line has row k
 unfoldable pub shapeAt : ℕ → ℕ → Shape

@@ -2,6 +2,7 @@
 mod shapes;
 mod table;
 
+pub use shapes::is_bad;
 pub use shapes::line_fault;
 pub use table::row_of;
 
@@ -19,7 +20,7 @@ pub enum Shape {
     Code,
     Bytes,
     Mac,
-    Bad,
+    Bad(bool),
     Switch,
     Any,
     End,

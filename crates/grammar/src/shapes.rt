@@ -8,7 +8,7 @@ use hexadecimal::Hex;
 ghost use mathlib.Core.Path.{_≡_};
 ghost use Prim.Native.Nat.{_<_};
 ghost use Rattle.word_values.specs.Values.{isText};
-ghost use Rattle.grammar.specs.Shapes.{isIs, isDash, isBytes, isField55, fits, isEnd, judged, lineFault};
+ghost use Rattle.grammar.specs.Shapes.{isIs, isDash, isBad, isBytes, isField55, fits, isEnd, judged, lineFault};
 
 // The first fault of a line's words after the first, where the line has row k of the table.
 pub fn line_fault(k: usize, s: &[u8]) -> Verdict
@@ -42,6 +42,13 @@ fn is_dash(w: &[u8]) -> bool
     ensures { λ r. ⌜ r ≡ isDash (now (w .entry)) ⌝ }
 {
     digits::same(w, b"-")
+}
+
+// Whether a word says that a MAC is bad.
+pub fn is_bad(w: &[u8]) -> bool
+    ensures { λ r. ⌜ r ≡ isBad (now (w .entry)) ⌝ }
+{
+    digits::same(w, b"bad")
 }
 
 fn is_text(n: u8, w: &[u8]) -> bool
@@ -86,8 +93,12 @@ fn fits(shape: Shape, w: &[u8]) -> bool
         Shape::Date => (w.len() == 4) & is_number(word_values::decimal_in(4, w)),
         Shape::Code => (w.len() == 2) & field::all_printable(w),
         Shape::Bytes => (w.len() != 0) & is_hexadecimal(w),
-        Shape::Mac => word_values::is_good(w) | digits::same(w, b"bad"),
-        Shape::Bad => (w.len() == 0) | digits::same(w, b"bad"),
+        Shape::Mac => word_values::is_good(w) | is_bad(w),
+        Shape::Bad(amount) => {
+            (w.len() == 0)
+                | is_bad(w)
+                | (amount & is_number(word_values::number_up_to(999999999999, w)))
+        }
         Shape::Switch => digits::same(w, b"on") | digits::same(w, b"off"),
         Shape::Any => true,
         Shape::End => w.len() == 0,
@@ -111,7 +122,7 @@ fn is_end(shape: Shape) -> bool
         Shape::Code => false,
         Shape::Bytes => false,
         Shape::Mac => false,
-        Shape::Bad => false,
+        Shape::Bad(_) => false,
         Shape::Switch => false,
         Shape::Any => false,
         Shape::End => true,

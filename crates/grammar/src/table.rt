@@ -5,7 +5,7 @@ ghost use Rattle.words.specs.Rows.{rowNamed};
 ghost use Rattle.grammar.specs.Table.{commands, shapeNamed, shapeAt};
 
 // A row for each command, and what its words must be; the last row is for all other lines.
-const COMMANDS: [u8; 575] = *b"terminal word32 word8 amount text8 text15
+const COMMANDS: [u8; 585] = *b"terminal word32 word8 amount text8 text15
 sign-on
 sale amount card chip? field55
 authorise amount card chip? field55
@@ -16,7 +16,7 @@ complete amount card text6 date
 refund amount card text12 date
 start word8 amount card? word32 text12? text6? word8 word8 field55?
 answer bytes mac
-reply code bad?
+reply code answered? bad?
 reconcile digit
 date date
 centre-batch batch
@@ -38,7 +38,7 @@ unknown any any any any any any any any any any
 ";
 
 // What words may be, by name; no word may stand where there is no name.
-const SHAPE_NAMES: [u8; 143] = *b"word32
+const SHAPE_NAMES: [u8; 153] = *b"word32
 word8
 digit
 batch
@@ -58,12 +58,13 @@ date
 code
 bytes
 mac
+answered?
 bad?
 switch
 any
 ";
 
-const SHAPES: [Shape; 24] = [
+const SHAPES: [Shape; 25] = [
     Shape::Number(4294967295),
     Shape::Number(255),
     Shape::Number(9),
@@ -84,7 +85,8 @@ const SHAPES: [Shape; 24] = [
     Shape::Code,
     Shape::Bytes,
     Shape::Mac,
-    Shape::Bad,
+    Shape::Bad(true),
+    Shape::Bad(false),
     Shape::Switch,
     Shape::Any,
     Shape::End,
@@ -111,8 +113,8 @@ fn shape_named(w: &[u8]) -> Shape
 {
     let names = SHAPE_NAMES;
     let shapes = SHAPES;
-    let k = words::row_named(23, w, &names);
-    if k < 24 {
+    let k = words::row_named(24, w, &names);
+    if k < 25 {
         return shapes[k];
     }
     Shape::End

@@ -79,7 +79,7 @@ pub changes-nothing : (k : Command) (x : Settings) (r : Rehearsal) → OneOf (1 
     → r ≡ changedBy k x r
 changes-nothing Terminal x r h = absurd (miss (1 ∷ 2 ∷ 3 ∷ 7 ∷ 8 ∷ []) 0 tt h)
 changes-nothing (Calls c w) x r h = refl
-changes-nothing (Reply a b good) x r h = refl
+changes-nothing (Reply a b amount good) x r h = refl
 changes-nothing (Reconcile digit) x r h = refl
 changes-nothing (Date d) x r h = absurd (miss (1 ∷ 2 ∷ 3 ∷ 7 ∷ 8 ∷ []) 4 tt h)
 changes-nothing (CentreBatch n) x r h = absurd (miss (1 ∷ 2 ∷ 3 ∷ 7 ∷ 8 ∷ []) 5 tt h)
@@ -91,7 +91,7 @@ pub no-bytes : (k : Command) (s : List ℕ) (m : Message) (date batch : ℕ) →
     → [] ≡ callBytes k s m date batch
 no-bytes Terminal s m date batch h = refl
 no-bytes (Calls c w) s m date batch h = absurd (miss (0 ∷ 4 ∷ 5 ∷ 6 ∷ 7 ∷ 8 ∷ []) 1 tt h)
-no-bytes (Reply a b good) s m date batch h = absurd (miss (0 ∷ 4 ∷ 5 ∷ 6 ∷ 7 ∷ 8 ∷ []) 2 tt h)
+no-bytes (Reply a b amount good) s m date batch h = absurd (miss (0 ∷ 4 ∷ 5 ∷ 6 ∷ 7 ∷ 8 ∷ []) 2 tt h)
 no-bytes (Reconcile digit) s m date batch h = absurd (miss (0 ∷ 4 ∷ 5 ∷ 6 ∷ 7 ∷ 8 ∷ []) 3 tt h)
 no-bytes (Date d) s m date batch h = refl
 no-bytes (CentreBatch n) s m date batch h = refl
@@ -103,7 +103,7 @@ says-nothing : (k : Command) (number : ℕ) (r : Rehearsal) (lent : Lent) → On
     → saidBy k number r lent ≡ []
 says-nothing Terminal number r lent h = refl
 says-nothing (Calls c w) number r lent h = refl
-says-nothing (Reply a b good) number r lent h = refl
+says-nothing (Reply a b amount good) number r lent h = refl
 says-nothing (Reconcile digit) number r lent h = refl
 says-nothing (Date d) number r lent h = refl
 says-nothing (CentreBatch x) number r lent h = refl

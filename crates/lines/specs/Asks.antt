@@ -18,7 +18,7 @@ use Rattle.words.specs.Words.{wordAt}
 use Rattle.grammar.specs.Shapes.{isBytes}
 use Rattle.script.specs.declared.Command.{Command}
 use Rattle.script.specs.declared.Command.the-variants as command
-use Rattle.centre.specs.Centre.{reply, reconciliation}
+use Rattle.centre.specs.Centre.{isGiven, reply, reconciliation}
 use Rattle.centre_types.specs.declared.Left.{Left}
 use Rattle.centre_types.specs.declared.Left.the-variants as left
 use Rattle.stage.specs.declared.Rehearsal.{Rehearsal}
@@ -26,14 +26,25 @@ use Rattle.stage.specs.Stage.{begun, dated, numbered, echoing}
 use Rattle.lines.specs.declared.asks.Asked.{Asked}
 use Rattle.lines.specs.declared.asks.Asked.the-variants as asked
 
--- reply answers what left last, unless that is a settlement; reconcile answers a settlement
-abbrev pub replyError : Left → ℕ
-replyError left.Nothing = 2
-replyError left.Request = 0
-replyError left.Reversal = 0
-replyError left.Settlement = 3
-replyError left.Upload = 0
-replyError left.SignOn = 0
+-- reply answers what left last, unless that is a settlement; with an amount it answers a card request; reconcile answers a settlement
+abbrev pub usualError : Left → ℕ
+usualError left.Nothing = 2
+usualError left.Request = 0
+usualError left.Reversal = 0
+usualError left.Settlement = 3
+usualError left.Upload = 0
+usualError left.SignOn = 0
+
+abbrev pub amountError : Left → ℕ
+amountError left.Nothing = 2
+amountError left.Request = 0
+amountError left.Reversal = 5
+amountError left.Settlement = 5
+amountError left.Upload = 5
+amountError left.SignOn = 5
+
+unfoldable pub replyError : ℕ → Left → ℕ
+replyError amount l = cond (isGiven amount) (amountError l) (usualError l)
 
 abbrev pub reconcileError : Left → ℕ
 reconcileError left.Nothing = 2
@@ -54,7 +65,7 @@ callOr error c = cond (eqb error 0) (asked.Call c) (asked.Error error)
 abbrev pub askedBy : Command → Bool → Left → Asked
 askedBy command.Terminal has-terminal l = asked.Error 0
 askedBy (command.Call c k) has-terminal l = callOr (errorAfter has-terminal 0) c
-askedBy (command.Reply a b good) has-terminal l = callOr (errorAfter has-terminal (replyError l)) (call.Answer good)
+askedBy (command.Reply a b amount good) has-terminal l = callOr (errorAfter has-terminal (replyError amount l)) (call.Answer good)
 askedBy (command.Reconcile digit) has-terminal l = callOr (errorAfter has-terminal (reconcileError l)) (call.Answer true)
 askedBy (command.Date d) has-terminal l = asked.Error 0
 askedBy (command.CentreBatch n) has-terminal l = asked.Error (errorAfter has-terminal 0)
@@ -66,7 +77,7 @@ askedBy (command.Wrong f) has-terminal l = asked.Error 0
 abbrev pub changedBy : Command → Settings → Rehearsal → Rehearsal
 changedBy command.Terminal x r = begun x r
 changedBy (command.Call c k) x r = r
-changedBy (command.Reply a b good) x r = r
+changedBy (command.Reply a b amount good) x r = r
 changedBy (command.Reconcile digit) x r = r
 changedBy (command.Date d) x r = dated d r
 changedBy (command.CentreBatch n) x r = numbered n r
@@ -96,7 +107,7 @@ hexLength TooLong = 0
 abbrev pub callBytes : Command → List ℕ → Message → ℕ → ℕ → List ℕ
 callBytes command.Terminal s m date batch = []
 callBytes (command.Call c k) s m date batch = bytesIn (wordAt k s)
-callBytes (command.Reply a b good) s m date batch = bytesOf (reply m date batch (a ∷ b ∷ []))
+callBytes (command.Reply a b amount good) s m date batch = bytesOf (reply m date batch (a ∷ b ∷ []) amount)
 callBytes (command.Reconcile digit) s m date batch = bytesOf (reconciliation m digit)
 callBytes (command.Date d) s m date batch = []
 callBytes (command.CentreBatch n) s m date batch = []

@@ -57,12 +57,13 @@ errors =
     ++ text "nothing to answer\n"
     ++ text "a settlement left last: reconcile answers it\n"
     ++ text "no settlement left last\n"
+    ++ text "no card request left last\n"
 
 -- what line number writes where it makes no call
 abbrev pub saidBy : Command → ℕ → Rehearsal → Lent → List ℕ
 saidBy command.Terminal number r lent = []
 saidBy (command.Call c k) number r lent = []
-saidBy (command.Reply a b good) number r lent = []
+saidBy (command.Reply a b amount good) number r lent = []
 saidBy (command.Reconcile digit) number r lent = []
 saidBy (command.Date d) number r lent = []
 saidBy (command.CentreBatch n) number r lent = []

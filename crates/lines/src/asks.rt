@@ -9,7 +9,7 @@ use state::Settings;
 ghost use mathlib.Core.Path.{_≡_};
 ghost use Prim.Native.Nat.{_≤_};
 ghost use lib.ListN.{length, take};
-ghost use Rattle.lines.specs.Asks.{hexLength, replyError, reconcileError, errorAfter, callOr, askedBy, changedAfter, callBytes};
+ghost use Rattle.lines.specs.Asks.{hexLength, usualError, amountError, replyError, reconcileError, errorAfter, callOr, askedBy, changedAfter, callBytes};
 
 // What a line asks for: a call, or none; it may not be obeyed for an error, and 0 is none.
 pub enum Asked {
@@ -27,8 +27,14 @@ pub fn asked_by(command: Command, begun: bool, left: Left) -> Asked
         Command::Reply {
             first,
             second,
+            amount,
             good,
-        } => call_or(error_after(begun, reply_error(left)), Call::Answer(good)),
+        } => {
+            call_or(
+                error_after(begun, reply_error(amount, left)),
+                Call::Answer(good),
+            )
+        }
         Command::Reconcile(_) => {
             call_or(
                 error_after(begun, reconcile_error(left)),
@@ -78,10 +84,11 @@ pub fn bytes_into(
         Command::Reply {
             first,
             second,
+            amount,
             good,
         } => {
             let code = [first, second];
-            outgoing::write_outgoing(centre::reply(sent, date, batch, code), out)
+            outgoing::write_outgoing(centre::reply(sent, date, batch, code, amount), out)
         }
         Command::Reconcile(digit) => {
             outgoing::write_outgoing(centre::reconciliation(sent, digit), out)
@@ -109,9 +116,31 @@ fn call_or(error: usize, c: Call) -> Asked
     Asked::Error(error)
 }
 
-// Why the simulated centre has no answer, or no reconciliation, to what left last.
-fn reply_error(left: Left) -> usize
-    ensures { λ r. ⌜ r ≡ replyError left ⌝ }
+// Why the simulated centre has no answer with this amount, or no reconciliation, to what left last.
+fn reply_error(amount: u64, left: Left) -> usize
+    ensures { λ r. ⌜ r ≡ replyError amount left ⌝ }
+{
+    if centre::is_given(amount) {
+        return amount_error(left);
+    }
+    usual_error(left)
+}
+
+fn amount_error(left: Left) -> usize
+    ensures { λ r. ⌜ r ≡ amountError left ⌝ }
+{
+    match left {
+        Left::Nothing => 2,
+        Left::Request => 0,
+        Left::Reversal => 5,
+        Left::Settlement => 5,
+        Left::Upload => 5,
+        Left::SignOn => 5,
+    }
+}
+
+fn usual_error(left: Left) -> usize
+    ensures { λ r. ⌜ r ≡ usualError left ⌝ }
 {
     match left {
         Left::Nothing => 2,

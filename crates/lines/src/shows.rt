@@ -12,11 +12,12 @@ ghost use Rattle.screen.specs.Outcomes.{errorLine};
 ghost use Rattle.lines.specs.Shows.{last, messageIn, fieldsText, shown, faultText, said};
 
 // Why a line that is understood is not obeyed: row k is error k, and 0 is none.
-const ERRORS: [u8; 100] = *b"
+const ERRORS: [u8; 126] = *b"
 no terminal
 nothing to answer
 a settlement left last: reconcile answers it
 no settlement left last
+no card request left last
 ";
 
 // The last message that left.

@@ -8,11 +8,12 @@ use reading::ReadOutcome;
 use writing::Writing;
 
 // A sale of 12,000 fen, trace 1, batch 1.
-const SALE: [u8; 76] = [
+const SALE: [u8; 77] = [
     0x02, 0x00, 0x70, 0x20, 0x04, 0x80, 0x00, 0xC0, 0x80, 0x11, 0x16, 0x62, 0x22, 0x02, 0x12, 0x34, 0x56, 0x78, 0x90,
     0x00, 0x00, 0x00, 0x00, 0x00, 0x00, 0x01, 0x20, 0x00, 0x00, 0x00, 0x01, 0x01, 0x20, 0x00, 0x31, 0x31, 0x31, 0x31,
     0x31, 0x31, 0x31, 0x31, 0x32, 0x32, 0x32, 0x32, 0x32, 0x32, 0x32, 0x32, 0x32, 0x32, 0x32, 0x32, 0x32, 0x32, 0x32,
-    0x31, 0x35, 0x36, 0x00, 0x11, 0x22, 0x00, 0x00, 0x01, 0x00, 0x00, 0x00, 0x00, 0x00, 0x00, 0x00, 0x00, 0x00, 0x00,
+    0x31, 0x35, 0x36, 0x00, 0x14, 0x22, 0x00, 0x00, 0x01, 0x00, 0x00, 0x01, 0x00, 0x00, 0x00, 0x00, 0x00, 0x00, 0x00,
+    0x00,
 ];
 
 // A message of field 55 alone, with elements 9F26 and 82.
@@ -44,14 +45,18 @@ const CHIP_AND_KEYS: [u8; 17] = [
     0x08, 0x10, 0x00, 0x00, 0x00, 0x00, 0x00, 0x00, 0x02, 0x04, 0x00, 0x02, 0x9F, 0x00, 0x00, 0x01, 0x00,
 ];
 
-// The row of field 62 in the table.
-const KEYS_ROW: usize = 22;
+// The rows of fields 60 and 62 in the table.
+const CODES_ROW: usize = 21;
 
-// The lengths of field 62, and those beside them.
+const KEYS_ROW: usize = 23;
+
+// The lengths of each, and those beside them.
+const NEAR_CODES: [u8; 6] = [10, 11, 12, 13, 14, 15];
+
 const NEAR_KEYS: [u8; 15] = [23, 24, 25, 39, 40, 41, 55, 56, 57, 59, 60, 61, 83, 84, 85];
 
 // The bitmap that names every field.
-const ALL_FIELDS: [u8; 8] = [0x70, 0x3E, 0x04, 0x81, 0x0E, 0xD1, 0x82, 0x1F];
+const ALL_FIELDS: [u8; 8] = [0x70, 0x3E, 0x04, 0x81, 0x0E, 0xD1, 0x86, 0x1F];
 
 fn say(text: &[u8]) {
     io::write_all(STDOUT_FILENO, text);
@@ -177,14 +182,14 @@ fn filled(class: Class) -> Contents {
 
 // A message written, read again and written again.
 fn round_trip(m: Message) {
-    let mut first = [0xEEu8; 600];
+    let mut first = [0xEEu8; 620];
     let w = writing::write(m, &mut first);
     show_writing(w);
     if let Writing::Written(n) = w {
         if n <= Message::LARGEST {
             let r = reading::read(&first[..n]);
             let back = r.message;
-            let mut second = [0xEEu8; 600];
+            let mut second = [0xEEu8; 620];
             show_writing(writing::write(back, &mut second));
             if check::same(&first, &second) {
                 say(b" same");
@@ -214,16 +219,24 @@ fn field_lengths() {
     }
 }
 
-// Field 62 with each count of NEAR_KEYS.
-fn key_counts() {
-    say(b"keys");
-    let counts = NEAR_KEYS;
+// The field of row k with each of these counts.
+fn near_counts(k: usize, counts: &[u8]) {
     let mut i = 0;
-    while i < 15 {
-        round_trip(field_message(KEYS_ROW, counts[i]));
+    while i < counts.len() {
+        round_trip(field_message(k, counts[i]));
         i += 1;
     }
     say(b"\n");
+}
+
+// Fields 60 and 62 with their lengths, and those beside them.
+fn listed_lengths() {
+    let codes = NEAR_CODES;
+    say(b"codes");
+    near_counts(CODES_ROW, &codes);
+    let keys = NEAR_KEYS;
+    say(b"keys");
+    near_counts(KEYS_ROW, &keys);
 }
 
 // A field 62 of n bytes that is read, or is refused by another number than 24.
@@ -313,7 +326,7 @@ fn written_faults() {
     say(b"written");
     let mut m = sale_message();
     round_trip(m);
-    let mut short = [0u8; 590];
+    let mut short = [0u8; 613];
     show_writing(writing::write(m, &mut short));
     m.contents[60] = 0x1F;
     round_trip(m);
@@ -373,7 +386,7 @@ fn main() {
     chip_copies();
     key_copies();
     field_lengths();
-    key_counts();
+    listed_lengths();
     key_lengths();
     largest_trip();
     written_faults();

@@ -7,6 +7,7 @@ use lib.Dec.{eqb}
 use Rattle.message.specs.declared.Message.{Message}
 use Rattle.state.specs.Calls.{Lent, Result}
 use Rattle.calls.specs.declared.Call.{Call}
+use Rattle.calls.specs.declared.Call.the-variants.{Answer}
 use Rattle.terminal.specs.Terminal.{stepResult}
 use Rattle.terminal.specs.declared.Step.{Step}
 use Rattle.call_definitions.specs.Events.{eventOf}
@@ -19,10 +20,9 @@ use Rattle.script.specs.declared.Line.{Line}
 use Rattle.screen.specs.Outcomes.{errorLine, outcomeLine}
 use Rattle.centre_types.specs.Types.{leftAs}
 use Rattle.centre_types.specs.declared.Left.{Left}
-use Rattle.centre_types.specs.declared.Left.the-variants.{Nothing, Request, Reversal, Settlement, Upload, SignOn}
 use Rattle.stage.specs.declared.Rehearsal.{Rehearsal}
 use Rattle.stage.specs.Stage.{afterCall}
-use Rattle.lines.specs.Asks.{errorAfter, callOr, askedBy, changedAfter, callBytes}
+use Rattle.lines.specs.Asks.{replyError, reconcileError, errorAfter, callOr, askedBy, changedAfter, callBytes}
 use Rattle.lines.specs.Shows.{last, messageIn, errors, said}
 use Rattle.lines.specs.declared.asks.Asked.{Asked}
 use Rattle.lines.specs.declared.asks.Asked.the-variants as asked
@@ -53,6 +53,14 @@ module _ (number : ℕ) (s : List ℕ) (r : Rehearsal) (lent : Lent) where
   doneAs (asked.Call c) k line = called (eventOf c (line .desk) (callBytes k s (messageIn (last r (lent .message))) (r .date) (r .batch))) r lent
   doneAs (asked.Error e) k line = writes (said e number k r lent) (changedAfter e k (line .settings) r) lent
 
+  -- an answer of the simulated centre, or the error in its place
+  answer-or : (k : Command) (line : Line) (c : Call) (e : ℕ) (t : Bool) → eqb e 0 ≡ t
+      → commandDone k line number s r lent ≡ doneAs (asked.Call c) k line
+      → cond (eqb e 0) (commandDone k line number s r lent) (writes (errorLine number (row e errors)) r lent) ≡ doneAs (callOr e c) k line
+  unfolding callOr changedAfter said
+  answer-or k line c e true q h = rw q h
+  answer-or k line c e false q h = rw q (rw q)
+
   asked-done : (k : Command) (line : Line) (has-terminal : Bool) (l : Left)
       → cond (eqb (lineError k has-terminal l) 0) (commandDone k line number s r lent) (writes (errorLine number (row (lineError k has-terminal l) errors)) r lent)
       ≡ doneAs (askedBy k has-terminal l) k line
@@ -61,19 +69,11 @@ module _ (number : ℕ) (s : List ℕ) (r : Rehearsal) (lent : Lent) where
   asked-done Terminal line false l = refl
   asked-done (Calls c w) line true l = refl
   asked-done (Calls c w) line false l = refl
-  asked-done (Reply a b good) line true Nothing = refl
-  asked-done (Reply a b good) line true Request = refl
-  asked-done (Reply a b good) line true Reversal = refl
-  asked-done (Reply a b good) line true Settlement = refl
-  asked-done (Reply a b good) line true Upload = refl
-  asked-done (Reply a b good) line true SignOn = refl
-  asked-done (Reply a b good) line false l = refl
-  asked-done (Reconcile digit) line true Nothing = refl
-  asked-done (Reconcile digit) line true Request = refl
-  asked-done (Reconcile digit) line true Reversal = refl
-  asked-done (Reconcile digit) line true Settlement = refl
-  asked-done (Reconcile digit) line true Upload = refl
-  asked-done (Reconcile digit) line true SignOn = refl
+  asked-done (Reply a b amount good) line true l =
+      answer-or (Reply a b amount good) line (Answer good) (replyError amount l) (eqb (replyError amount l) 0) refl refl
+  asked-done (Reply a b amount good) line false l = refl
+  asked-done (Reconcile digit) line true l =
+      answer-or (Reconcile digit) line (Answer true) (reconcileError l) (eqb (reconcileError l) 0) refl refl
   asked-done (Reconcile digit) line false l = refl
   asked-done (Date d) line true l = refl
   asked-done (Date d) line false l = refl

@@ -25,7 +25,7 @@ use Rattle.rehearse.specs.Rehearsal.{Done, writes, called}
 abbrev pub commandError : Command → Left → ℕ
 commandError command.Terminal l = 0
 commandError (command.Call c k) l = 0
-commandError (command.Reply a b good) l = replyError l
+commandError (command.Reply a b amount good) l = replyError amount l
 commandError (command.Reconcile digit) l = reconcileError l
 commandError (command.Date d) l = 0
 commandError (command.CentreBatch n) l = 0
@@ -37,7 +37,7 @@ commandError (command.Wrong f) l = 0
 abbrev pub standsAlone : Command → Bool
 standsAlone command.Terminal = true
 standsAlone (command.Call c k) = false
-standsAlone (command.Reply a b good) = false
+standsAlone (command.Reply a b amount good) = false
 standsAlone (command.Reconcile digit) = false
 standsAlone (command.Date d) = true
 standsAlone (command.CentreBatch n) = false
@@ -53,8 +53,8 @@ lineError c has-terminal l = cond (has-terminal || standsAlone c) (commandError 
 abbrev pub commandDone : Command → Line → ℕ → List ℕ → Rehearsal → Lent → Done
 commandDone command.Terminal line number s r lent = writes [] (begun (line .settings) r) lent
 commandDone (command.Call c k) line number s r lent = called (eventOf c (line .desk) (bytesIn (wordAt k s))) r lent
-commandDone (command.Reply a b good) line number s r lent =
-    called (answers (bytesOf (reply (messageIn (last r (lent .message))) (r .date) (r .batch) (a ∷ b ∷ []))) good) r lent
+commandDone (command.Reply a b amount good) line number s r lent =
+    called (answers (bytesOf (reply (messageIn (last r (lent .message))) (r .date) (r .batch) (a ∷ b ∷ []) amount)) good) r lent
 commandDone (command.Reconcile digit) line number s r lent =
     called (answers (bytesOf (reconciliation (messageIn (last r (lent .message))) digit)) true) r lent
 commandDone (command.Date d) line number s r lent = writes [] (dated d r) lent

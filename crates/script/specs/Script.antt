@@ -1,6 +1,6 @@
 -- A line of a script as a command, with settings and desk data beside it.
 use mathlib.Core.List.{List, []}
-use mathlib.Core.Bool.{Bool, false, cond, not}
+use mathlib.Core.Bool.{Bool, false, cond, not, _&&_}
 use Prim.Native.Nat.{ℕ, _/_, _%_}
 use lib.ListN.{length, getD, replicate}
 use Rattle.digits.specs.declared.Number.{Number}
@@ -20,7 +20,7 @@ use Rattle.grammar.specs.declared.Fault.the-variants as fault
 use Rattle.grammar.specs.declared.Verdict.{Verdict}
 use Rattle.grammar.specs.declared.Verdict.the-variants.{Fine, Wrong}
 use Rattle.grammar.specs.Table.{commands}
-use Rattle.grammar.specs.Shapes.{isEmpty, lineFault}
+use Rattle.grammar.specs.Shapes.{isEmpty, isBad, lineFault}
 use Rattle.script.specs.declared.Command.{Command}
 use Rattle.script.specs.declared.Command.the-variants as command
 use Rattle.script.specs.declared.Line.{Line}
@@ -39,6 +39,14 @@ number64 w = numeral (numberUpTo 999999999999999999 w)
 
 unfoldable pub monthDay : List ℕ → ℕ
 monthDay w = numeral (numberIn 4 w)
+
+-- an amount that is answered, of up to twelve digits; another word is none, for which a larger amount stands
+abbrev pub answeredOf : Number → ℕ
+answeredOf (Is x) = x
+answeredOf Not = 1000000000000
+
+unfoldable pub answeredIn : List ℕ → ℕ
+answeredIn w = answeredOf (numberUpTo 999999999999 w)
 
 -- a card is a word of digits; another word is none
 abbrev pub cardOf : Number → ℕ → Card
@@ -93,6 +101,12 @@ settingsIn s =
       limit = number32 (wordAt 1 s); sendings = number8 (wordAt 2 s); refund = number64 (wordAt 3 s);
       terminal = textOr 8 (wordAt 4 s); merchant = textOr 15 (wordAt 5 s) }
 
+-- reply CODE AMOUNT bad, where AMOUNT and bad may be missing; no word stands after bad
+unfoldable pub repliedBy : List ℕ → List ℕ → List ℕ → Command
+repliedBy code amount last =
+    cond (isBad amount && not (isEmpty last)) (command.Wrong fault.Count)
+      (command.Reply (getD code 0 0) (getD code 1 0) (answeredIn amount) (not (isBad amount) && isEmpty last))
+
 -- the command of a line whose words are fine; the word that gives a call's bytes is 4 in sale AMOUNT CARD chip HEX, 9 in start and 1 in answer,
 -- and no word 9 stands in a line of a call without bytes
 abbrev pub commandOf : Name → List ℕ → Command
@@ -103,7 +117,7 @@ commandOf (name.Authorised kind) s = command.Call call.Start 9
 commandOf name.Refund s = command.Call call.Start 9
 commandOf name.Start s = command.Call call.Start 9
 commandOf name.Answer s = command.Call (call.Answer (isGood (wordAt 2 s))) 1
-commandOf name.Reply s = command.Reply (getD (wordAt 1 s) 0 0) (getD (wordAt 1 s) 1 0) (isEmpty (wordAt 2 s))
+commandOf name.Reply s = repliedBy (wordAt 1 s) (wordAt 2 s) (wordAt 3 s)
 commandOf name.Reconcile s = command.Reconcile (number8 (wordAt 1 s))
 commandOf name.Date s = command.Date (monthDay (wordAt 1 s))
 commandOf name.CentreBatch s = command.CentreBatch (number32 (wordAt 1 s))

@@ -40,11 +40,20 @@ pub enum Name {
 }
 
 // What a line asks for; settings and desk data stand beside it. A call comes with the number of the word that gives its bytes, those of an
-// answer or of a chip's field 55; for a call without bytes it is 9, and no word stands there.
+// answer or of a chip's field 55; for a call without bytes it is 9, and no word stands there. An amount of more than twelve digits stands
+// for none.
 pub enum Command {
     Terminal,
-    Call { call: Call, word: u8 },
-    Reply { first: u8, second: u8, good: bool },
+    Call {
+        call: Call,
+        word: u8,
+    },
+    Reply {
+        first: u8,
+        second: u8,
+        amount: u64,
+        good: bool,
+    },
     Reconcile(u8),
     Date(u16),
     CentreBatch(u32),
@@ -73,15 +82,22 @@ pub fn parse(s: &[u8]) -> Line
     }
 }
 
+// The command of a line `reply`; no word stands after `bad`.
 fn replied(s: &[u8]) -> Command
     ensures { λ r. ⌜ r ≡ commandOf Name.Reply (now (s .entry)) ⌝ }
 {
     let code = words::word(s, 1);
-    let bad = words::word(s, 2);
+    let amount = words::word(s, 2);
+    let last = words::word(s, 3);
+    let bad = grammar::is_bad(amount);
+    if bad & (last.len() != 0) {
+        return Command::Wrong(Fault::Count);
+    }
     Command::Reply {
         first: texts::byte_at(code, 0),
         second: texts::byte_at(code, 1),
-        good: bad.len() == 0,
+        amount: values::answered_in(amount),
+        good: !bad & (last.len() == 0),
     }
 }
 

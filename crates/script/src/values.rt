@@ -7,7 +7,7 @@ use state::Card;
 use state::Settings;
 ghost use mathlib.Core.Path.{_≡_};
 ghost use Prim.Native.Nat.{_<_};
-ghost use Rattle.script.specs.Script.{number8, number32, number64, monthDay, cardIn, keyed, deskOf, settingsIn};
+ghost use Rattle.script.specs.Script.{number8, number32, number64, monthDay, answeredIn, cardIn, keyed, deskOf, settingsIn};
 
 // Numbers of 8, 32 and 64 bits; 0 where a word is none.
 pub fn number8(w: &[u8]) -> u8
@@ -33,6 +33,16 @@ pub fn month_day(w: &[u8]) -> u16
     ensures { λ r. ⌜ (r ≡ monthDay (now (w .entry))) × (r < 10000) ⌝ }
 {
     digits::numeral(word_values::decimal_in(4, w)) as u16
+}
+
+// An amount that is answered; another word is none, for which a larger amount stands.
+pub fn answered_in(w: &[u8]) -> u64
+    ensures { λ r. ⌜ r ≡ answeredIn (now (w .entry)) ⌝ }
+{
+    match word_values::number_up_to(999999999999, w) {
+        Number::Is(x) => x,
+        Number::Not => 1000000000000,
+    }
 }
 
 fn card_in(w: &[u8]) -> Card

@@ -102,14 +102,29 @@ enum-told-9 c = search needs
 is-good-requires : tie.Need-is-good-requires
 is-good-requires c κs = search needs
 
+is-bad-requires : tie.Need-is-bad-requires
+is-bad-requires c κs = search needs
+
+enum-known-shape-4 : tie.Need-enum-known-shape-4
+enum-known-shape-4 c = search needs
+
+is-bad-requires-2 : tie.Need-is-bad-requires-2
+is-bad-requires-2 c κs = search needs
+
+number-up-to-requires-2 : tie.Need-number-up-to-requires-2
+number-up-to-requires-2 c κs = search needs
+
+is-number-requires-5 : tie.Need-is-number-requires-5
+is-number-requires-5 c κs = search needs
+
+enum-told-10 : tie.Need-enum-told-10
+enum-told-10 c = search needs
+
 slice-aggregate-same-3 : tie.Need-slice-aggregate-same-3
 slice-aggregate-same-3 c = search needs
 
 same-requires-3 : tie.Need-same-requires-3
 same-requires-3 c κs = search needs
-
-enum-told-10 : tie.Need-enum-told-10
-enum-told-10 c = search needs
 
 slice-aggregate-same-4 : tie.Need-slice-aggregate-same-4
 slice-aggregate-same-4 c = search needs
@@ -120,23 +135,8 @@ same-requires-4 c κs = search needs
 enum-told-11 : tie.Need-enum-told-11
 enum-told-11 c = search needs
 
-slice-aggregate-same-5 : tie.Need-slice-aggregate-same-5
-slice-aggregate-same-5 c = search needs
-
-same-requires-5 : tie.Need-same-requires-5
-same-requires-5 c κs = search needs
-
-slice-aggregate-same-6 : tie.Need-slice-aggregate-same-6
-slice-aggregate-same-6 c = search needs
-
-same-requires-6 : tie.Need-same-requires-6
-same-requires-6 c κs = search needs
-
 enum-told-12 : tie.Need-enum-told-12
 enum-told-12 c = search needs
-
-enum-told-13 : tie.Need-enum-told-13
-enum-told-13 c = search needs
 
 returns : tie.Need-returns
 returns c =
@@ -195,26 +195,27 @@ returns-11 c = rw (c .before .enum-told8 .given .1, c .is-hexadecimal .ensures)
 
 returns-12 : tie.Need-returns-12
 returns-12 c =
-    let at-enum-told9 = c .before .before .before .enum-told9 in
-    let at-is-good = c .before .before .is-good in
-    rw (at-enum-told9 .given .1, c .same3 .ensures, at-is-good .ensures)
+    let at-enum-told9 = c .before .before .enum-told9 in
+    let at-is-good = c .before .is-good in
+    rw (at-enum-told9 .given .1, c .is-bad .ensures, at-is-good .ensures)
 
 returns-13 : tie.Need-returns-13
 returns-13 c =
-    let at-enum-told10 = c .before .before .enum-told10 in
-    rw (at-enum-told10 .given .1, c .same4 .ensures)
+    let at-shape4 = c .before .before .before .before .shape4 in
+    let at-is-bad2 = c .before .before .is-bad2 in
+    rw (at-shape4 .given .1, at-is-bad2 .ensures, c .is-number5 .ensures, c .before .number-up-to2 .ensures)
 
 returns-14 : tie.Need-returns-14
 returns-14 c =
-    let at-enum-told11 = c .before .before .before .before .enum-told11 in
-    let at-same5 = c .before .before .same5 in
-    rw (at-enum-told11 .given .1, at-same5 .ensures, c .same6 .ensures)
+    let at-enum-told10 = c .before .before .before .before .enum-told10 in
+    let at-same3 = c .before .before .same3 in
+    rw (at-enum-told10 .given .1, at-same3 .ensures, c .same4 .ensures)
 
 returns-15 : tie.Need-returns-15
-returns-15 c = rw (c .enum-told12 .given .1)
+returns-15 c = rw (c .enum-told11 .given .1)
 
 returns-16 : tie.Need-returns-16
-returns-16 c = rw (c .enum-told13 .given .1)
+returns-16 c = rw (c .enum-told12 .given .1)
 
 pub fits-spec : {M : Type 1} → statement M
 fits-spec =
@@ -253,18 +254,18 @@ fits-spec =
     is-hexadecimal-requires
     enum-told-9
     is-good-requires
+    is-bad-requires
+    enum-known-shape-4
+    is-bad-requires-2
+    number-up-to-requires-2
+    is-number-requires-5
+    enum-told-10
     slice-aggregate-same-3
     same-requires-3
-    enum-told-10
     slice-aggregate-same-4
     same-requires-4
     enum-told-11
-    slice-aggregate-same-5
-    same-requires-5
-    slice-aggregate-same-6
-    same-requires-6
     enum-told-12
-    enum-told-13
     returns
     returns-2
     returns-3
