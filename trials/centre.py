@@ -23,17 +23,22 @@ DEBIT = ("20", "22")
 CREDIT = ("21", "23", "25")
 DECLINES = ("51", "54", "61", "91")
 DECLINED_SHARE = 0.12
+PREPAID = "6299"        # how the number of a prepaid card begins
+LOADED_SHARE = 0.5      # of sales with an empty prepaid card, before which it has been loaded again
+WHOLE_SHARE = 0.1       # of sales that a prepaid card covers, which are answered 10 all the same
 
 # What can happen to any message. "lost": the ledger does not take it; "kept": it still holds what is to be reversed.
 LINE_FAULTS = ("silence", "silence, lost", "drop", "drop, lost", "torn", "late", "late elsewhere", "delay", "duplicate", "noise",
                "raw noise", "foreign", "foreign, silence", "pieces")
+REQUEST_FAULTS = LINE_FAULTS + ("wrong MAC", "wrong MAC", "no MAC", "unfit")
 FAULTS = {
-    "request": LINE_FAULTS + ("wrong MAC", "wrong MAC", "no MAC", "unfit"),
-    "reversal": LINE_FAULTS + ("wrong MAC", "no MAC", "code 96", "code 96, kept", "code 96, kept"),
+    "request": REQUEST_FAULTS,
+    "prepaid": REQUEST_FAULTS + ("wrong MAC", "no MAC", "unfit", "unfit", "unfit") * 4,     # a request with a prepaid card
+    "reversal": LINE_FAULTS + ("wrong MAC", "no MAC", "code 96", "code 96, kept", "code 10, kept"),
     "settlement": LINE_FAULTS + ("digit 2",) * 24 + ("digit 3", "digit 7"),
-    "item": LINE_FAULTS + ("code 30", "code 30"),
-    "end": LINE_FAULTS + ("code 96",),
-    "sign-on": LINE_FAULTS + ("code 05", "code 96", "code 05, keys") * 3 + ("other batch",) * 6 + (
+    "item": LINE_FAULTS + ("code 30", "code 10"),
+    "end": LINE_FAULTS + ("code 96", "code 10"),
+    "sign-on": LINE_FAULTS + ("code 05", "code 96", "code 10, keys") * 3 + ("other batch",) * 6 + (
         "no keys", "no keys", "odd keys", "odd keys", "batch 000000", "no 60", "no 39", "wrong MAC", "other form"),
 }
 OTHER_SHARE = 0.2       # of sign-ons in an open batch to which a centre with faults brings another number
@@ -56,26 +61,27 @@ def following(batch, steps=1):
 class Entry:
     """A request that the ledger has decided on."""
 
-    def __init__(self, request, code):
+    def __init__(self, request, code, amount):
         self.request = request
         self.code = code
-        self.is_held = code == "00"
+        self.amount = amount            # in fen, as it was approved
+        self.is_held = amount > 0
         self.is_voided = False
         self.date = self.reference = self.authorisation = None
 
 
 class Ledger:
-    """What the centre decided on each request, by (field 41, batch, trace), and what became of it."""
+    """What the centre decided on each request, by (field 41, batch, trace), what became of it, and what is left on prepaid cards."""
 
     def __init__(self, generator, record):
         self.generator = generator
         self.record = record
         self.entries = {}
+        self.balances = {}      # by card number
 
     def decide(self, request):
-        """Takes a card request: its entry, approved or declined."""
-        code = self._code_for(request)
-        entry = Entry(request, code)
+        """Takes a card request: its entry, approved, in part or as a whole, or declined."""
+        entry = Entry(request, *self._decision(request))
         self.entries.setdefault(key_of(request), entry)
         if entry.is_held:
             number = len(self.entries)
@@ -83,7 +89,8 @@ class Ledger:
             entry.reference = f"{number:012d}"
             entry.authorisation = f"A{number:05d}" if self.generator.random() < 0.95 else None
             self._void_original(request, True)
-            self.record(history.Held(request[11]))
+            self._charge(entry, entry.amount)
+            self.record(history.Held(request[11], entry.amount))
         return entry
 
     def reverse(self, message):
@@ -93,31 +100,69 @@ class Ledger:
             return self.generator.choice(("00", "25", "25", "12"))
         entry.is_held = False
         self._void_original(entry.request, False)
+        self._charge(entry, -entry.amount)
         self.record(history.Released(message[11]))
         return "00"
 
     def sums(self, terminal, batch):
         """The first 30 digits of field 48 as this ledger has them."""
-        held = [entry.request for key, entry in self.entries.items() if key[:2] == (terminal, batch) and entry.is_held]
+        held = [entry for key, entry in self.entries.items() if key[:2] == (terminal, batch) and entry.is_held]
         digits = ""
         for side in (DEBIT, CREDIT):
-            amounts = [int(request[4]) for request in held if iso.kind_of(request) in side]
+            amounts = [entry.amount for entry in held if iso.kind_of(entry.request) in side]
             digits += f"{sum(amounts):012d}{len(amounts):03d}"
         return digits
 
-    def _code_for(self, request):
+    def balance(self, card):
+        """What is left on a prepaid card, None for another card."""
+        return self.balances.get(card)
+
+    def _decision(self, request):
+        """Code, and amount that is approved, 0 for a decline. To all but a sale 10 is one code of a decline among others."""
+        kind, asked = iso.kind_of(request), int(request[4])
+        fault = self._fault_of(request)
+        if fault:
+            return fault, 0
+        if self.generator.random() < DECLINED_SHARE:
+            return self.generator.choice(DECLINES if kind == "22" else DECLINES + ("10",) * 4), 0
+        if kind == "22" and request[2].startswith(PREPAID):
+            return self._prepaid_decision(request, asked)
+        return "00", asked
+
+    def _prepaid_decision(self, request, asked):
+        """A sale above the balance is approved for what is left, where it asks for that."""
+        balance = self._loaded_balance(request[2])
+        if balance >= asked:
+            return "10" if self.generator.random() < WHOLE_SHARE else "00", asked
+        if balance > 0 and iso.part_code_of(request) == "001":
+            return "10", balance
+        return "51", 0
+
+    def _loaded_balance(self, card):
+        if card not in self.balances or self.balances[card] == 0 and self.generator.random() < LOADED_SHARE:
+            self.balances[card] = self.generator.choice((1, 11999, self.generator.randint(1, 200000), self.generator.randint(1, 200000)))
+        return self.balances[card]
+
+    def _charge(self, entry, amount):
+        """A sale takes an amount from its prepaid card, and a void gives it back; where they are reversed the amount is negative."""
+        kind, card = iso.kind_of(entry.request), entry.request[2]
+        if kind in ("22", "23") and card in self.balances:
+            self.balances[card] -= amount if kind == "22" else -amount
+
+    def _fault_of(self, request):
+        """The code for which a request cannot be approved, None where it can."""
         kind = iso.kind_of(request)
         if key_of(request) in self.entries:
             return "94"
         if kind in ("21", "23"):
             original = self._original(request)
-            if original is None or not original.is_held or original.request[4] != request[4]:
+            if original is None or not original.is_held or original.amount != int(request[4]):
                 return "25"
             if original.is_voided:
                 return "12"
         if kind in ("11", "20") and not self._has_authorisation(request):
             return "25"
-        return self.generator.choice(DECLINES) if self.generator.random() < DECLINED_SHARE else "00"
+        return None
 
     def _original(self, request):
         return self.entries.get((request[41], request[61][:6], request[61][6:12]))
@@ -250,7 +295,8 @@ class Centre:
 
     def _handle(self, connection, message):
         part = part_of(message)
-        fault = self.generator.choice(FAULTS[part]) if self.generator.random() < self.faults else "plain"
+        faults = FAULTS["prepaid" if part == "request" and message[2].startswith(PREPAID) else part]
+        fault = self.generator.choice(faults) if self.generator.random() < self.faults else "plain"
         answer = None
         if not fault.endswith("lost"):
             answer = {"request": self._card_answer, "reversal": self._reversal_answer, "settlement": self._settlement_answer,
@@ -261,29 +307,34 @@ class Centre:
         entry = self.ledger.decide(message)
         answer = {number: message[number] for number in (2, 3, 4, 11, 25, 41, 42, 49, 60)}
         answer.update({0: _answer_type(message), 12: "101500", 32: "48020000", 39: entry.code, 44: bytes(range(10)), 64: bytes(8)})
+        balance = self.ledger.balance(message[2])
+        if balance is not None and self.generator.random() < 0.5:
+            answer[54] = f"1002156C{max(balance, 0):012d}"
         if entry.is_held:
-            answer.update({13: entry.date, 37: entry.reference})
+            answer.update({4: f"{entry.amount:012d}", 13: entry.date, 37: entry.reference})
             if entry.authorisation:
                 answer[38] = entry.authorisation
             if 55 in message and self.generator.random() < 0.5:
                 answer[55] = iso.element("91", self.generator.randbytes(10)) + iso.element("9F36", bytes(2))
+        elif entry.code == "10":
+            answer.update({13: "0101", 37: "000000999999"})
         if fault == "unfit" and entry.is_held:
-            self._spoil(answer, self.generator.choice((4, 13, 37, 55)))
+            self._spoil(answer, self.generator.choice((4,) * (8 if entry.code == "10" else 1) + (13, 37, 55)), int(message[4]))
         return answer
 
-    def _spoil(self, answer, number):
-        """Makes an approval unfit: another amount, a field 55 out of form, or a field left out."""
-        if number == 4:
-            answer[4] = f"{int(answer[4]) + 1:012d}"
+    def _spoil(self, answer, number, asked):
+        """Makes an approval unfit: an amount that it cannot have or none, a field 55 out of form, or a field left out."""
+        if number == 4 and self.generator.random() < 0.8:
+            answer[4] = f"{self.generator.choice((0, asked + 1) if answer[39] == '10' else (0, asked + 1, asked - 1)):012d}"
         elif number == 55:
             answer[55] = self.generator.choice((b"\x91", b"\x91\x0A\x00", iso.element("91", b"") * 2, b"\x9F\x36\x81\x02\x00\x00"))
         else:
             del answer[number]
 
     def _reversal_answer(self, message, fault):
-        code = "96" if fault == "code 96, kept" else self.ledger.reverse(message)
+        code = "" if fault.endswith("kept") else self.ledger.reverse(message)
         answer = {number: message[number] for number in (2, 3, 4, 11, 25, 41, 42, 49, 60)}
-        answer.update({0: _answer_type(message), 13: "0101", 39: "96" if fault.startswith("code 96") else code, 64: bytes(8)})
+        answer.update({0: _answer_type(message), 13: "0101", 39: fault[5:7] if fault.startswith("code") else code, 64: bytes(8)})
         return answer
 
     def _settlement_answer(self, message, fault):
@@ -412,7 +463,7 @@ class Centre:
         if number == 0:
             foreign[0] = self.generator.choice([kind for kind in ("0110", "0210", "0230", "0330", "0410", "0810") if kind != answer[0]])
         elif number == 60:
-            foreign[60] = answer[60][:2] + following(iso.batch_of(answer)) + iso.code_of(answer)
+            foreign[60] = answer[60][:2] + following(iso.batch_of(answer)) + answer[60][8:]
         else:
             foreign[number] = {11: following(answer[11]), 41: "LIB99999", 42: "WHISTLAUREL9999"}[number]
         if foreign[0] in ("0110", "0210", "0230"):

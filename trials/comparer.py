@@ -20,10 +20,12 @@ DOUBTFUL = ("given up", "unanswered")
 
 _WORD = "(" + "|".join(sorted(KINDS, key=len, reverse=True)) + ")"
 _YUAN = r"(\d+\.\d\d) yuan"
+_PART = rf"{_YUAN}(?: of {_YUAN})?"
 _WHY = r"the centre(?: has declined \((..)\)|'s answer was refused \(\d+\): .+| has not answered| cannot be reached)"
-RESULT = re.compile(rf"{_WORD} (\d{{6}}): (approved|declined|reversed|given up|unanswered|pending)(?: \((..)\))? {_YUAN}, "
+RESULT = re.compile(rf"{_WORD} (\d{{6}}): (approved|declined|reversed|given up|unanswered|pending)(?: \((..)\))? {_PART}, "
                     r"card (\d{6}\*+\d{4})(, chip)?(.*)")
-ASKED = re.compile(rf"{_WORD} (\d{{6}}): the centre approves {_YUAN}, card (\d{{6}}\*+\d{{4}}), chip; card-agrees or card-declines")
+PAID = re.compile(rf"paid by the card {_YUAN}, still to pay {_YUAN}")
+ASKED = re.compile(rf"{_WORD} (\d{{6}}): the centre approves {_PART}, card (\d{{6}}\*+\d{{4}}), chip; card-agrees or card-declines")
 APPROVED_TAIL = re.compile(r", reference (.{12}), authorisation (.{6})")
 SETTLED = re.compile(rf"settled batch (\d{{6}}): debit {_YUAN} in (\d+), credit {_YUAN} in (\d+)")
 READY = re.compile(r"ready, batch (\d{6})")
@@ -70,6 +72,7 @@ class Request:
         self.reversals = 0
         self.reversal_ended = False     # an answer that ends the reversal left
         self.is_held = False
+        self.held_amount = 0            # in fen, as the ledger took it
         self.is_asked = False           # the desk said that the centre approves and the card has the last word
         self.card_word = None           # the card's word that was given then
         self.word = None
@@ -82,6 +85,20 @@ class Request:
     @property
     def has_chip(self):
         return 55 in (self.message or self.reversal or {})
+
+    @property
+    def asked_amount(self):
+        return int((self.message or self.reversal)[4])
+
+    @property
+    def amount(self):
+        """In fen, for which the centre approves it; without an approval what it asks for."""
+        return int(self.approval[4]) if self.approval else self.asked_amount
+
+    @property
+    def is_part(self):
+        """Whether the centre approves a part of what it asks for."""
+        return self.approval is not None and self.amount < self.asked_amount
 
 
 class Batch:
@@ -142,6 +159,7 @@ class Comparer:
         self.asked = None               # the request whose card has the last word now
         self.card_words = 0             # card's words given in this life and not refused
         self.late_word = None           # trace of a request that ended otherwise than its card's word, given last
+        self.rest_due = None            # the request approved in part of which the next line says what is paid and still to pay
         self.totals_due = None          # trace of the approved request after which the totals come next
         self.is_starting = False        # the desk has not said yet that it is ready
         self.totals_at_start = 0        # how often the totals were shown before that
@@ -181,7 +199,7 @@ class Comparer:
     def _take_started(self, _event):
         self.command = None
         self.listing = None
-        self.asked = self.late_word = self.totals_due = None
+        self.asked = self.late_word = self.totals_due = self.rest_due = None
         self.card_words = self.totals_at_start = 0
         self.is_starting = True
         self.has_signed_on = self.is_signed_on = False
@@ -189,7 +207,7 @@ class Comparer:
         self._end_of_sign_on()
 
     def _take_killed(self, _event):
-        self.totals_due = self.word_due = None
+        self.totals_due = self.word_due = self.rest_due = None
         if self.command and self.command[0] in KINDS and not self.command_has_sent:
             self.may_be_unseen = True
         self.figures["kills"] += 1
@@ -198,6 +216,7 @@ class Comparer:
         self._note_loss()
 
     def _take_ended(self, event):
+        self._look_for_rest(None)
         self._look_for_totals()
         if event.status != 0:
             self._differ("exit", f"the desk ended with status {event.status}: {event.words}")
@@ -213,6 +232,7 @@ class Comparer:
         self._differ("noise", f"the desk sent {event.words}")
 
     def _take_command(self, event):
+        self._look_for_rest(None)
         self._look_for_totals()
         self.command = event.text.split()
         self.command_has_sent = False
@@ -232,6 +252,15 @@ class Comparer:
             self._differ("totals line", f"{self.totals_due} is called approved, and the totals do not follow", self.totals_due)
         self.totals_due = None
 
+    def _look_for_rest(self, match):
+        """The line after an approval in part says what is paid and what is still to pay; no other line does."""
+        request, self.rest_due = self.rest_due, None
+        told = match and (_fen(match.group(1)), _fen(match.group(2)))
+        due = request and (request.amount, request.asked_amount - request.amount)
+        if told != due:
+            trace = request.trace if request else None
+            self._differ("still to pay", f"paid and still to pay are {due} fen after {trace}, and the desk says {told}", trace)
+
     def _note_loss(self):
         """A sending may be lost that the terminal counts. Signed off none is: nothing but a sign-on leaves."""
         if not self.has_signed_on:
@@ -244,6 +273,7 @@ class Comparer:
 
     def _take_held(self, event):
         self.requests[event.trace].is_held = True
+        self.requests[event.trace].held_amount = event.amount
 
     def _take_released(self, event):
         self.requests[event.trace].is_held = False
@@ -265,9 +295,9 @@ class Comparer:
             self._note_card_answer(self.requests[trace], answer, event.mac_is_good)
 
     def _note_card_answer(self, request, answer, mac_is_good):
-        if answer[39] != "00":
+        if answer[39] != "00" and (answer[39] != "10" or request.kind != "22"):
             request.codes.add(answer[39])
-        elif answer[4] == request.message[4] and 13 in answer and 37 in answer and not iso.chip_fault(answer.get(55, b"")):
+        elif _amount_fits(request.message, answer) and 13 in answer and 37 in answer and not iso.chip_fault(answer.get(55, b"")):
             if mac_is_good:
                 request.approval = answer
             else:
@@ -453,7 +483,7 @@ class Comparer:
         if original is None or original.word != "approved" or not original.approval:
             self._differ("void", f"void {trace} names {named}, which the desk never called approved", trace)
             return
-        wanted = {2: original.message[2], 4: original.message[4], 37: original.approval[37], 38: original.approval.get(38, " " * 6),
+        wanted = {2: original.message[2], 4: original.approval[4], 37: original.approval[37], 38: original.approval.get(38, " " * 6),
                   61: original.batch + named + original.approval[13]}
         for number, value in wanted.items():
             if message.get(number) != value:
@@ -491,13 +521,13 @@ class Comparer:
 
     def _compare_sums(self, name, words, sums, number, trace=None):
         """The sums that the desk has for a batch: with its approved requests, and with what of the centre's ledger it has ended."""
-        told = self._sums(self._due(number))
+        told = _sums((request.kind, request.amount) for request in self._due(number))
         if sums != told:
             self._differ(name, f"{words}, the desk's approved requests give {told}", trace)
-        held = [request for request in self.requests.values()
-                if request.batch == number and request.is_held and request.word not in (None, *DOUBTFUL)]
-        if sums != self._sums(held):
-            self._differ(f"{name} and ledger", f"{words}, the centre's ledger without doubtful requests gives {self._sums(held)}", trace)
+        held = _sums((request.kind, request.held_amount) for request in self.requests.values()
+                     if request.batch == number and request.is_held and request.word not in (None, *DOUBTFUL))
+        if sums != held:
+            self._differ(f"{name} and ledger", f"{words}, the centre's ledger without doubtful requests gives {held}", trace)
 
     def _compare_item(self, message):
         trace = message[11]
@@ -506,7 +536,7 @@ class Comparer:
             self._differ("upload", f"upload item {trace} is no approved debit or credit of batch {iso.batch_of(message)}", trace)
             return
         approval = request.approval or {}
-        wanted = {2: request.message[2], 3: request.message[3], 4: request.message[4], 37: approval.get(37),
+        wanted = {2: request.message[2], 3: request.message[3], 4: f"{request.amount:012d}", 37: approval.get(37),
                   38: approval.get(38, " " * 6), 60: request.kind + request.batch + "201"}
         for number, value in wanted.items():
             if message.get(number) != value:
@@ -527,6 +557,10 @@ class Comparer:
         if self.late_word and not text.startswith("refused (14)"):
             self._differ("consent lost", f"the card agreed, and {self.late_word} ended otherwise", self.late_word)
         self.late_word = None
+        paid = PAID.fullmatch(text)
+        self._look_for_rest(paid)
+        if paid:
+            return
         if not TOTALS.fullmatch(text):
             self._look_for_totals()
         self._look_for_word(text)
@@ -619,32 +653,37 @@ class Comparer:
 
     def _take_asked(self, match):
         """The centre approves, and the card has the last word."""
-        word_of_kind, trace, yuan, card = match.groups()
+        word_of_kind, trace, yuan, of, card = match.groups()
         request = self._request(trace, self.batch)
         self.figures["cards asked"] += 1
         if not request.has_chip or request.approval is None:
             self._differ("asked", f"the card of {trace} is asked, and no approval of a request with a chip left", trace)
         if request.word or request.reversals or request.is_asked:
             self._differ("asked", f"the card of {trace} is asked again, or after its reversal or end", trace)
-        if request.message and (word_of_kind, _fen(yuan), card) != self._as_told(request.message):
+        if request.message and (word_of_kind, yuan, of, card) != self._as_told(request, request.amount):
             self._differ("result line", f"kind, amount or card of the line is not that of request {trace}: {match.group(0)}", trace)
         request.is_asked = True
         self.asked = request
 
-    def _as_told(self, message):
-        return WORDS[iso.kind_of(message)], int(message[4]), history.masked(message[2])
+    def _as_told(self, request, amount):
+        """Kind, amount, of which amount where it is a part, and card, as a line tells them."""
+        message, asked = request.message or request.reversal, request.asked_amount
+        return WORDS[iso.kind_of(message)], _yuan(amount), _yuan(asked) if amount < asked else None, history.masked(message[2])
 
     def _take_result(self, match):
-        word_of_kind, trace, word, code, yuan, card, chip, tail = match.groups()
+        word_of_kind, trace, word, code, yuan, of, card, chip, tail = match.groups()
         line = match.group(0)
         request = self._request(trace, self.batch)
+        if word == "approved" and request.is_part:
+            self.rest_due = request
         if request.line not in (None, line):
             self._differ("word changed", f"the desk said {request.line!r} and later {line!r}", trace)
         if request.line is not None:
             return
-        known = request.message or request.reversal
-        if known and ((word_of_kind, _fen(yuan), card) != self._as_told(known) or bool(chip) != request.has_chip):
-            self._differ("result line", f"kind, amount, card or chip of the line is not that of request {trace}: {line}", trace)
+        if request.message or request.reversal:
+            amount = request.amount if word == "approved" else request.asked_amount
+            if (word_of_kind, yuan, of, card) != self._as_told(request, amount) or bool(chip) != request.has_chip:
+                self._differ("result line", f"kind, amount, card or chip of the line is not that of request {trace}: {line}", trace)
         if word == "pending":
             self._take_pending(request)
             return
@@ -656,6 +695,7 @@ class Comparer:
         self._compare_consent(request, word)
         if word == "approved" and not self.is_starting:
             self.totals_due = trace
+        self.figures["approved in part"] += self.rest_due is request
 
     def _take_pending(self, request):
         """A reversal is left pending at a start that could not sign on, and nowhere else."""
@@ -814,8 +854,8 @@ class Comparer:
             self._differ("journal", f"the journal shows {listed}, the desk's approved requests are {told}")
 
     def _as_listed(self, request):
-        approval, amount = request.approval or {}, int(request.message[4])
-        return (WORDS[request.kind], request.trace, f"{amount // 100}.{amount % 100:02d}", history.masked(request.message[2]), approval.get(13),
+        approval = request.approval or {}
+        return (WORDS[request.kind], request.trace, _yuan(request.amount), history.masked(request.message[2]), approval.get(13),
                 _shown(approval.get(37, "")), _shown(approval.get(38, " " * 6)), ", voided" if request.trace in self.voided() else None)
 
     def _compare_doubtful(self):
@@ -858,13 +898,6 @@ class Comparer:
         return [request for trace, request in sorted(self.requests.items())
                 if request.batch == number and request.word == "approved" and request.message and request.kind in DEBIT + CREDIT]
 
-    def _sums(self, requests):
-        digits = ""
-        for side in (DEBIT, CREDIT):
-            amounts = [int(request.message[4]) for request in requests if request.kind in side]
-            digits += f"{sum(amounts):012d}{len(amounts):03d}"
-        return digits
-
     def _differ(self, name, words, trace=None):
         of_trace = [history.shown(event) for event in self.events if trace and trace in history.shown(event)]
         latest = [history.shown(event) for event in self.events[-25:]]
@@ -885,7 +918,7 @@ def faults_of_form(message, part, names):
         faults.append("the digit of field 48 or what follows it is not zero")
     if set(message) != wanted:
         faults.append(f"fields {sorted(set(message) ^ wanted)} are too many or missing")
-    if part in BATCH_CODES and (iso.code_of(message) != BATCH_CODES[part] or part != "item" and iso.kind_of(message) != "00"):
+    if part in BATCH_CODES and (message[60][8:] != BATCH_CODES[part] or part != "item" and iso.kind_of(message) != "00"):
         faults.append(f"field 60 is {message[60]}")
     faults += [f"field {number} is {message[number]}" for number, value in names.items() if message.get(number, value) != value]
     return faults
@@ -900,7 +933,7 @@ def _card_form(message, part):
     wanted = {3: "030000" if kind == "10" else "000000" if kind in DEBIT else "200000", 22: "052" if has_chip else "012",
               25: "06" if kind in ("10", "11", "20", "21") else "00", 0: "0400" if part == "reversal" else kind_type}
     faults = [f"field {number} is {message.get(number)}" for number, value in wanted.items() if message.get(number) != value]
-    if iso.code_of(message) != "000":
+    if (iso.code_of(message), iso.part_code_of(message)) != ("000", "001" if kind == "22" else ""):
         faults.append(f"field 60 is {message[60]}")
     if part == "reversal" and message.get(39) not in ("98", "A0", "06"):
         faults.append(f"the reason is {message.get(39)}")
@@ -911,8 +944,29 @@ def _card_form(message, part):
     return faults, CARD_FIELDS | ({55} if has_chip else set()) | ({39} if part == "reversal" else EXTRA_FIELDS.get(kind, set()))
 
 
+def _amount_fits(request, answer):
+    """Field 4 of an approval: with 00 the amount asked, with 10 from 1 to that."""
+    if answer[39] == "00":
+        return answer.get(4) == request[4]
+    return 1 <= int(answer.get(4, "0")) <= int(request[4])
+
+
 def _fen(yuan):
     return int(yuan.replace(".", ""))
+
+
+def _yuan(fen):
+    return f"{fen // 100}.{fen % 100:02d}"
+
+
+def _sums(amounts):
+    """The first 30 digits of field 48 for amounts in fen with their kinds."""
+    amounts = list(amounts)
+    digits = ""
+    for side in (DEBIT, CREDIT):
+        fen = [amount for kind, amount in amounts if kind in side]
+        digits += f"{sum(fen):012d}{len(fen):03d}"
+    return digits
 
 
 def _sums_of_words(words):

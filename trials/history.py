@@ -61,8 +61,9 @@ class Answered(NamedTuple):
 
 
 class Held(NamedTuple):
-    """The centre's ledger took a request as approved."""
+    """The centre's ledger took a request as approved, for this amount in fen."""
     trace: str
+    amount: int
 
 
 class Released(NamedTuple):

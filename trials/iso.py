@@ -3,7 +3,7 @@
 A message is a dict: key 0 is its type, every other key the number of a field. Digits and printable text are str, other contents bytes.
 """
 
-from typing import NamedTuple
+from typing import NamedTuple, Sequence
 
 REQUEST_TPDU = bytes.fromhex("6000030000")
 ANSWER_TPDU = bytes.fromhex("6000000003")
@@ -20,24 +20,23 @@ class MessageError(Exception):
 
 
 class Field(NamedTuple):
-    form: str       # "digits", "text" (20 to 7E) or "bytes"
-    least: int      # digits or bytes
-    most: int
-    prefix: int     # bytes of the length that stands before it; 0 where none does
+    form: str           # "digits", "text" (20 to 7E) or "bytes"
+    sizes: Sequence     # how many digits or bytes it may have
+    prefix: int         # bytes of the length that stands before it; 0 where none does
 
 
 def _fixed(form, size):
-    return Field(form, size, size, 0)
+    return Field(form, (size,), 0)
 
 
 FIELDS = {
-    2: Field("digits", 13, 19, 1), 3: _fixed("digits", 6), 4: _fixed("digits", 12), 11: _fixed("digits", 6),
+    2: Field("digits", range(13, 20), 1), 3: _fixed("digits", 6), 4: _fixed("digits", 12), 11: _fixed("digits", 6),
     12: _fixed("digits", 6), 13: _fixed("digits", 4), 14: _fixed("digits", 4), 15: _fixed("digits", 4),
-    22: _fixed("digits", 3), 25: _fixed("digits", 2), 32: Field("digits", 1, 11, 1), 37: _fixed("text", 12),
+    22: _fixed("digits", 3), 25: _fixed("digits", 2), 32: Field("digits", range(1, 12), 1), 37: _fixed("text", 12),
     38: _fixed("text", 6), 39: _fixed("text", 2), 41: _fixed("text", 8), 42: _fixed("text", 15),
-    44: Field("bytes", 0, 25, 1), 48: Field("digits", 62, 62, 2), 49: _fixed("text", 3), 55: Field("bytes", 1, 255, 2),
-    60: Field("digits", 11, 11, 2), 61: Field("digits", 16, 16, 2), 62: Field("bytes", 0, 9999, 2), 63: Field("bytes", 3, 63, 2),
-    64: _fixed("bytes", 8),
+    44: Field("bytes", range(26), 1), 48: Field("digits", (62,), 2), 49: _fixed("text", 3), 54: Field("text", (20,), 2),
+    55: Field("bytes", range(1, 256), 2), 60: Field("digits", (11, 14), 2), 61: Field("digits", (16,), 2), 62: Field("bytes", range(10000), 2),
+    63: Field("bytes", range(3, 64), 2), 64: _fixed("bytes", 8),
 }
 
 
@@ -139,7 +138,12 @@ def batch_of(message):
 
 def code_of(message):
     """60.3 of a message."""
-    return message[60][8:]
+    return message[60][8:11]
+
+
+def part_code_of(message):
+    """60.4 to 60.6 of a message, "" where it has none; 001 asks for approval in part."""
+    return message[60][11:]
 
 
 def _length_of_value(data):
@@ -151,13 +155,13 @@ def _length_of_value(data):
 
 def _read_field(data, place, number):
     field = FIELDS[number]
-    size = field.most
+    size = field.sizes[0]
     if field.prefix:
         digits = _cut(data, place, field.prefix, number).hex()
         if not digits.isdecimal():
             raise MessageError(f"the length of field {number} is no number")
         size = int(digits)
-        if not field.least <= size <= field.most:
+        if size not in field.sizes:
             raise MessageError(f"field {number} is {size} long")
         place += field.prefix
     width = (size + 1) // 2 if field.form == "digits" else size
@@ -186,7 +190,7 @@ def _value(raw, size, number):
 
 def _written(number, value):
     field = FIELDS[number]
-    if not field.least <= len(value) <= field.most:
+    if len(value) not in field.sizes:
         raise MessageError(f"field {number} is {len(value)} long")
     length = bytes.fromhex(str(len(value)).zfill(2 * field.prefix)) if field.prefix else b""
     if field.form == "bytes":

@@ -1,6 +1,6 @@
 """The self-test of the comparer: one sound history, and the same with one planted fault at a time, each of which must be found.
 
-Before it the form of field 55 and the length of field 62 are tried on examples. The n-th request, settlement or upload's end has trace 10 n;
+Before it the form of field 55 and the lengths of fields 54, 60 and 62 are tried on examples. The n-th request, settlement or upload's end has trace 10 n;
 sign-ons have traces between these.
 """
 
@@ -8,6 +8,7 @@ import iso
 from comparer import WORDS, Comparer
 from history import Answered, Command, Ended, Error, Held, Killed, Line, Received, Released, Started, Stored, masked
 
+LATER = "000005"        # the batch after the closing
 TERMINAL, MERCHANT, BATCH, CARD, DATE = "LIB00001", "WHISTLAUREL0001", "000001", "6222021234561234", "0315"
 LIMIT, SENDINGS, REFUND = 12, 3, 1000
 CHIP = iso.element("5A", bytes.fromhex(CARD)) + iso.element("9F26", bytes(8)) + iso.element("9F10", bytes(128))
@@ -25,6 +26,10 @@ def self_test():
     print(f"form of field 55: {len(CHIPS_IN_FORM) + len(CHIPS_OUT_OF_FORM)} examples, {failures or 'no'} failures")
     unlike = sum(is_read({0: "0810", 62: bytes(length)}) != (length in iso.KEY_LENGTHS) for length in KEY_EXAMPLES)
     print(f"length of field 62: {len(KEY_EXAMPLES)} examples, {unlike or 'no'} failures")
+    failures += unlike
+    lengths = [(54, " " * length, length == 20) for length in range(100)] + [(60, "0" * length, length in (11, 14)) for length in range(100)]
+    unlike = sum(is_read({0: "0210", number: value}) != is_allowed for number, value, is_allowed in lengths)
+    print(f"lengths of fields 54 and 60: {len(lengths)} examples, {unlike or 'no'} failures")
     failures += unlike
     found = names_found(sound())
     print(f"sound history: {'no difference' if not found else 'DIFFERENCES ' + ', '.join(sorted(found))}")
@@ -55,55 +60,58 @@ def names_found(labelled):
 
 
 def sound():
-    """A history as (label, event), without a fault: each way in which a request can end, the card's words, sign-ons, and an upload."""
+    """A history as (label, event), without a fault: each way in which a request can end, the card's words, sign-ons, an upload, approvals in
+    part."""
     return [
         ("start", Started("")), ("", sign_on(1)), ("", signed_on(1, "000001")), ("", on("000001")), ("", Line("last request: none")),
         ("", Line("ready, batch 000001")),
         # 1: approved.
-        ("", Command(f"sale 12000 {CARD}")), ("request 1", request("22", 1, 12000)), ("held 1", Held(six(1))),
+        ("", Command(f"sale 12000 {CARD}")), ("request 1", request("22", 1, 12000)), ("held 1", held(1, 12000)),
         ("answer 1", approval("22", 1, 12000)), ("line 1", result("22", 1, "approved", 12000)), ("totals 1", totals(12000, 1, 0, 0)),
         # 2: lost on the way, reversed.
         ("", Command(f"sale 8000 {CARD}")), ("request 2", request("22", 2, 8000)), ("", sending(1)), ("reversal 2", reversal("22", 2, 8000)),
         ("ended 2", reversal_answer("22", 2, 8000, "25")), ("line 2", result("22", 2, "reversed", 8000)),
         # 3: voids 1. The desk is killed before it tells, and tells after its start. The centre brings another batch number.
-        ("", Command(f"sale-void {six(1)}")), ("request 3", void(3, 1, 12000)), ("held 3", Held(six(3))),
+        ("", Command(f"sale-void {six(1)}")), ("request 3", void(3, 1, 12000)), ("held 3", held(3, 12000)),
         ("answer 3", approval("23", 3, 12000)), ("", Killed("after-answer-store:9")), ("", Started("")), ("sign-on 31", sign_on(31)),
         ("", signed_on(31, "000007")), ("on 31", on("000001")), ("line 3", last(result("23", 3, "approved", 12000))),
         ("totals 3", totals(12000, 1, 12000, 1)), ("", Line("ready, batch 000001")),
         # 4: held by the centre, its reversal given up.
-        ("", Command(f"sale 5000 {CARD}")), ("request 4", request("22", 4, 5000)), ("held 4", Held(six(4))),
+        ("", Command(f"sale 5000 {CARD}")), ("request 4", request("22", 4, 5000)), ("held 4", held(4, 5000)),
         ("", sending(1)), ("reversal 4 a", reversal("22", 4, 5000)), ("sending 4 b", sending(2)), ("reversal 4 b", reversal("22", 4, 5000)),
         ("", sending(3)), ("reversal 4 c", reversal("22", 4, 5000)),
         ("line 4", result("22", 4, "given up", 5000)),
         # 5: a refund without an answer.
-        ("command 5", Command(f"refund 700 {CARD} 000000000001 {DATE}")), ("request 5", request("25", 5, 700)), ("held 5", Held(six(5))),
+        ("command 5", Command(f"refund 700 {CARD} 000000000001 {DATE}")), ("request 5", request("25", 5, 700)), ("held 5", held(5, 700)),
         ("line 5", result("25", 5, "unanswered", 700)),
         # 6: declined.
         ("", Command(f"sale 300 {CARD}")), ("request 6", request("22", 6, 300)), ("answer 6", card_answer("22", 6, 300, "51")),
         ("line 6", result("22", 6, "declined", 300, "51")),
         # 7: approved with a wrong MAC, reversed.
-        ("", Command(f"sale 900 {CARD}")), ("request 7", request("22", 7, 900)), ("held 7", Held(six(7))),
+        ("", Command(f"sale 900 {CARD}")), ("request 7", request("22", 7, 900)), ("held 7", held(7, 900)),
         ("answer 7", approval("22", 7, 900, False)), ("", sending(1)), ("reversal 7", reversal("22", 7, 900, "A0")), ("released 7", Released(six(7))),
         ("ended 7", reversal_answer("22", 7, 900, "00")), ("line 7", result("22", 7, "reversed", 900)),
         *sound_chips(),
         *sound_sign_ons(),
         *sound_settlement(),
+        *((label, later(event)) for label, event in sound_parts()),
+        ("", Command("quit")), ("quit", Ended(0, "")),
     ]
 
 
 def sound_chips():
     return [
         # 8: the card agrees.
-        ("command 8", Command(f"sale 2500 {CARD} chip {CHIP.hex()}")), ("request 8", chip_request("22", 8, 2500)), ("held 8", Held(six(8))),
+        ("command 8", Command(f"sale 2500 {CARD} chip {CHIP.hex()}")), ("request 8", chip_request("22", 8, 2500)), ("held 8", held(8, 2500)),
         ("answer 8", approval("22", 8, 2500)), ("asked 8", asked("22", 8, 2500)), ("word 8", Command("card-agrees")),
         ("line 8", result("22", 8, "approved", 2500, chip=True)), ("totals 8", totals(14500, 2, 12000, 1)),
         # 9: the card declines.
-        ("", Command(f"authorise 600 {CARD} chip {CHIP.hex()}")), ("request 9", chip_request("10", 9, 600)), ("held 9", Held(six(9))),
+        ("", Command(f"authorise 600 {CARD} chip {CHIP.hex()}")), ("request 9", chip_request("10", 9, 600)), ("held 9", held(9, 600)),
         ("answer 9", approval("10", 9, 600)), ("asked 9", asked("10", 9, 600)), ("word 9", Command("card-declines")),
         ("", sending(1)), ("reversal 9", chip_reversal("10", 9, 600)), ("released 9", Released(six(9))),
         ("ended 9", reversal_answer("10", 9, 600, "00")), ("line 9", result("10", 9, "reversed", 600, chip=True)),
         # 10: the desk is killed while it waits for the card. It cannot sign on, and leaves the reversal pending.
-        ("", Command(f"sale 400 {CARD} chip {CHIP.hex()}")), ("request 10", chip_request("22", 10, 400)), ("held 10", Held(six(10))),
+        ("", Command(f"sale 400 {CARD} chip {CHIP.hex()}")), ("request 10", chip_request("22", 10, 400)), ("held 10", held(10, 400)),
         ("answer 10", approval("22", 10, 400)), ("asked 10", asked("22", 10, 400)), ("", Killed("random")), ("stored", Stored(bytes(500))),
         ("", Started("")), ("sign-on 101", sign_on(101)), ("off 101", off("has not answered")),
         ("pending 10", last(result("22", 10, "pending", 400, chip=True))), ("totals 10", totals(14500, 2, 12000, 1)),
@@ -146,22 +154,63 @@ def sound_settlement():
         # 13: signed off, the desk signs on for it and adopts the number that the centre brings.
         ("command 13", Command(f"sale 800 {CARD}")), ("sign-on 121", sign_on(121, "000002")), ("answer 121", signed_on(121, "000005")),
         ("on 121", on("000005")), ("request 13", request("22", 13, 800, "000005")), ("", card_answer("22", 13, 800, "51", batch="000005")),
-        ("", result("22", 13, "declined", 800, "51")),
-        ("", Command("quit")), ("quit", Ended(0, "")),
+        ("line 13", result("22", 13, "declined", 800, "51")),
+    ]
+
+
+def sound_parts():
+    """Sales that are answered 10, in the later batch."""
+    return [
+        # 14: approved in part.
+        ("", Command(f"sale 5000 {CARD}")), ("request 14", request("22", 14, 5000)), ("held 14", held(14, 2000)), ("answer 14", part("22", 14, 2000)),
+        ("line 14", result("22", 14, "approved", 2000, of=5000)), ("rest 14", rest(2000, 3000)), ("totals 14", totals(2000, 1, 0, 0)),
+        # 15: voids 14.
+        ("", Command(f"sale-void {six(14)}")), ("request 15", void(15, 14, 2000)), ("", held(15, 2000)), ("", approval("23", 15, 2000)),
+        ("line 15", result("23", 15, "approved", 2000)), ("", totals(2000, 1, 2000, 1)),
+        # 16: the card agrees.
+        ("", Command(f"sale 900 {CARD} chip {CHIP.hex()}")), ("", chip_request("22", 16, 900)), ("", held(16, 400)), ("", part("22", 16, 400)),
+        ("asked 16", asked("22", 16, 400, of=900)), ("word 16", Command("card-agrees")),
+        ("line 16", result("22", 16, "approved", 400, of=900, chip=True)), ("rest 16", rest(400, 500)), ("totals 16", totals(2400, 2, 2000, 1)),
+        # 17: the card declines.
+        ("", Command(f"sale 700 {CARD} chip {CHIP.hex()}")), ("", chip_request("22", 17, 700)), ("", held(17, 300)), ("", part("22", 17, 300)),
+        ("", asked("22", 17, 300, of=700)), ("", Command("card-declines")), ("", sending(1)), ("reversal 17", chip_reversal("22", 17, 700)),
+        ("", Released(six(17))), ("", reversal_answer("22", 17, 700, "00")), ("line 17", result("22", 17, "reversed", 700, chip=True)),
+        # 18: a wrong MAC.
+        ("", Command(f"sale 600 {CARD}")), ("", request("22", 18, 600)), ("held 18", held(18, 100)), ("", part("22", 18, 100, False)),
+        ("", sending(1)), ("reversal 18", reversal("22", 18, 600, "A0")), ("released 18", Released(six(18))),
+        ("ended 18", reversal_answer("22", 18, 600, "00")), ("line 18", result("22", 18, "reversed", 600)),
+        # 19: 10 for all of it.
+        ("", Command(f"sale 800 {CARD}")), ("", request("22", 19, 800)), ("", held(19, 800)), ("answer 19", part("22", 19, 800)),
+        ("line 19", result("22", 19, "approved", 800)), ("", totals(3200, 3, 2000, 1)),
+        # 20: the desk is killed before it tells.
+        ("", Command(f"sale 1000 {CARD}")), ("", request("22", 20, 1000)), ("", held(20, 999)), ("", part("22", 20, 999)),
+        ("", Killed("after-answer-store:9")), ("", Started("")), ("", sign_on(201)), ("", signed_on(201, LATER)), ("", on(LATER)),
+        ("line 20", last(result("22", 20, "approved", 999, of=1000))), ("rest 20", rest(999, 1)), ("totals 20", totals(4199, 4, 2000, 1)),
+        ("", Line(f"ready, batch {LATER}")),
+        # 21: a refund is declined by 10.
+        ("", Command(f"refund 700 {CARD} 000000000001 {DATE}")), ("", request("25", 21, 700)), ("", card_answer("25", 21, 700, "10")),
+        ("line 21", result("25", 21, "declined", 700, "10")),
+        ("", Command("journal")), ("entry 14", entry("22", 14, 2000, ", voided")), ("", entry("23", 15, 2000)), ("entry 16", entry("22", 16, 400)),
+        ("", entry("22", 19, 800)), ("", entry("22", 20, 999)), ("", Line("journal 5 entries")),
+        ("", Command("settle")), ("settlement 22", settlement(22, 4199, 4, 2000, 1)), ("", settlement_answer(22, 4199, 4, 2000, 1, "2")),
+        ("item 14", item("22", 14, 2000)), ("", upload_answer("22", 14, "201")), ("", item("23", 15, 2000)), ("", upload_answer("23", 15, "201")),
+        ("item 16", item("22", 16, 400)), ("", upload_answer("22", 16, "201")), ("", item("22", 19, 800)), ("", upload_answer("22", 19, "201")),
+        ("", item("22", 20, 999)), ("", upload_answer("22", 20, "201")), ("", upload_end(23)), ("", upload_answer("00", 23, "202")),
+        ("", Line(f"settled batch {LATER}: debit 41.99 yuan in 4, credit 20.00 yuan in 1")),
     ]
 
 
 def planted_faults():
     """(what is wrong, name of the difference that must be found, change of the sound history)."""
     return (faults_of_requests() + faults_of_chips() + faults_of_totals() + faults_under_sign_ons() + faults_of_sign_ons()
-            + faults_of_settlement())
+            + faults_of_settlement() + faults_of_parts() + faults_after_parts())
 
 
 def faults_of_requests():
     return [
         ("a fee held that nobody was told of", "untold", without("line 4", "line 5", "doubtful 4", "doubtful 5")),
         ("a fee held, called reversed", "held", without("released 7")),
-        ("a fee held, called declined", "held", after("answer 6", Held(six(6)))),
+        ("a fee held, called declined", "held", after("answer 6", held(6, 300))),
         ("approved and not held", "not held", without("held 1")),
         ("a reversal sent L+1 times", "reversal too often", after("reversal 4 c", reversal("22", 4, 5000))),
         ("a reversal given up early", "given up early", without("reversal 4 b", "reversal 4 c")),
@@ -258,7 +307,7 @@ def faults_under_sign_ons():
     """Of the batch number that a sign-on brings, and of the reversal that it goes before."""
     return [
         ("a batch number adopted over a pending reversal", "batch number", replace("on 103", on("000009"))),
-        ("a pending reversal that leaves in another batch", "reversal", replace("reversal 10", chip_reversal("22", 10, 400, {60: "22000009000"}))),
+        ("a pending reversal that leaves in another batch", "reversal", replace("reversal 10", chip_reversal("22", 10, 400, {60: "22000009000001"}))),
         ("a batch number adopted after card requests", "batch number", replace("on 31", on("000007"))),
         ("a batch number adopted while settling", "batch number", settling_sign_on("000008")),
         ("a batch number adopted without a 00", "batch number", after("off 102", Line("ready, batch 000009"))),
@@ -356,6 +405,67 @@ def faults_of_settlement():
     ]
 
 
+def faults_of_parts():
+    """Of what is told of an approval in part, and of its totals."""
+    return [
+        ("a part told as the whole", "result line", replace("line 14", result("22", 14, "approved", 5000))),
+        ("a part told without the amount asked", "result line", replace("line 14", result("22", 14, "approved", 2000))),
+        ("a part told of another amount", "result line", replace("line 14", result("22", 14, "approved", 2000, of=5001))),
+        ("a whole told as a part", "result line", replace("line 19", result("22", 19, "approved", 800, of=801))),
+        ("the card asked for the whole", "result line", replace("asked 16", asked("22", 16, 900))),
+        ("the card asked for another part", "result line", replace("asked 16", asked("22", 16, 401, of=900))),
+        ("a reversed part told as the part", "result line", replace("line 17", result("22", 17, "reversed", 300, chip=True))),
+        ("a part told late as the whole", "result line", replace("line 20", last(result("22", 20, "approved", 1000)))),
+        ("nothing told to be still to pay", "still to pay", without("rest 14")),
+        ("nothing told to be still to pay after the card's consent", "still to pay", without("rest 16")),
+        ("nothing told to be still to pay at a start", "still to pay", without("rest 20")),
+        ("too much told to be still to pay", "still to pay", replace("rest 14", rest(2000, 5000))),
+        ("one fen too few told to be still to pay", "still to pay", replace("rest 16", rest(400, 499))),
+        ("paid and still to pay exchanged", "still to pay", replace("rest 14", rest(3000, 2000))),
+        ("the whole told to be paid", "still to pay", replace("rest 14", rest(5000, 0))),
+        ("something still to pay after a whole", "still to pay", after("line 19", rest(800, 0))),
+        ("something still to pay after a reversal", "still to pay", after("line 17", rest(300, 400))),
+        ("something still to pay after a void", "still to pay", after("line 15", rest(2000, 3000))),
+        ("still to pay told twice", "still to pay", after("rest 14", rest(2000, 3000))),
+        ("still to pay told before the card's consent", "still to pay", after("asked 16", rest(400, 500))),
+        ("the amount asked in the totals", "totals", replace("totals 14", totals(5000, 1, 0, 0))),
+        ("the amount asked in the totals after the card's consent", "totals", replace("totals 16", totals(2900, 2, 2000, 1))),
+        ("the amount asked in the totals at a start", "totals", replace("totals 20", totals(4200, 4, 2000, 1))),
+        ("totals of a part that the ledger has otherwise", "totals and ledger", replace("held 14", held(14, 5000))),
+        ("no totals after a part", "totals line", without("totals 14")),
+    ]
+
+
+def faults_after_parts():
+    """Of messages about approvals in part, of the journal, and of the decision."""
+    return [
+        ("a reversal of the part that the card declined", "reversal", replace("reversal 17", later(chip_reversal("22", 17, 300)))),
+        ("a reversal of the part with a wrong MAC", "reversal", replace("reversal 18", later(reversal("22", 18, 100, "A0")))),
+        ("a void of the amount asked", "void", replace("request 15", later(void(15, 14, 5000)))),
+        ("an upload of the amount asked", "upload", replace("item 14", later(item("22", 14, 5000)))),
+        ("a settlement of the amount asked", "settlement", replace("settlement 22", later(settlement(22, 7199, 4, 2000, 1)))),
+        ("a journal with the amount asked", "journal", replace("entry 14", entry("22", 14, 5000, ", voided"))),
+        ("a journal with the amount asked after the card's consent", "journal", replace("entry 16", entry("22", 16, 900))),
+        ("a sale that does not ask for a part", "form", replace("request 14", Received({**request("22", 14, 5000).message, 60: f"22{LATER}000"}))),
+        ("a void that asks for a part", "form", replace("request 15", Received({**void(15, 14, 2000).message, 60: f"23{LATER}000001"}))),
+        ("a reversal that does not ask for a part", "form",
+         replace("reversal 18", Received({**reversal("22", 18, 600, "A0").message, 60: f"22{LATER}000"}))),
+        ("a settlement that asks for a part", "form",
+         replace("settlement 22", Received({**settlement(22, 4199, 4, 2000, 1).message, 60: f"00{LATER}201001"}))),
+        ("approved by 10 for 0", "approved", replace("answer 14", later(part("22", 14, 0)))),
+        ("approved by 10 for more than asked", "approved", replace("answer 14", later(part("22", 14, 5001)))),
+        ("approved by 10 with a wrong MAC", "approved", replace("answer 14", later(part("22", 14, 2000, False)))),
+        ("approved by 10 without a date", "approved", replace("answer 14", later(part("22", 14, 2000, left_out=13)))),
+        ("approved by 10 without an amount", "approved", replace("answer 14", later(part("22", 14, 2000, left_out=4)))),
+        ("approved by 00 for a part", "approved", replace("answer 14", later(approval("22", 14, 2000)))),
+        ("a part called declined", "declined", replace("line 14", result("22", 14, "declined", 5000, "10"))),
+        ("a part called declined, though it is held", "held", replace("line 14", result("22", 14, "declined", 5000, "10"))),
+        ("a refund approved by 10", "approved", replace("line 21", result("25", 21, "approved", 700))),
+        ("a part entered without the card's consent", "consent", without("word 16")),
+        ("a reversal answered 10 called reversed", "reversed", replace("ended 18", later(reversal_answer("22", 18, 600, "10")))),
+    ]
+
+
 # Changes of a history.
 
 def replace(label, event):
@@ -384,10 +494,20 @@ def six(place):
     return f"{10 * place:06d}"
 
 
+def later(event):
+    """The same event in the later batch."""
+    if not isinstance(event, (Received, Answered)):
+        return event
+    fields = {number: value[:2] + LATER + value[8:] if number == 60 else value.replace(BATCH, LATER, 1) if number == 61 else value
+              for number, value in event[0].items()}
+    return event._replace(**{event._fields[0]: fields})
+
+
 def card_fields(kind, place, amount, batch=BATCH):
     processing = "030000" if kind == "10" else "000000" if kind in ("20", "22") else "200000"
     return {0: {"25": "0220", "10": "0100"}.get(kind, "0200"), 2: CARD, 3: processing, 4: f"{amount:012d}", 11: six(place), 22: "012",
-            25: "06" if kind == "10" else "00", 41: TERMINAL, 42: MERCHANT, 49: "156", 60: kind + batch + "000", 64: bytes(8)}
+            25: "06" if kind == "10" else "00", 41: TERMINAL, 42: MERCHANT, 49: "156", 60: kind + batch + "000" + ("001" if kind == "22" else ""),
+            64: bytes(8)}
 
 
 def request(kind, place, amount, batch=BATCH):
@@ -425,6 +545,16 @@ def card_answer(kind, place, amount, code, mac_is_good=True, batch=BATCH):
 def approval(kind, place, amount, mac_is_good=True):
     answer = card_answer(kind, place, amount, "00").answer
     return Answered({**answer, 13: DATE, 37: reference(place), 38: authorisation(place)}, mac_is_good, "plain")
+
+
+def part(kind, place, amount, mac_is_good=True, left_out=None):
+    """An approval by 10 for this amount."""
+    answer = {**approval(kind, place, amount).answer, 39: "10", 54: "1002156C000000000000"}
+    return Answered({number: value for number, value in answer.items() if number != left_out}, mac_is_good, "plain")
+
+
+def held(place, amount):
+    return Held(six(place), amount)
 
 
 def reversal(kind, place, amount, reason="98", batch=BATCH):
@@ -481,17 +611,25 @@ def off(why):
     return Line(f"not signed on: the centre {why}; the next request tries again")
 
 
-def asked(kind, place, amount):
-    return Line(f"{WORDS[kind]} {six(place)}: the centre approves {amount // 100}.{amount % 100:02d} yuan, card {masked(CARD)}, chip; "
-                "card-agrees or card-declines")
+def yuan(amount, of=None):
+    """An amount as the desk shows it, and where it is a part, of which."""
+    return f"{amount // 100}.{amount % 100:02d} yuan" + (f" of {yuan(of)}" if of else "")
 
 
-def result(kind, place, word, amount, code="", chip=False):
+def asked(kind, place, amount, of=None):
+    return Line(f"{WORDS[kind]} {six(place)}: the centre approves {yuan(amount, of)}, card {masked(CARD)}, chip; card-agrees or card-declines")
+
+
+def rest(paid, to_pay):
+    return Line(f"paid by the card {yuan(paid)}, still to pay {yuan(to_pay)}")
+
+
+def result(kind, place, word, amount, code="", chip=False, of=None):
     code = f" ({code})" if code else ""
     chip = ", chip" if chip else ""
     tail = f", reference {reference(place)}, authorisation {authorisation(place)}" if word == "approved" else ""
     tail = "; ask the centre" if word in ("given up", "unanswered") else tail
-    return Line(f"{WORDS[kind]} {six(place)}: {word}{code} {amount // 100}.{amount % 100:02d} yuan, card {masked(CARD)}{chip}{tail}")
+    return Line(f"{WORDS[kind]} {six(place)}: {word}{code} {yuan(amount, of)}, card {masked(CARD)}{chip}{tail}")
 
 
 def last(line):
@@ -499,10 +637,9 @@ def last(line):
 
 
 def totals(debit, debit_count, credit, credit_count):
-    return Line(f"totals debit {debit // 100}.{debit % 100:02d} yuan in {debit_count} "
-                f"credit {credit // 100}.{credit % 100:02d} yuan in {credit_count}")
+    return Line(f"totals debit {yuan(debit)} in {debit_count} credit {yuan(credit)} in {credit_count}")
 
 
 def entry(kind, place, amount, voided=""):
-    return Line(f"{WORDS[kind]} {six(place)}: {amount // 100}.{amount % 100:02d} yuan, card {masked(CARD)}, date {DATE}, "
+    return Line(f"{WORDS[kind]} {six(place)}: {yuan(amount)}, card {masked(CARD)}, date {DATE}, "
                 f"reference {reference(place)}, authorisation {authorisation(place)}{voided}")

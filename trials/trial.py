@@ -23,7 +23,7 @@ sys.dont_write_bytecode = True
 import history
 import iso
 import planted
-from centre import Centre
+from centre import PREPAID, Centre
 from comparer import ASKED, KINDS, NOT_SIGNED_ON, RESULT, SIGNED_ON, STILL_SIGNED_ON, Comparer
 
 POINTS = ("before-call", "before-store", "during-store", "after-store", "after-send", "after-answer", "before-answer-store",
@@ -177,7 +177,7 @@ class Store:
         self.comparer = Comparer(self.limit, self.sendings, self.refund, "LIB00001", MERCHANT)
         self.centre = Centre(f"{options.seed} {number}", options.faults, options.timeout, self.comparer.take, batch=first_batch)
         self.file = os.path.join(folder, f"store-{number}")
-        self.cards = [self._card() for _ in range(6)]
+        self.cards = [self._card(front) for front in ("62", "62", "62", PREPAID, PREPAID, PREPAID)]
         self.desk = None
 
     def run(self, rounds):
@@ -303,8 +303,8 @@ class Store:
                 self.desk.give(given)
             line = self.desk.line(kill_at)
             is_end = line is not None and RESULT.fullmatch(line) is not None
-            if is_end and _is_approved(line):
-                line = self.desk.line(kill_at)
+            for _ in range(_lines_after(line) if is_end else 0):
+                line = line and self.desk.line(kill_at)
             if line is None:
                 self.desk.kill()
                 return False
@@ -402,9 +402,9 @@ class Store:
             chip = self.generator.choice((b"", twice, chip[:-len(parts[-1])] + b"\x9F", chip + b"\x8E\x81\x03" + bytes(3), bytes(300)))
         return chip.hex().upper() or "-"
 
-    def _card(self):
+    def _card(self, front):
         length = self.generator.choice((13, 16, 16, 16, 19, 19))
-        return "62" + "".join(self.generator.choice("0123456789") for _ in range(length - 2))
+        return front + "".join(self.generator.choice("0123456789") for _ in range(length - len(front)))
 
 
 def _lines_left(command, line, left, pending):
@@ -424,13 +424,15 @@ def _lines_left(command, line, left, pending):
         return left - 1
     if line.startswith("doubtful: "):
         return int(line.split()[1])
-    return 1 if _is_approved(line) else 0
+    return _lines_after(line)
 
 
-def _is_approved(line):
-    """Whether a line says that a request is approved: then the totals follow."""
+def _lines_after(line):
+    """How many lines belong to a line that says how a request ended: after an approval the totals, in part also what is still to pay."""
     result = RESULT.fullmatch(line)
-    return result is not None and result.group(3) == "approved"
+    if result is None or result.group(3) != "approved":
+        return 0
+    return 1 if result.group(6) is None else 2
 
 
 def show_difference(store, difference):
@@ -442,7 +444,7 @@ def show_difference(store, difference):
 
 def show_figures(figures, differences, seconds):
     names = ("rounds", "random kills", "kills at points", "messages", "card requests", "approved", "declined", "reversed", "given up",
-             "unanswered", "reversals", "settlements", "closings", "upload items", "upload ends", "refusals", "journals compared",
+             "unanswered", "approved in part", "reversals", "settlements", "closings", "upload items", "upload ends", "refusals", "journals compared",
              "totals compared", "doubtful lists compared", "chip requests", "cards asked", "cards agreed", "cards declined", "cards silent",
              "kills in the wait for a card", "sign-ons", "sign-ons before a reversal", "signed on", "not signed on", "still signed on",
              "numbers adopted", "left pending")
@@ -472,8 +474,8 @@ def run(options):
                 kills = figures["random kills"] + figures["kills at points"]
                 print(f"{figures['rounds']} of {options.rounds} rounds, {kills} kills, {differences} differences", file=sys.stderr, flush=True)
     show_figures(figures, differences, time.monotonic() - began)
-    untried = [name for name in ("random kills", "kills at points", "approved", "reversed", "closings", "cards agreed", "cards declined",
-                                 "signed on", "not signed on", "numbers adopted") if not figures[name]]
+    untried = [name for name in ("random kills", "kills at points", "approved", "approved in part", "reversed", "closings", "cards agreed",
+                                 "cards declined", "signed on", "not signed on", "numbers adopted") if not figures[name]]
     if untried and options.rounds >= 50:
         print(f"nothing was tried of: {', '.join(untried)}")
         return 1

@@ -11,7 +11,8 @@ pub enum Class {
 }
 use Class::{Bytes, Digits, Printable};
 
-/// A row of the table of fields. The prefix is the bytes of the length, 0 for a field of one length. The lengths of KEYS are KEY_LENGTHS.
+/// A row of the table of fields. The prefix is the bytes of the length, 0 for a field of one length. The lengths of CODES are CODE_LENGTHS,
+/// those of KEYS KEY_LENGTHS.
 pub struct Format {
     pub number: u8,
     pub class: Class,
@@ -41,13 +42,17 @@ pub struct View {
     spans: [Span; ROWS],
 }
 
-const ROWS: usize = 25;
+const ROWS: usize = 26;
 
 /// The smallest buffer that a message is written to: the longest message.
-pub const LARGEST: usize = 591;
+pub const LARGEST: usize = 614;
 
 /// The field whose elements are judged after all else.
 pub const CHIP: u8 = 55;
+
+/// The field of kind, batch and codes, and the lengths that it may have.
+pub const CODES: u8 = 60;
+pub const CODE_LENGTHS: [usize; 2] = [11, 14];
 
 /// The field whose length is judged after that, and the lengths that it may have.
 pub const KEYS: u8 = 62;
@@ -76,8 +81,9 @@ pub const FORMATS: [Format; ROWS] = [
     row(44, Bytes, 1, 0, 25),
     row(48, Digits, 2, 62, 62),
     row(49, Printable, 0, 3, 3),
+    row(54, Printable, 2, 20, 20),
     row(CHIP, Bytes, 2, 1, 255),
-    row(60, Digits, 2, 11, 11),
+    row(CODES, Digits, 2, 11, 14),
     row(61, Digits, 2, 16, 16),
     row(KEYS, Bytes, 2, 24, 84),
     row(63, Bytes, 2, 3, 63),
@@ -267,7 +273,11 @@ fn length(format: &Format, bytes: &[u8]) -> Result<usize, u8> {
 /// Whether a length is allowed, as far as 7 is concerned.
 #[inline]
 fn is_allowed(format: &Format, count: usize) -> bool {
-    format.number == KEYS || (usize::from(format.least)..=usize::from(format.most)).contains(&count)
+    match format.number {
+        KEYS => true,
+        CODES => CODE_LENGTHS.contains(&count),
+        _ => (usize::from(format.least)..=usize::from(format.most)).contains(&count),
+    }
 }
 
 /// The bytes of so many digits or bytes.
@@ -354,7 +364,7 @@ mod tests {
     }
 
     #[test]
-    fn the_table_makes_591_bytes() {
+    fn the_table_makes_614_bytes() {
         let fields: usize = FORMATS.iter().map(|f| usize::from(f.prefix) + size(f.class, usize::from(f.most))).sum();
         assert_eq!(10 + fields, LARGEST);
         assert!(TYPES.iter().all(|&x| is_listed(x)));
@@ -382,6 +392,18 @@ mod tests {
         assert_eq!(refusal(&one(48, &[0x00])), 3);
         assert_eq!(refusal(&one(48, &[0x10, 0x62])), 7);
         assert_eq!(refusal(&one(44, &[0x00])), 0);
+    }
+
+    #[test]
+    fn codes_and_balances() {
+        for (length, bytes, number) in [(0x10, 5, 7), (0x11, 6, 0), (0x12, 6, 7), (0x13, 7, 7), (0x14, 7, 0), (0x15, 8, 7)] {
+            assert_eq!(refusal(&one(CODES, &[&[0, length][..], &vec![0; bytes]].concat())), number);
+        }
+        assert_eq!(refusal(&one(CODES, &[0x00, 0x11, 0, 0, 0, 0, 0, 0x01])), 6);
+        for (length, count, number) in [(0x19, 19, 7), (0x20, 20, 0), (0x21, 21, 7)] {
+            assert_eq!(refusal(&one(54, &[&[0, length][..], &vec![b'C'; count]].concat())), number);
+        }
+        assert_eq!(refusal(&one(54, &[&[0, 0x20][..], &[0x1F; 20]].concat())), 8);
     }
 
     #[test]

@@ -1,5 +1,5 @@
 //! The messages that are read and written.
-use crate::codec::{self, Class, Field, Format, CHIP, FORMATS, KEYS, KEY_LENGTHS, LARGEST};
+use crate::codec::{self, Class, Field, Format, CHIP, CODES, CODE_LENGTHS, FORMATS, KEYS, KEY_LENGTHS, LARGEST};
 use crate::library::Sale;
 use crate::random::Random;
 
@@ -21,7 +21,7 @@ pub fn write_sale(sale: &Sale, chip: &[u8], trace: u32, out: &mut [u8]) -> Resul
     pack(sale.amount, &mut amount);
     pack(trace.into(), &mut trace_number);
     pack(BATCH.into(), &mut batch);
-    let field60 = [0x22, batch[0], batch[1], batch[2], 0x00, 0x00];
+    let field60 = [0x22, batch[0], batch[1], batch[2], 0x00, 0x00, 0x01];
     let field = |number, count, contents| Field { number, count, contents };
     let mode = if chip.is_empty() { &[0x01, 0x20] } else { &[0x05, 0x20] };
     let mut fields = [
@@ -35,7 +35,7 @@ pub fn write_sale(sale: &Sale, chip: &[u8], trace: u32, out: &mut [u8]) -> Resul
         field(42, 15, MERCHANT),
         field(49, 3, b"156"),
         field(CHIP, chip.len(), chip),
-        field(60, 11, &field60),
+        field(CODES, 14, &field60),
         field(64, 8, &[0; 8]),
     ];
     if chip.is_empty() {
@@ -69,7 +69,7 @@ pub fn approval(trace: u32, amount: u64) -> Vec<u8> {
         (41, String::from_utf8_lossy(TERMINAL).into()),
         (42, String::from_utf8_lossy(MERCHANT).into()),
         (49, "156".to_string()),
-        (60, format!("22{BATCH:06}000")),
+        (CODES, format!("22{BATCH:06}000001")),
         (64, "01234567".to_string()),
     ];
     built(0x0210, &texts.map(|(number, text)| (number, text.into_bytes())))
@@ -90,7 +90,7 @@ pub fn signed_on(trace: u32, batch: u32, keys: usize) -> Vec<u8> {
 
 fn sign_on_fields(trace: u32, batch: u32) -> Vec<(u8, Vec<u8>)> {
     let field60 = format!("00{batch:06}003").into_bytes();
-    vec![(11, format!("{trace:06}").into_bytes()), (41, TERMINAL.to_vec()), (42, MERCHANT.to_vec()), (60, field60)]
+    vec![(11, format!("{trace:06}").into_bytes()), (41, TERMINAL.to_vec()), (42, MERCHANT.to_vec()), (CODES, field60)]
 }
 
 /// Field 62 alone, with so many bytes, of any length below 10,000.
@@ -111,7 +111,7 @@ pub fn difference(trace: u32) -> Vec<u8> {
         (41, String::from_utf8_lossy(TERMINAL).into()),
         (42, String::from_utf8_lossy(MERCHANT).into()),
         (48, format!("{:030}2{:031}", 0, 0)),
-        (60, format!("00{BATCH:06}201")),
+        (CODES, format!("00{BATCH:06}201")),
     ];
     built(0x0510, &texts.map(|(number, text)| (number, text.into_bytes())))
 }
@@ -128,6 +128,7 @@ pub fn any(random: &mut Random) -> Vec<u8> {
     for format in &FORMATS {
         if random.below(2) == 0 {
             let count = match format.number {
+                CODES => CODE_LENGTHS[random.below(CODE_LENGTHS.len())],
                 KEYS => KEY_LENGTHS[random.below(KEY_LENGTHS.len())],
                 _ => usize::from(format.least) + random.below(usize::from(format.most - format.least) + 1),
             };
@@ -219,13 +220,13 @@ mod tests {
     use crate::elements;
 
     #[test]
-    fn a_sale_is_that_of_document_01() {
+    fn a_sale_is_that_of_the_documents() {
         let sale = sale(&[]);
-        assert_eq!(sale.len(), 76);
+        assert_eq!(sale.len(), 77);
         assert_eq!(sale[..10], [0x02, 0x00, 0x70, 0x20, 0x04, 0x80, 0x00, 0xC0, 0x80, 0x11]);
         assert_eq!(sale[22..28], [0x00, 0x00, 0x00, 0x01, 0x20, 0x00]);
         assert_eq!(sale[31..33], [0x01, 0x20]);
-        assert_eq!(sale[60..68], [0x00, 0x11, 0x22, 0x00, 0x00, 0x01, 0x00, 0x00]);
+        assert_eq!(sale[60..69], [0x00, 0x14, 0x22, 0x00, 0x00, 0x01, 0x00, 0x00, 0x01]);
     }
 
     #[test]
