@@ -33,7 +33,7 @@ fn add_bytes(before: &[u8], after: &[u8], n: usize, out: &mut [u8]) -> usize {
 
 // Writes what the call of a case gave in one piece; the message buffer was blank.
 fn say(s: &[u8], outcome: Outcome, state: &[u8], blank: &[u8], journal: &[u8], message: &[u8]) {
-    let mut text = [0u8; 4096];
+    let mut text = [0u8; 4224];
     let mut n = add_outcome(outcome, 0, &mut text);
     n = add_bytes(cases::state_bytes(s), state, n, &mut text);
     n = add_bytes(cases::journal_of(s), journal, n, &mut text);
@@ -55,7 +55,7 @@ fn show_case(s: &[u8]) -> bool {
     let m = cases::message_length(s);
     let before = cases::journal_of(s);
     let j = before.len();
-    if 600 < m {
+    if 640 < m {
         return false;
     }
     if 1024 < j {
@@ -64,7 +64,7 @@ fn show_case(s: &[u8]) -> bool {
     if !cases::is_whole(s) {
         return false;
     }
-    let blank = [0xEEu8; 600];
+    let blank = [0xEEu8; 640];
     let mut message = blank;
     let mut journal = [0u8; 1024];
     texts::add(before, 0, &mut journal);
