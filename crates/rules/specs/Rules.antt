@@ -25,7 +25,7 @@ use Rattle.state.specs.State.{isWaiting}
 use Rattle.state.specs.Calls.{Lent}
 use Rattle.state_rules.specs.StateRules.{allOf, stateKept, past, sumsKept}
 
--- 1. The message buffer is below 505 bytes, or the journal below 48 times the entry limit.
+-- 1. The message buffer is below 614 bytes, or the journal below 48 times the entry limit.
 unfoldable pub tooShort : State → Lent → Bool
 tooShort s lent = ltb (length (lent .message)) largest || ltb (length (lent .journal)) (entrySize * s .settings .limit)
 
