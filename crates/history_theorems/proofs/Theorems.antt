@@ -29,7 +29,10 @@ use Rattle.history.proofs.Tied.{Tied}
 use Rattle.history.proofs.Events.{Signing, call-after, signing-after}
 use Rattle.history_theorems.specs.Standing.{Standing, SignOn, traceIn, isNew, next, standing, signOn}
 use Rattle.history_theorems.specs.Judged.{reversalPending, numberOf, JudgedBy, CallsJudged, SentAlwaysReads}
-use Rattle.history_theorems.specs.Approvals.{approvals, JournalIsApprovals}
+use Rattle.entry.specs.declared.Entry.{Entry}
+use Rattle.journal.specs.Journal.{entriesOf}
+use Rattle.history_theorems.specs.Approvals.{approvals, JournalIsApprovals, Approval, AreEntries}
+use Rattle.history_theorems.specs.Prepaid.{EachPaid, EntriesPaid}
 use Rattle.history_theorems.specs.Fields.{settlementItems, signOnItems}
 use Rattle.history_theorems.specs.Settlements.{SettlementsRead, SignOnsRead}
 use Rattle.history_theorems.specs.Requests.{StartJudged, StartsJudged}
@@ -221,6 +224,17 @@ sent-reads-always x j ts w v = all-hold ts (x .sendings) (begun x j) v (begun-ho
 
 pub journal-is-approvals : JournalIsApprovals
 journal-is-approvals x j ts w v = all-hold ts (x .sendings) (begun x j) v (begun-holds x j w) .booked
+
+each-paid : (es : List Entry) (xs : List Approval) → AreEntries es xs → EachPaid es xs
+each-paid [] [] h = tt
+each-paid [] (x ∷ xs) h = absurd h
+each-paid (e ∷ es) [] h = absurd h
+each-paid (e ∷ es) (x ∷ xs) h = ((h .0 .amount-most, h .0 .repaid-is), each-paid es xs (h .1))
+
+pub entries-paid : EntriesPaid
+entries-paid x j ts w v =
+    let r = runs ts (begun x j) in
+    each-paid (entriesOf (r .state .entries) (r .journal)) (approvals (r .history)) (journal-is-approvals x j ts w v)
 
 pub traces-taken : TracesTaken
 traces-taken x j ts w v = all-hold ts (x .sendings) (begun x j) v (begun-holds x j w) .traced

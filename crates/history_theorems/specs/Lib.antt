@@ -6,3 +6,4 @@ pub mod Requests
 pub mod Settlements
 pub mod Traces
 pub mod Uploads
+pub mod Prepaid
