@@ -31,7 +31,7 @@ module _ (s : State) (lent : Lent) (n : ℕ) (e : n ≡ firstBroken (cardRules s
   small z =
       let o = fit-first s lent last n e z .order .state in
       let y : s .chip .approved ≡ true = not-false (s .chip .approved) (passed 14 (cardRules s lent) refl (sym e ∙ z)) in
-      omega (arith, consent-holds (s .phase) (s .chip) (o .chip) y .1 .most, amount-small (s .phase) (o .phase-form))
+      omega (arith, consent-holds (s .phase) (s .chip) (o .chip) y .may .1 .most, amount-small (s .phase) (o .phase-form))
 
   pub word-taken : (d : Changed) (t : State) (k : List ℕ) → n ≡ 0 → (Bookable (s .chip .amount) s → changed t k ≡ d)
       → r ≡ record { outcome = Quiet; state = t }

@@ -88,7 +88,7 @@ module _ (s : State) (lent : Lent) (y : awaitsCard s ≡ true) where
   unfolding agreed
   agreed-fits (awaited.Request q) h =
       approved-fit q (approvalIn (s .chip)) (inPhase (Waiting (awaited.Request q)) s) lent h
-      (consent-holds (Waiting (awaited.Request q)) (s .chip) (h .order .state .chip) y)
+      (consent-holds (Waiting (awaited.Request q)) (s .chip) (h .order .state .chip) y .may)
   agreed-fits (awaited.Reversal v) h = h
   agreed-fits (awaited.Settlement x) h = h
   agreed-fits (awaited.Item i) h = h

@@ -244,7 +244,7 @@ module _ (s : State) (lent : Lent) where
       → KeptBy (cond (awaitsCard s) 1 0) s (lent .journal) (agreedIn (s .phase) s (lent .journal))
   agreed-kept-in h y =
       subst (λ (b : Bool). KeptBy (cond b 1 0) s (lent .journal) (agreedIn (s .phase) s (lent .journal))) (sym y)
-      (agreed-in s (lent .journal) (consent-holds (s .phase) (s .chip) (h .order .state .chip) y .0) (s .phase))
+      (agreed-in s (lent .journal) (consent-holds (s .phase) (s .chip) (h .order .state .chip) y .may .0) (s .phase))
 
   call-kept : (e : Event) → KeptIn (cond (isApproval e s) 1 0) s lent (call e s lent)
   unfolding signOn start answer noAnswer powerReturned cardAgrees cardDeclines sendReversal settle sendNextUpload

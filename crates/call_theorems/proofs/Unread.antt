@@ -204,7 +204,7 @@ module _ (s : State) (i j : List ℕ) (l : length i ≡ length j) (e : upTo (s .
     agrees-same : Fit s (lend j m) → awaitsCard s ≡ true
         → SameButRest (quietly (agreedIn (s .phase) s i) (lend i m)) (quietly (agreedIn (s .phase) s j) (lend j m))
     agrees-same h y =
-        quiet-same (agreed-in (h .journal-room) (consent-holds (s .phase) (s .chip) (h .order .state .chip) y .0) (s .phase) (h .order .phase-kept))
+        quiet-same (agreed-in (h .journal-room) (consent-holds (s .phase) (s .chip) (h .order .state .chip) y .may .0) (s .phase) (h .order .phase-kept))
 
     send-same : (p : Phase) → SameButRest (sendFrom p s (lend i m)) (sendFrom p s (lend j m))
     send-same Resting = same refl refl refl e

@@ -1,7 +1,7 @@
 -- Sign on, answer, no answer, power returned and the card's word keep the invariant; so does every call.
 use mathlib.Core.Path.{_≡_, refl, sym, _∙_}
 use mathlib.Core.List.{List}
-use mathlib.Core.Bool.{Bool, true, false, cond, true≢false, not, _&&_, _||_, and-eq-true-iff}
+use mathlib.Core.Bool.{Bool, true, false, cond, true≢false, not, _||_}
 use Prim.Native.Nat.{ℕ}
 use Rattle.message.specs.declared.Message.{Message}
 use Rattle.reading.specs.Reading.{readMessage}
@@ -22,9 +22,9 @@ use Rattle.state.specs.declared.Settings.{Settings}
 use Rattle.state.specs.declared.State.{State}
 use lib.Dec.{eqb}
 use borrow.Author.Tests.{not-false, eqb-true}
-use Rattle.state.specs.State.{hasChip, approvalIn, inPhase, signed, waits, signsOn}
-use Rattle.state_rules.specs.StateRules.{awaitsRequest, requestAwaited, approvalInForm, answeredKept}
-use Rattle.state_rules.proofs.Holds.{ChipHolds, none-over-wait}
+use Rattle.state.specs.State.{approvalIn, inPhase, signed, waits, signsOn}
+use Rattle.state_rules.specs.StateRules.{awaitsRequest, requestAwaited}
+use Rattle.state_rules.proofs.Holds.{ChipHolds, consent-holds, none-over-wait}
 use Rattle.checks.specs.Checks.{firstBroken}
 use Rattle.state.specs.declared.Outcome.{Outcome}
 use Rattle.state.specs.declared.Outcome.the-variants.{Send, Quiet, Refused}
@@ -198,13 +198,6 @@ power-after l s lent a h =
       lawful = tt;
     })
 
--- the card's word, where it is awaited: its request is
-pub consent-awaited : (p : Phase) (c : Chip) → ChipHolds p c → c .approved ≡ true → requestAwaited p ≡ true
-consent-awaited p c k e =
-    let first : Bool = requestAwaited p && hasChip c in
-    let t = and-eq-true-iff (first && approvalInForm (approvalIn c)) (answeredKept p (c .amount)) .0 (k .awaited e) in
-    and-eq-true-iff (requestAwaited p) (hasChip c) .0 (and-eq-true-iff first (approvalInForm (approvalIn c)) .0 (t .0) .0) .0
-
 -- the account after the card's consent
 abbrev afterConsent : Account → Account
 afterConsent a = accountOf (byFate whenAgreed (a .requests)) (a .last)
@@ -239,7 +232,7 @@ agrees-after l s lent a h =
     let f = fit-first s lent _ _ refl z in
     let e : s .chip .approved ≡ true = not-false _ (passed 14 rs refl z) in
     record {
-      tied = agreed-in (s .phase) l s (lent .journal) a h e (consent-awaited (s .phase) (s .chip) (chip-fits s lent f) e);
+      tied = agreed-in (s .phase) l s (lent .journal) a h e (consent-holds (s .phase) (s .chip) (chip-fits s lent f) e .request);
       lawful = tt;
     })
 
@@ -274,7 +267,7 @@ declines-after l s lent a h =
     let e : s .chip .approved ≡ true = not-false _ (passed 14 rs refl z) in
     record {
       tied =
-          rw (declined-in (s .phase) l (s .settings) (s .batch) (s .chip) a (h .shape) e (consent-awaited (s .phase) (s .chip) k e))
+          rw (declined-in (s .phase) l (s .settings) (s .batch) (s .chip) a (h .shape) e (consent-holds (s .phase) (s .chip) k e .request))
           (silent-in (s .phase) l s (lent .journal) a k h);
       lawful = tt;
     })

@@ -1,7 +1,7 @@
 -- Silence: a request without a decision, a failed sending, and what else is awaited keep the invariant.
 use mathlib.Core.Path.{_≡_, refl, sym, subst, _∙_}
 use mathlib.Core.List.{List, _∷_}
-use mathlib.Core.Bool.{Bool, true, false, cond, true≢false, and-eq-true-iff, _&&_}
+use mathlib.Core.Bool.{Bool, true, false, cond, true≢false, and-eq-true-iff}
 use Prim.Native.Nat.{ℕ, _≤_}
 use native.Mathlib.Omega.{arith}
 use lib.Dec.{leb, eqb}
@@ -18,9 +18,8 @@ use Rattle.state.specs.declared.Awaited.the-variants as awaited
 use Rattle.state.specs.declared.Phase.the-variants.{Waiting, Pending}
 use Rattle.state.specs.declared.State.{State}
 use Rattle.state.specs.declared.Count.the-variants.{GivenUp, Unanswered}
-use Rattle.state.specs.State.{chipBytes, hasChip, asSent, approvalIn, inPhase, withChip}
-use Rattle.state_rules.specs.StateRules.{approvalInForm, answeredKept}
-use Rattle.state_rules.proofs.Holds.{ChipHolds}
+use Rattle.state.specs.State.{chipBytes, asSent, inPhase, withChip}
+use Rattle.state_rules.proofs.Holds.{ChipHolds, consent-holds}
 use Rattle.effect_definitions.specs.JournalEffects.{Changed, silent}
 use Rattle.effect_definitions.specs.StateEffects as effects
 use Rattle.effect_definitions.specs.StateEffects.{pendingOrUnanswered, failed}
@@ -136,10 +135,8 @@ chip-reversed k h = go (eqb k 25) refl
 -- where the card's word is awaited, the request's kind is reversed
 pub consent-reversed : (q : Asked) (c : Chip) → ChipHolds (Waiting (awaited.Request q)) c → c .approved ≡ true → isNeverReversed (q .kind) ≡ false
 consent-reversed q c k e =
-    let a = and-eq-true-iff (hasChip c && approvalInForm (approvalIn c)) (answeredKept (Waiting (awaited.Request q)) (c .amount)) .0 (k .awaited e) in
-    let t = and-eq-true-iff (hasChip c) (approvalInForm (approvalIn c)) .0 (a .0) in
-    let s = and-eq-true-iff (sendsChip (q .kind)) (chipInForm (chipBytes c)) .0 (k .sent (t .0)) in
-    chip-reversed (q .kind) (s .0)
+    let h = consent-holds (Waiting (awaited.Request q)) c k e in
+    chip-reversed (q .kind) (and-eq-true-iff (sendsChip (q .kind)) (chipInForm (chipBytes c)) .0 (k .sent (h .chip)) .0)
 
 -- silence of the line, or of the card
 module _ (l : ℕ) (s : State) (a : Account) (q : Asked) (kept : Kept l (s .settings) (s .counts) (s .totals) (a .requests))

@@ -34,7 +34,7 @@ use Rattle.checks.specs.Checks.{firstBroken}
 use Rattle.checks.proofs.Choices.{passed}
 use Rattle.rules.specs.Rules.{rules12, due, requestKept, unvoidedAt, originalUnvoided}
 use Rattle.rules.proofs.InOrder.{Fit, fit}
-use Rattle.state_rules.proofs.Holds.{request-holds, MayApprove}
+use Rattle.state_rules.proofs.Holds.{request-holds, MayApprove, consent-holds}
 use Rattle.answer_match.specs.Match as match
 use Rattle.answer_match.specs.Match.{isAnswer, matchesSent, indicatorSent, holdsNamed, approves, approvesRequest, goodMac, approvalHolds, endsReversal}
 use Rattle.approval.specs.Approval.{approvalOf, approvedEntry}
@@ -56,7 +56,6 @@ use Rattle.history.proofs.Matching.{request-alike, mac-alike, settlement-closes
 use Rattle.call_theorems.proofs.Approvals.{approval-names, approval-read}
 use Rattle.history.proofs.Answered.{answered-alike}
 use Rattle.history.proofs.Approved.{approved-entries}
-use Rattle.history.proofs.Events.{consent-awaited}
 use Rattle.history_theorems.specs.Standing.{Standing}
 use Rattle.history_theorems.specs.Approvals.{Approval, whenHeard, whenQuiet, whenGiven, AreEntries}
 use Rattle.history_theorems.proofs.Stands.{Names, Stands}
@@ -340,7 +339,7 @@ call-booked card-agrees s lent y xs d k h =
     (λ z.
     let f = fit-first s lent _ _ refl z in
     let e : s .chip .approved ≡ true = not-false _ (passed 14 rs refl z) in
-    agreed-in (s .phase) s lent y xs f d k h e (consent-awaited (s .phase) (s .chip) (f .order .state .chip) e))
+    agreed-in (s .phase) s lent y xs f d k h e (consent-holds (s .phase) (s .chip) (f .order .state .chip) e .request))
 call-booked card-declines s lent y xs d k h =
     judged-booked s lent y xs d h card-declines _ (quietly (silentIn (s .phase) s (lent .journal)) lent) (λ z. silent-in (s .phase) s (lent .journal) xs h)
 call-booked send-reversal s lent y xs d k h =

@@ -31,6 +31,7 @@ use Rattle.state.specs.declared.Settings.{Settings}
 use Rattle.state.specs.declared.State.{State}
 use Rattle.state.specs.State.{inPhase, waits}
 use Rattle.state.specs.Calls.{Lent, Result, judged, refused, quiet}
+use Rattle.state_rules.proofs.Holds.{consent-holds}
 use Rattle.checks.specs.Checks.{firstBroken}
 use Rattle.checks.proofs.Choices.{passed}
 use Rattle.rules.specs.Rules.{rules12, due}
@@ -55,7 +56,6 @@ use Rattle.history.specs.History as history
 use Rattle.history.specs.History.{Given, Account}
 use Rattle.history.proofs.Said.{handedOut, sent-reads}
 use Rattle.history.proofs.Settles.{settings-held, entry-held}
-use Rattle.history.proofs.Events.{consent-awaited}
 use Rattle.history.proofs.Tied.{Tied}
 use Rattle.history_theorems.specs.Standing.{Standing, traceIn}
 use Rattle.history_theorems.specs.Approvals.{Approval, IsEntry}
@@ -322,7 +322,7 @@ module _ (l : ℕ) (s : State) (lent : Lent) (a : Account) (y : Standing) (xs : 
       (λ z.
       let f = fit-first s lent _ _ refl z in
       let e : s .chip .approved ≡ true = not-false _ (passed 14 rs refl z) in
-      let k = agreed-in (s .phase) s lent u f h e (consent-awaited (s .phase) (s .chip) (f .order .state .chip) e) in
+      let k = agreed-in (s .phase) s lent u f h e (consent-holds (s .phase) (s .chip) (f .order .state .chip) e .request) in
       quiet-uploaded l y xs u card-agrees done refl (record { marks = k .marks; item-is = k .item-is }))
   call-uploaded card-declines =
       let done = quietly (silentIn (s .phase) s (lent .journal)) lent in
@@ -331,7 +331,7 @@ module _ (l : ℕ) (s : State) (lent : Lent) (a : Account) (y : Standing) (xs : 
       (λ z.
       let f = fit-first s lent _ _ refl z in
       let e : s .chip .approved ≡ true = not-false _ (passed 14 rs refl z) in
-      let r = consent-awaited (s .phase) (s .chip) (f .order .state .chip) e in
+      let r = consent-holds (s .phase) (s .chip) (f .order .state .chip) e .request in
       let k = rw (declined-same (s .phase) l s (lent .journal) y u d r) at (silent-in l y u (s .phase) s lent (tied .kept .sendings-set) f d h) in
       quiet-uploaded l y xs u card-declines done refl (record { marks = k .marks; item-is = k .item-is }))
   call-uploaded send-reversal =

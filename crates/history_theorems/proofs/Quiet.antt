@@ -30,6 +30,7 @@ use Rattle.state.specs.Calls.{Lent, judged, refused}
 use Rattle.checks.specs.Checks.{rule, firstBroken}
 use Rattle.rules.proofs.InOrder.{Fit}
 use Rattle.state_rules.specs.StateRules.{awaitsRequest, requestAwaited}
+use Rattle.state_rules.proofs.Holds.{consent-holds}
 use Rattle.effect_definitions.specs.StateEffects as effects
 use Rattle.effect_definitions.specs.StateEffects.{on, signOnEnded, onSignOn}
 use Rattle.call_definitions.specs.Answer.{traceSent, quietly, noAnswerRules, noAnswer, withoutPower, powerReturned, cardRules, cardAgrees, cardDeclines, answersIn, answerRules, answerIn, readIn, answer}
@@ -44,7 +45,7 @@ use Rattle.history.specs.Words.{messageIn, isMatching}
 use Rattle.history.specs.History.{Account}
 use Rattle.history.proofs.Tied.{Shape, Tied}
 use Rattle.history.proofs.Matching.{approves-alike}
-use Rattle.history.proofs.Events.{under-sign-on, consent-awaited}
+use Rattle.history.proofs.Events.{under-sign-on}
 use Rattle.history.proofs.NotEmpty.{reading-above}
 use Rattle.history_theorems.specs.Standing.{Stage, Standing, SignOn, adopts, whenSigned, whenTold, whenAgreed}
 use Rattle.history_theorems.specs.Judged.{reversalPending, unread, awaits, asked, numberOf}
@@ -224,7 +225,7 @@ module _ (l : ℕ) (s : State) (lent : Lent) (a : Account) (y : Standing) (w : S
       (λ z u f.
       let e = not-false _ (unless (not (s .chip .approved)) 14 0 (never (omega arith)) z .0) in
       goes card-agrees y n done (sym card-number ∙ z)
-      (agreed-stands (s .phase) y s (lent .journal) h (consent-awaited (s .phase) (s .chip) (f .order .state .chip) e)) refl)
+      (agreed-stands (s .phase) y s (lent .journal) h (consent-holds (s .phase) (s .chip) (f .order .state .chip) e .request)) refl)
 
   -- an answer that reads, to a sign-on: the rules and the history's number come to whether it matches
   module _ (b : List ℕ) (good : Bool) (read : readMessage b .outcome ≡ Read) (f : Fit s lent) (e : signsOn s ≡ true) where

@@ -211,7 +211,7 @@ agreed-awaited : (w : Awaited) (s : State) (lent : Lent) (u : Upload) → Fit (i
     → Left (agreed w s (lent .journal)) (record { progress = u .progress ++ (unsent ∷ []); item = u .item })
 unfolding agreed
 agreed-awaited (awaited.Request q) s lent u f h e r =
-    approved-uploads q (approvalIn (s .chip)) s lent u f (consent-holds (Waiting (awaited.Request q)) (s .chip) (f .order .state .chip) e) (h .marks)
+    approved-uploads q (approvalIn (s .chip)) s lent u f (consent-holds (Waiting (awaited.Request q)) (s .chip) (f .order .state .chip) e .may) (h .marks)
 agreed-awaited (awaited.Reversal v) s lent u f h e r = absurd (true≢false (sym r))
 agreed-awaited (awaited.Settlement t) s lent u f h e r = absurd (true≢false (sym r))
 agreed-awaited (awaited.Item i) s lent u f h e r = absurd (true≢false (sym r))

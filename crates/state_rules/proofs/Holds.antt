@@ -232,13 +232,23 @@ chip-stays p r c k w h = record { sent = λ y. rw (← k) (h .sent y); awaited =
 abbrev pub MayApprove : Request → Approval → Type 0
 MayApprove q a = ApprovalHolds a × AnsweredHolds (q .kind) (q .amount) (a .amount)
 
--- the approval that the card's word is awaited for, and its amount
-pub consent-holds : (p : Phase) (c : Chip) → ChipHolds p c → c .approved ≡ true
-    → ApprovalHolds (approvalIn c) × AnsweredHolds (kindIn p) (amountIn p) (c .amount)
+-- the card's word, where it is awaited: for a request that sent a chip, and for the approval it may have
+pub record ConsentHolds (p : Phase) (c : Chip) : Type 0 where
+  pub request : requestAwaited p ≡ true
+  pub chip : hasChip c ≡ true
+  pub may : ApprovalHolds (approvalIn c) × AnsweredHolds (kindIn p) (amountIn p) (c .amount)
+
+pub consent-holds : (p : Phase) (c : Chip) → ChipHolds p c → c .approved ≡ true → ConsentHolds p c
 consent-holds p c h y =
     let first : Bool = requestAwaited p && hasChip c in
     let a = and-eq-true-iff (first && approvalInForm (approvalIn c)) (answeredKept p (c .amount)) .0 (h .awaited y) in
-    (approval-holds (approvalIn c) (and-eq-true-iff first (approvalInForm (approvalIn c)) .0 (a .0) .1), answered-holds p (c .amount) (a .1))
+    let b = and-eq-true-iff first (approvalInForm (approvalIn c)) .0 (a .0) in
+    let d = and-eq-true-iff (requestAwaited p) (hasChip c) .0 (b .0) in
+    record {
+      request = d .0;
+      chip = d .1;
+      may = (approval-holds (approvalIn c) (b .1), answered-holds p (c .amount) (a .1));
+    }
 
 -- rule 2 of settings and state, by the totals of the journal, and the bounds that follow
 pub record StateHolds (s : State) (t : Totals) : Type 0 where
