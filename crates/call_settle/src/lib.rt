@@ -6,7 +6,7 @@ ghost use Rattle.checks.specs.Checks.{firstBroken};
 ghost use Rattle.state.specs.Calls.{lend, resultOf};
 ghost use Rattle.call_definitions.specs.Settle.{settleRules, settle};
 
-// Sends the batch's totals.
+// Sends the batch's totals: those stored, which rule 2 has just found to be the journal's five sums together (001, 4.3.2).
 pub fn settle(s: State, journal: &mut [u8], message: &mut [u8]) -> Called
     ensures { λ r. ⌜ resultOf r (lend (now (journal .exit)) (now (message .exit))) ≡ settle s (lend (now (journal .entry)) (now (message .entry))) ⌝ }
 {

@@ -8,6 +8,7 @@ use lib.Dec.{leb}
 use borrow.Author.Tests.{leb-false, lt-ltb, ltb-true}
 use Rattle.numbers.specs.Limits.{lastNumber}
 use Rattle.kinds.specs.Kinds.{isDue, isNeverReversed}
+use Rattle.kinds.specs.Sums.{together}
 use Rattle.entry.specs.Form.{keepsUnmarked, dueEntry}
 use Rattle.entry.specs.declared.Entry.{Entry}
 use Rattle.journal.specs.Journal.{entriesOf, sumsOf}
@@ -284,7 +285,7 @@ module _ (s : State) (lent : Lent) where
 
   -- a closed batch
   pub closed-fit : kindIn (s .phase) ≡ 0 → requestAwaited (s .phase) ≡ false → waits (s .phase) ≡ true → Fit s lent → Fit (closed s) lent
-  unfolding sumsOf
+  unfolding sumsOf together
   closed-fit k w u h =
       let f = following-range (s .batch .0) in
       record {

@@ -11,6 +11,7 @@ pub mod Answered
 pub mod After
 pub mod Starts
 pub mod Settles
+pub mod Summing
 pub mod Events
 pub mod Declined
 pub mod Theorem

@@ -17,6 +17,7 @@ use Rattle.message_theorems.proofs.Numbers.{among-each}
 use Rattle.message_theorems.proofs.Order.{read-judged-by}
 use Rattle.effect_definitions.specs.JournalEffects.{heard}
 use Rattle.entry.specs.Entry.{entrySize}
+use Rattle.kinds.specs.Sums.{together}
 use Rattle.journal.specs.Journal.{entriesOf, nextDue, sumsOf}
 use Rattle.journal.specs.declared.Found.{Found}
 use Rattle.journal.specs.declared.Found.the-variants.{At, Nowhere}
@@ -161,7 +162,7 @@ ready-again s lent n h l =
 
 fresh-fits : (x : Settings) (lent : Lent) → settingsInForm x ≡ true → entrySize * x .limit ≤ length (lent .journal) → largest ≤ length (lent .message)
     → Fit (fresh x) lent
-unfolding sumsOf
+unfolding sumsOf together
 fresh-fits x lent f r l =
     record {
       message-room = l;

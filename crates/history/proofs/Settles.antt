@@ -11,13 +11,13 @@ use Rattle.numbers.specs.declared.Trace.{Trace}
 use Rattle.numbers.specs.declared.Batch.{Batch}
 use Rattle.entry.specs.Form.{inForm}
 use Rattle.entry.proofs.Form.{InForm, in-form}
-use Rattle.journal.specs.Journal.{entriesOf, entryAt, debitEntry, creditEntry, sumsOf, nextDue, taken}
+use Rattle.journal.specs.Journal.{entriesOf, entryAt, nextDue, taken}
 use Rattle.journal.specs.declared.Found.{Found}
 use Rattle.journal.specs.declared.Found.the-variants.{At, Nowhere}
 use Rattle.kinds.specs.declared.Totals.{Totals}
 use Rattle.journal.proofs.Entries.{length-entries-le, entry-shaped}
 use Rattle.journal.proofs.Searches.{every-at, next-at}
-use Rattle.journal.proofs.Sums.{count-bounded}
+use Rattle.journal.proofs.Sums.{debits-few, credits-few}
 use Rattle.state.specs.declared.Phase.{Phase}
 use Rattle.state.specs.declared.Phase.the-variants.{Resting, Waiting, Pending, Settling, Uploading}
 use Rattle.state.specs.declared.Settings.{Settings}
@@ -33,6 +33,7 @@ use Rattle.batch_messages.specs.BatchMessages.{settlementMessage, itemMessage, 
 use Rattle.effect_definitions.specs.StateEffects as effects
 use Rattle.call_definitions.proofs.Quietly.{idle as resting}
 use Rattle.call_definitions.specs.SendNextUpload.{sendsNext, uploadFrom, sendNextUploadRules, sendNextUpload}
+use Rattle.call_definitions.specs.Shapes.{SettingsShaped}
 use Rattle.call_definitions.specs.Events.{settles, send-next-upload}
 use Rattle.history.specs.Words.{messageIn}
 use Rattle.history.specs.History.{sent, Request, Account, whenGiven}
@@ -48,18 +49,20 @@ use Rattle.history.proofs.Tied.{Tied}
 use Rattle.history.proofs.After.{LawfulMessage, After, judged-after, no, sent-other, idle}
 use Rattle.call_definitions.proofs.Quietly.{fit-first}
 
-pub settings-held : (l : ℕ) (s : State) (lent : Lent) (a : Account) → Tied l s a → Fit s lent → SettingsHeld (s .settings)
-settings-held l s lent a h f =
+pub shaped-held : (s : State) (lent : Lent) → SettingsShaped (s .settings) → Fit s lent → SettingsHeld (s .settings)
+shaped-held s lent h f =
     record {
-      terminal-length = h .kept .shaped .terminal-length;
-      merchant-length = h .kept .shaped .merchant-length;
+      terminal-length = h .terminal-length;
+      merchant-length = h .merchant-length;
       terminal-printable = f .order .state .settings .terminal-printable;
       merchant-printable = f .order .state .settings .merchant-printable;
     }
 
+pub settings-held : (l : ℕ) (s : State) (lent : Lent) (a : Account) → Tied l s a → Fit s lent → SettingsHeld (s .settings)
+settings-held l s lent a h f = shaped-held s lent (h .kept .shaped) f
+
 -- field 48 has room for the totals of a terminal in order
 pub sayable : (s : State) (lent : Lent) → Fit s lent → Sayable (s .totals)
-unfolding sumsOf
 sayable s lent f =
     let es = entriesOf (s .entries) (lent .journal) in
     let n = length-entries-le (s .entries) (lent .journal) in
@@ -69,8 +72,8 @@ sayable s lent f =
     (record {
       debit-most = f .order .journal .debit-most;
       credit-most = f .order .journal .credit-most;
-      debits-most = omega (arith, count-bounded debitEntry es);
-      credits-most = omega (arith, count-bounded creditEntry es);
+      debits-most = omega (arith, debits-few es);
+      credits-most = omega (arith, credits-few es);
     })
 
 -- the totals are those of the batch's approved requests

@@ -1,5 +1,5 @@
 -- The rules of start after 13: each test of the terminal is the history's.
-use mathlib.Core.Path.{_≡_, refl, sym, ap}
+use mathlib.Core.Path.{_≡_, refl, sym, ap, _∙_}
 use mathlib.Core.List.{List, [], _∷_, _++_}
 use mathlib.Core.Bool.{Bool, true, false, cond, not, _&&_, _||_, and-assoc, or-false, Bool·not-not, true≢false}
 use Prim.Native.Nat.{ℕ, suc, _+_, _-_, _<_}
@@ -15,7 +15,9 @@ use Rattle.kinds.specs.Kinds.{isDebit, isCredit, takesOriginal, originalKind, s
 use Rattle.kinds.specs.declared.Side.the-variants.{Debit, Credit, Neither}
 use Rattle.kinds.specs.declared.Totals.{Totals}
 use Rattle.entry.specs.declared.Entry.{Entry}
-use Rattle.journal.specs.Journal.{entryAt, sumOf, firstOf, debitEntry, creditEntry, sumsOf, totalsOf, isOriginal, originalFor, nowhere}
+use Rattle.journal.specs.Journal.{entryAt, sumOf, firstOf, totalsOf, isOriginal, originalFor, nowhere}
+use Rattle.journal.specs.Sums.{debitEntry, creditEntry}
+use Rattle.journal.proofs.Sums.{sides-add-up}
 use Rattle.journal.specs.declared.Found.{Found}
 use Rattle.journal.specs.declared.Found.the-variants.{At, Nowhere}
 use Rattle.journal.proofs.Searches.{first-at}
@@ -136,12 +138,12 @@ sums-alike kinds p q (e ∷ es) [] h = absurd h
 sums-alike kinds p q (e ∷ es) (v ∷ vs) h = rw (q e, h .0 .kind-is, h .0 .amount-is, sums-alike kinds p q es vs (h .1))
 
 debits-alike : (es : List Entry) (vs : List Approval) → AreEntries es vs → totalsOf es .debit ≡ amounts (20 ∷ 22 ∷ []) vs
-unfolding sumsOf debitEntry isDebit
-debits-alike es vs h = sums-alike (20 ∷ 22 ∷ []) (λ e. true && debitEntry e) (λ e. refl) es vs h
+unfolding debitEntry isDebit
+debits-alike es vs h = ap (λ (t : Totals). t .debit) (sides-add-up es) ∙ sums-alike (20 ∷ 22 ∷ []) debitEntry (λ e. refl) es vs h
 
 credits-alike : (es : List Entry) (vs : List Approval) → AreEntries es vs → totalsOf es .credit ≡ amounts (21 ∷ 23 ∷ 25 ∷ []) vs
-unfolding sumsOf creditEntry isCredit
-credits-alike es vs h = sums-alike (21 ∷ 23 ∷ 25 ∷ []) (λ e. true && creditEntry e) (λ e. refl) es vs h
+unfolding creditEntry isCredit
+credits-alike es vs h = ap (λ (t : Totals). t .credit) (sides-add-up es) ∙ sums-alike (21 ∷ 23 ∷ 25 ∷ []) creditEntry (λ e. refl) es vs h
 
 -- no kind is both
 debit-only : (k : ℕ) → among k (20 ∷ 22 ∷ []) ≡ true → among k (21 ∷ 23 ∷ 25 ∷ []) ≡ false

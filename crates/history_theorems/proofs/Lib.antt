@@ -19,5 +19,6 @@ pub mod Settled
 pub mod ByKind
 pub mod Requests
 pub mod Keyed
+pub mod Summing
 pub mod Started
 pub mod Theorems

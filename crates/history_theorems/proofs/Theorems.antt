@@ -32,6 +32,7 @@ use Rattle.history_theorems.specs.Judged.{reversalPending, numberOf, Jud
 use Rattle.entry.specs.declared.Entry.{Entry}
 use Rattle.journal.specs.Journal.{entriesOf}
 use Rattle.history_theorems.specs.Approvals.{approvals, JournalIsApprovals, Approval, AreEntries}
+use Rattle.history_theorems.specs.Summing.{SumsByKind}
 use Rattle.history_theorems.specs.Prepaid.{EachPaid, EntriesPaid}
 use Rattle.history_theorems.specs.Fields.{settlementItems, signOnItems}
 use Rattle.history_theorems.specs.Settlements.{SettlementsRead, SignOnsRead}
@@ -44,6 +45,7 @@ use Rattle.history_theorems.proofs.Said.{Said}
 use Rattle.history_theorems.proofs.Quiet.{answer-said, silence-said, power-said, agrees-said, declines-said}
 use Rattle.history_theorems.proofs.Sends.{sign-on-said, reversal-said, settle-said, upload-said}
 use Rattle.history_theorems.proofs.Starts.{start-said}
+use Rattle.history_theorems.proofs.Summing.{five-sums}
 use Rattle.history_theorems.proofs.Booked.{Booked, call-booked}
 use Rattle.history_theorems.proofs.Repaid.{Repaying, call-repaying}
 use Rattle.history_theorems.proofs.Copies.{Exactly, call-exactly}
@@ -235,6 +237,11 @@ pub entries-paid : EntriesPaid
 entries-paid x j ts w v =
     let r = runs ts (begun x j) in
     each-paid (entriesOf (r .state .entries) (r .journal)) (approvals (r .history)) (journal-is-approvals x j ts w v)
+
+pub sums-by-kind : SumsByKind
+sums-by-kind x j ts w v =
+    let r = runs ts (begun x j) in
+    five-sums (entriesOf (r .state .entries) (r .journal)) (approvals (r .history)) (journal-is-approvals x j ts w v)
 
 pub traces-taken : TracesTaken
 traces-taken x j ts w v = all-hold ts (x .sendings) (begun x j) v (begun-holds x j w) .traced

@@ -7,3 +7,4 @@ pub mod Settlements
 pub mod Traces
 pub mod Uploads
 pub mod Prepaid
+pub mod Summing

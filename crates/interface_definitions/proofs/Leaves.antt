@@ -21,8 +21,12 @@ use Rattle.image_definitions.specs.Layout.{rows, size}
 use Rattle.image_definitions.specs.Image.{totalsValues, valuesOf, image, readImage}
 use Rattle.image_definitions.specs.declared.Reading.{Reading}
 use Rattle.image_definitions.proofs.Theorems.{image-length}
+use Rattle.kinds.specs.declared.sums.Sums.{Sums}
+use Rattle.journal.specs.Journal.{entriesOf, batchSums}
+use Rattle.checks.specs.Checks.{firstBroken}
+use Rattle.rules.specs.Rules.{reportRules}
 use Rattle.call_definitions.specs.Events.{Event, call}
-use Rattle.interface_definitions.specs.Interface.{done, outOfForm, given, noImage, onImage, returned, freshImage, numberAt, totalsOn, held, takenNumber, takenCount, fieldAt}
+use Rattle.interface_definitions.specs.Interface.{done, outOfForm, given, noImage, onImage, returned, freshImage, numberAt, totalsOn, sumsValues, sumsOn, held, takenNumber, takenCount, fieldAt}
 
 -- what is copied into bytes of its length is all that stands there
 copied : (a o : List ℕ) {x : List ℕ} → length o ≡ length a → x ≡ take (length a) a ++ drop (length a) o → x ≡ a
@@ -72,6 +76,20 @@ module _ (b : List ℕ) {r : Reading} (q : r ≡ readImage b) where
   pub totals-read : (x : List ℕ) → r .accepted ≡ true → returned done (totalsValues (r .state .totals)) ≡ totalsOn b x
   unfolding totalsOn
   totals-read x h = rw (← q, h)
+
+  pub no-sums : (j x : List ℕ) → r .accepted ≡ false → returned outOfForm x ≡ sumsOn b j x
+  unfolding sumsOn
+  no-sums j x h = rw (← q, h)
+
+  pub sums-refused : (j x : List ℕ) {n : ℕ} → r .accepted ≡ true → n ≡ firstBroken (reportRules (r .state) j) → (n ≡ done → ⊥)
+      → returned n x ≡ sumsOn b j x
+  unfolding sumsOn
+  sums-refused j x {n} h p d = rw (← q, h, ← p, ne-eqb n done d)
+
+  pub sums-read : (j x : List ℕ) {n : ℕ} {y : Sums} {v : List ℕ} → r .accepted ≡ true → n ≡ firstBroken (reportRules (r .state) j) → n ≡ done
+      → y ≡ batchSums (entriesOf (r .state .entries) j) → v ≡ sumsValues y → returned done v ≡ sumsOn b j x
+  unfolding sumsOn
+  sums-read j x {n} h p d e w = rw (← q, h, ← p, d, w, e)
 
 -- bytes that were read as a message
 module _ (b : List ℕ) (n k : ℕ) (out : List ℕ) {r : MessageReading} (q : r ≡ readMessage b) where

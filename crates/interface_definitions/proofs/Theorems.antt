@@ -1,23 +1,31 @@
 -- The statements of specs/Theorems.antt.
-use mathlib.Core.Path.{_≡_, refl, ap}
+use mathlib.Core.Path.{_≡_, refl, ap, sym, _∙_}
 use mathlib.Core.List.{List}
-use mathlib.Core.Bool.{Bool, true, false, cond}
+use mathlib.Core.Bool.{Bool, true, false, cond, true≢false}
 use Prim.Native.Nat.{ℕ}
 use native.Mathlib.Omega.{arith}
+use lib.Dec.{eqb}
+use borrow.Author.Tests.{not-false, eq-eqb, eqb-true}
+use Rattle.checks.specs.Checks.{firstBroken}
+use Rattle.checks.proofs.Choices.{passed}
+use Rattle.kinds.specs.Sums.{together}
+use Rattle.journal.specs.Journal.{entriesOf, batchSums, totalsOf}
 use Rattle.state.specs.declared.State.{State}
 use Rattle.state.specs.declared.Outcome.{Outcome}
 use Rattle.state.specs.declared.Outcome.the-variants.{Send, Quiet, Refused}
 use Rattle.state.specs.Calls.{Lent}
-use Rattle.image_definitions.specs.Image.{image, readImage}
+use Rattle.image_definitions.specs.Image.{totalsValues, image, readImage}
 use Rattle.image_definitions.specs.declared.Reading.{Reading}
 use Rattle.image_definitions.specs.Sized.{Bytes, Sized}
 use Rattle.image_definitions.proofs.Theorems.{image-reads-back, read-images-back}
+use Rattle.rules.specs.Rules.{reportRules}
+use Rattle.rules.proofs.InOrder.{keeps-rule2}
 use Rattle.call_definitions.specs.Events.{Event, call}
 use Rattle.call_definitions.specs.Shapes.{SettingsShaped, EventShaped}
 use Rattle.call_theorems.specs.Facts.{Leaves}
 use Rattle.call_theorems.proofs.Facts.{refused-changes-nothing, sent-reads}
-use Rattle.interface_definitions.specs.Interface.{sends, Given, numberOf, lengthOf, given, noImage, onImage}
-use Rattle.interface_definitions.specs.Theorems.{OnStates, Other, Unchanged, OthersChangeNothing, SendsAMessage}
+use Rattle.interface_definitions.specs.Interface.{done, outOfForm, sends, Given, numberOf, lengthOf, given, noImage, onImage, returned, totalsOn, sumsValues, reported, sumsOn}
+use Rattle.interface_definitions.specs.Theorems.{OnStates, Other, Unchanged, OthersChangeNothing, SendsAMessage, inTwo, SumsMakeTotals}
 use Rattle.interface_definitions.proofs.Numbers.{numbers-apart}
 
 pub on-states : OnStates
@@ -66,3 +74,25 @@ sends-a-message e b lent w y =
     (λ h. let z = accepted-sized b w h .0 .settings in
     call-sends e (readImage b .state) lent _ refl (record { terminal-length = z .terminal; merchant-length = z .merchant }) y)
     (λ h. absurd (omega arith))
+
+-- a report is made where the journal passes rule 2, so its sums are the totals
+report-adds-up : (s : State) (j : List ℕ) → firstBroken (reportRules s j) ≡ 0 → s .totals ≡ totalsOf (entriesOf (s .entries) j)
+report-adds-up s j h =
+    keeps-rule2 s (entriesOf (s .entries) j) (not-false _ (passed 2 (reportRules s j) refl h)) .state .totals
+
+pub sums-make-totals : SumsMakeTotals
+unfolding sumsOn totalsOn together
+sums-make-totals b j x t = go (readImage b .accepted) (readImage b .state)
+  where
+    judged : (s : State) (n : ℕ) (y : Bool) → eqb n done ≡ y → n ≡ firstBroken (reportRules s j)
+        → cond y (returned done (sumsValues (batchSums (entriesOf (s .entries) j)))) (returned n x) .number ≡ done
+        → totalsValues (s .totals) ≡ inTwo (cond y (returned done (sumsValues (batchSums (entriesOf (s .entries) j)))) (returned n x) .left)
+    judged s n true e p h = rw (report-adds-up s j (sym p ∙ eqb-true n done e)) refl
+    judged s n false e p h = absurd (true≢false (sym (eq-eqb n done h) ∙ e))
+
+    go : (a : Bool) (s : State)
+        → cond a (reported (firstBroken (reportRules s j)) s j x) (returned outOfForm x) .number ≡ done
+        → cond a (returned done (totalsValues (s .totals))) (returned outOfForm t) .left
+        ≡ inTwo (cond a (reported (firstBroken (reportRules s j)) s j x) (returned outOfForm x) .left)
+    go true s h = judged s (firstBroken (reportRules s j)) (eqb (firstBroken (reportRules s j)) done) refl refl h
+    go false s h = absurd (omega arith)

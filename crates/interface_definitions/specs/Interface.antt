@@ -1,5 +1,5 @@
 -- The functions for C: the number that each returns, and what it leaves in all that it may write, for every input.
-use mathlib.Core.List.{List}
+use mathlib.Core.List.{List, [], _∷_, _++_}
 use mathlib.Core.Bool.{Bool, false, cond, _&&_}
 use Prim.Native.Nat.{ℕ}
 use lib.Dec.{ltb, eqb}
@@ -12,11 +12,17 @@ use Rattle.reading.specs.declared.ReadOutcome.the-variants.{Read, Refused as Un
 use Rattle.parts.specs.Parts.{taken, withTaken}
 use Rattle.parts.specs.declared.Taken.{Taken}
 use Rattle.parts.specs.declared.Taken.the-variants.{Absent, TooLong, Count}
+use Rattle.kinds.specs.declared.sums.Sum.{Sum}
+use Rattle.kinds.specs.declared.sums.Sums.{Sums}
+use Rattle.journal.specs.Journal.{entriesOf, batchSums}
 use Rattle.state.specs.declared.Settings.{Settings}
+use Rattle.state.specs.declared.State.{State}
 use Rattle.state.specs.declared.Outcome.{Outcome}
 use Rattle.state.specs.declared.Outcome.the-variants.{Send, Quiet, Refused}
 use Rattle.state.specs.State.{fresh}
 use Rattle.state.specs.Calls.{Lent, lend, Result}
+use Rattle.checks.specs.Checks.{firstBroken}
+use Rattle.rules.specs.Rules.{reportRules}
 use Rattle.desk.specs.declared.Desk.{Desk}
 use Rattle.image_definitions.specs.Layout.{rows, size}
 use Rattle.image_definitions.specs.Image.{totalsValues, valuesOf, image, readImage}
@@ -117,6 +123,26 @@ numberAt b row x =
 -- the totals in an image: debit amount and count, credit amount and count
 unfoldable pub totalsOn : List ℕ → List ℕ → Returned (List ℕ)
 totalsOn b x = cond (readImage b .accepted) (returned done (totalsValues (readImage b .state .totals))) (returned outOfForm x)
+
+-- document 02, request 5: five sums in their order, the amount and the count of each
+abbrev pub sumValues : Sum → List ℕ
+sumValues x = x .amount ∷ x .count ∷ []
+
+abbrev pub sumsValues : Sums → List ℕ
+sumsValues x =
+    sumValues (x .sales) ++ (sumValues (x .completions)
+    ++ (sumValues (x .refunds) ++ (sumValues (x .«sale_voids») ++ sumValues (x .«completion_voids»))))
+
+-- those of a terminal's journal, or the number of the first rule that is broken
+abbrev pub reported : ℕ → State → List ℕ → List ℕ → Returned (List ℕ)
+reported number s j x =
+    cond (eqb number done) (returned done (sumsValues (batchSums (entriesOf (s .entries) j)))) (returned number x)
+
+unfoldable pub sumsOn : List ℕ → List ℕ → List ℕ → Returned (List ℕ)
+sumsOn b j x =
+    cond (readImage b .accepted)
+      (reported (firstBroken (reportRules (readImage b .state) j)) (readImage b .state) j x)
+      (returned outOfForm x)
 
 -- bytes that are a message, or the number by which they are refused
 abbrev pub readNumber : ReadOutcome → ℕ

@@ -1,7 +1,8 @@
 -- What is proved of the calls on images, for every event and all bytes: what the number that is returned says of the memory that was lent.
 use mathlib.Core.Path.{_≡_}
-use mathlib.Core.List.{List}
-use Prim.Native.Nat.{ℕ, _-_, _≤_}
+use mathlib.Core.List.{List, [], _∷_}
+use Prim.Native.Nat.{ℕ, _+_, _-_, _≤_}
+use lib.ListN.{getD}
 use Rattle.state.specs.declared.State.{State}
 use Rattle.state.specs.declared.Outcome.the-variants.{Refused}
 use Rattle.state.specs.Calls.{Lent}
@@ -10,7 +11,7 @@ use Rattle.image_definitions.specs.Sized.{Bytes, Sized}
 use Rattle.call_definitions.specs.Events.{Event, call}
 use Rattle.call_definitions.specs.Shapes.{EventShaped}
 use Rattle.call_theorems.specs.Facts.{Leaves}
-use Rattle.interface_definitions.specs.Interface.{done, absent, sends, Given, given, onImage}
+use Rattle.interface_definitions.specs.Interface.{done, absent, sends, Given, given, onImage, totalsOn, sumsOn}
 
 -- a call on the image of a state gives what the call on the state gives
 abbrev pub OnStates : Type 0
@@ -44,3 +45,13 @@ OthersChangeNothing = (e : Event) (b : List ℕ) (lent : Lent) → Bytes b → O
 abbrev pub SendsAMessage : Type 0
 SendsAMessage = (e : Event) (b : List ℕ) (lent : Lent) → Bytes b → EventShaped e → onImage e b lent .number ≡ sends
     → Leaves (onImage e b lent .length) (onImage e b lent .lent .message) (lent .message)
+
+-- document 02, request 5: of the ten numbers the first two sums make the debit of the totals, the last three the credit
+abbrev pub inTwo : List ℕ → List ℕ
+inTwo v =
+    (getD v 0 0 + getD v 2 0) ∷ (getD v 1 0 + getD v 3 0)
+    ∷ (getD v 4 0 + getD v 6 0 + getD v 8 0) ∷ (getD v 5 0 + getD v 7 0 + getD v 9 0)
+    ∷ []
+
+abbrev pub SumsMakeTotals : Type 0
+SumsMakeTotals = (b j x t : List ℕ) → sumsOn b j x .number ≡ done → totalsOn b t .left ≡ inTwo (sumsOn b j x .left)

@@ -6,3 +6,4 @@ pub mod Traces
 pub mod Sums
 pub mod Marks
 pub mod Steps
+pub mod Reordered

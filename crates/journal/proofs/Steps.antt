@@ -12,10 +12,9 @@ use Rattle.entry.specs.Entry.{entrySize}
 use Rattle.entry.specs.declared.Entry.{Entry}
 use Rattle.entry.proofs.Theorems.{decode-amount}
 use Rattle.journal.specs.declared.Found.the-variants.{At, Nowhere}
-use Rattle.kinds.specs.declared.Totals.{Totals}
-use Rattle.journal.specs.Journal.{entriesOf, every, firstOf, totalsOf}
-use Rattle.journal.specs.Sums.{withEntry}
-use Rattle.kinds.specs.Totals.{noTotals, Room}
+use Rattle.kinds.specs.declared.sums.Sums.{Sums}
+use Rattle.journal.specs.Journal.{entriesOf, every, firstOf, batchSums}
+use Rattle.kinds.specs.Sums.{noSums, added, RoomFor, EachSum}
 use Rattle.journal.proofs.Here.{here}
 use Rattle.journal.proofs.Entries.{entries-more, entries-short}
 use Rattle.journal.proofs.Sums.{Gathering, gathering-none, gathering-room, gathering-more, gathering-done}
@@ -86,27 +85,28 @@ module _ {p : ℕ → Entry → Bool} {n : ℕ} {j : List ℕ} where
     testing-done h = sym (rw (left-done n j i at h)) ∙ r .eq
 
 -- a loop that sums
-pub record Summing (n : ℕ) (j : List ℕ) (i at : ℕ) (t : Totals) : Type 0 where
+pub record Summing (n : ℕ) (j : List ℕ) (i at : ℕ) (x : Sums) : Type 0 where
   pub bound : at ≤ length j
-  pub sums : Gathering (entriesOf n j) i (left n j i at) t
+  pub sums : Gathering (entriesOf n j) i (left n j i at) x
 
 module _ {n : ℕ} {j : List ℕ} where
-  pub summing-none : Summing n j 0 0 noTotals
+  pub summing-none : Summing n j 0 0 noSums
   summing-none = record { bound = omega arith; sums = rw left-none (gathering-none (entriesOf n j)) }
 
-  module _ {i at : ℕ} {t : Totals} (r : Summing n j i at t) where
-    pub summing-room : i < 65535 → Room t (here j at .amount)
+  module _ {i at : ℕ} {x : Sums} (r : Summing n j i at x) where
+    pub summing-room : i < 65535 → EachSum (RoomFor (here j at .amount)) x
     summing-room h = gathering-room (here j at) (r .sums) h (decode-amount (take entrySize (drop at j)))
 
-    pub summing-more : i < n → entrySize ≤ length j - at → Summing n j (i + 1) (at + entrySize) (withEntry t (here j at))
+    pub summing-more : i < n → entrySize ≤ length j - at
+        → Summing n j (i + 1) (at + entrySize) (added (here j at .kind) (here j at .amount) x)
     summing-more l h =
         record {
           bound = omega (arith, r .bound);
           sums = gathering-more (rw (left-more n j i at l h) at (r .sums)) (decode-amount (take entrySize (drop at j)));
         }
 
-    pub summing-short : length j - at < entrySize → t ≡ totalsOf (entriesOf n j)
+    pub summing-short : length j - at < entrySize → x ≡ batchSums (entriesOf n j)
     summing-short h = gathering-done (rw (left-short n j i at h) at (r .sums))
 
-    pub summing-done : n ≤ i → t ≡ totalsOf (entriesOf n j)
+    pub summing-done : n ≤ i → x ≡ batchSums (entriesOf n j)
     summing-done h = gathering-done (rw (left-done n j i at h) at (r .sums))

@@ -1,16 +1,16 @@
 -- Laws of sums over a journal's entries and of the totals.
-use mathlib.Core.Path.{_≡_, refl, sym, _∙_}
+use mathlib.Core.Path.{_≡_, refl, ap, sym, _∙_}
 use mathlib.Core.List.{List, [], _∷_, _++_}
 use mathlib.Core.Bool.{Bool, true, false, cond, _&&_, and-eq-true-iff}
 use Prim.Native.Nat.{ℕ, zero, suc, _+_, _*_, _≤_, _<_}
-use native.Mathlib.Nat.{add-zero, zero-add, add-assoc}
 use native.Mathlib.Omega.{arith}
 use native.Mathlib.Decide.{decLt}
-use lib.Dec.{leb}
+use lib.Dec.{leb, eqb}
 use lib.ListN.{length, take, drop}
 use borrow.Author.Tests.{leb-true, le-leb}
 use Rattle.numbers.specs.Limits.{largestAmount}
-use Rattle.kinds.specs.Totals.{noTotals, booked, Room}
+use Rattle.kinds.specs.Sums.{eachKind, together, noSum, noSums, single, plusSum, plusSums, added, RoomFor, EachSum, Fits}
+use Rattle.kinds.proofs.FiveSums.{debit-kinds, credit-kinds, same-totals, moves-its-side, each-alike, none-more, none-before, plus-assoc, each-implies, each-added}
 use Rattle.entry.specs.Entry.{entrySize, decode}
 use Rattle.entry.specs.Form.{fits}
 use Rattle.entry.specs.declared.Entry.{Entry}
@@ -18,9 +18,11 @@ use Rattle.entry.proofs.Form.{in-form}
 use Rattle.entry.proofs.Theorems.{decode-amount}
 use Rattle.journal.specs.declared.Found.{Found}
 use Rattle.kinds.specs.declared.Totals.{Totals}
-use Rattle.journal.specs.Journal.{entriesOf, every, sumOf, debitEntry, creditEntry, totalsOf, sumsOf, fitsAt, isAt, withVoided, withMark, withResends, changedAt}
-use Rattle.journal.specs.Sums.{withEntry, sumsWith}
-use Rattle.journal.proofs.Entries.{entries-more, entries-short}
+use Rattle.kinds.specs.declared.sums.Sum.{Sum}
+use Rattle.kinds.specs.declared.sums.Sums.{Sums}
+use Rattle.journal.specs.Journal.{entriesOf, every, sumOf, amount, one, sumOver, ofKind, sumsOf, batchSums, totalsOf, fitsAt, isAt, withVoided, withMark, withResends, changedAt}
+use Rattle.journal.specs.Sums.{withEntry, sumsWith, debitEntry, creditEntry, SidesAddUp, OneOfEach}
+use Rattle.journal.proofs.Entries.{entries-more, entries-short, length-entries-le}
 use Rattle.journal.proofs.Searches.{every-implies}
 
 chosen-bounded : (f : Entry → ℕ) (m : ℕ) (b : Bool) (e : Entry) → f e ≤ m → cond b (f e) 0 ≤ m
@@ -94,126 +96,124 @@ pub resends-totals : (x : ℕ) → KeepsTotals (withResends x)
 unfolding withResends
 resends-totals x = record { kind-same = λ e. refl; amount-same = λ e. refl }
 
-debit-same : (f : Entry → Entry) → KeepsTotals f → (e : Entry) → debitEntry (f e) ≡ debitEntry e
-unfolding debitEntry
-debit-same f h e = rw (h .kind-same e)
-
-credit-same : (f : Entry → Entry) → KeepsTotals f → (e : Entry) → creditEntry (f e) ≡ creditEntry e
-unfolding creditEntry
-credit-same f h e = rw (h .kind-same e)
+-- the sum of a kind
+kind-changed : (f : Entry → Entry) → KeepsTotals f → (i : ℕ) (es : List Entry) (kind : ℕ)
+    → sumOver (λ e. eqb (e .kind) kind) (changedAt i f es) ≡ sumOver (λ e. eqb (e .kind) kind) es
+kind-changed f h i es kind =
+    rw (
+      sum-changed (λ e. eqb (e .kind) kind) amount f (λ e. rw (h .kind-same e)) (h .amount-same) i es,
+      sum-changed (λ e. eqb (e .kind) kind) one f (λ e. rw (h .kind-same e)) (λ e. refl) i es,
+    )
 
 pub totals-changed : (f : Entry → Entry) → KeepsTotals f → (i : ℕ) (es : List Entry) → totalsOf (changedAt i f es) ≡ totalsOf es
 unfolding sumsOf
-totals-changed f h i es =
-    rw (
-      sum-changed debitEntry (λ e. e .amount) f (debit-same f h) (h .amount-same) i es,
-      sum-changed debitEntry (λ e. 1) f (debit-same f h) (λ e. refl) i es,
-      sum-changed creditEntry (λ e. e .amount) f (credit-same f h) (h .amount-same) i es,
-      sum-changed creditEntry (λ e. 1) f (credit-same f h) (λ e. refl) i es,
-    )
-
-pub totals-last : (es : List Entry) (e : Entry) → totalsOf (es ++ (e ∷ [])) ≡ withEntry (totalsOf es) e
-unfolding sumsOf booked debitEntry creditEntry
-totals-last es e =
-    rw (
-      sum-last debitEntry (λ e. e .amount) es e,
-      sum-last debitEntry (λ e. 1) es e,
-      sum-last creditEntry (λ e. e .amount) es e,
-      sum-last creditEntry (λ e. 1) es e,
-    )
+totals-changed f h i es = ap together (each-alike _ _ (kind-changed f h i es))
 
 -- one more entry in the sums of those that satisfy p
+over-last : (p : Entry → Bool) (es : List Entry) (e : Entry)
+    → sumOver p (es ++ (e ∷ [])) ≡ plusSum (sumOver p es) (single (p e) (e .amount))
+over-last p es e = rw (sum-last p amount es e, sum-last p one es e)
+
 pub sums-last : (p : Entry → Bool) (es : List Entry) (e : Entry) → sumsOf p (es ++ (e ∷ [])) ≡ sumsWith p (sumsOf p es) e
-unfolding sumsOf sumsWith booked debitEntry creditEntry
-sums-last p es e =
-    rw (
-      sum-last (λ e. p e && debitEntry e) (λ e. e .amount) es e,
-      sum-last (λ e. p e && debitEntry e) (λ e. 1) es e,
-      sum-last (λ e. p e && creditEntry e) (λ e. e .amount) es e,
-      sum-last (λ e. p e && creditEntry e) (λ e. 1) es e,
-    )
-    (go (p e) (sumsOf p es))
+unfolding sumsOf sumsWith added
+sums-last p es e = each-alike _ _ (λ kind. over-last (ofKind p kind) es e) ∙ go (p e) (sumsOf p es)
   where
-    go : (b : Bool) (t : Totals)
-        → _≡_ {A = Totals}
-        (record {
-          debit = t .debit + cond (b && debitEntry e) (e .amount) 0;
-          debits = t .debits + cond (b && debitEntry e) 1 0;
-          credit = t .credit + cond (b && creditEntry e) (e .amount) 0;
-          credits = t .credits + cond (b && creditEntry e) 1 0;
-        })
-        (cond b
-        (record {
-          debit = t .debit + cond (debitEntry e) (e .amount) 0;
-          debits = t .debits + cond (debitEntry e) 1 0;
-          credit = t .credit + cond (creditEntry e) (e .amount) 0;
-          credits = t .credits + cond (creditEntry e) 1 0;
-        })
-        t)
-    go true t = refl
-    go false t = rw (add-zero (t .debit), add-zero (t .debits), add-zero (t .credit), add-zero (t .credits))
+    go : (b : Bool) (x : Sums) → plusSums x (eachKind (λ kind. single (b && eqb (e .kind) kind) (e .amount))) ≡ cond b (added (e .kind) (e .amount) x) x
+    go true x = refl
+    go false x = none-more x
 
--- totals and those of the entries that are left
-abbrev gathered : Totals → List Entry → Totals
-gathered t es =
-    record {
-      debit = t .debit + sumOf debitEntry (λ e. e .amount) es;
-      debits = t .debits + sumOf debitEntry (λ e. 1) es;
-      credit = t .credit + sumOf creditEntry (λ e. e .amount) es;
-      credits = t .credits + sumOf creditEntry (λ e. 1) es;
-    }
+pub totals-last : (es : List Entry) (e : Entry) → totalsOf (es ++ (e ∷ [])) ≡ withEntry (totalsOf es) e
+unfolding sumsWith
+totals-last es e = ap together (sums-last (λ e. true) es e) ∙ moves-its-side (e .kind) (e .amount) (batchSums es)
 
-gathered-none : (t : Totals) → gathered t [] ≡ t
-gathered-none t = rw (add-zero (t .debit), add-zero (t .debits), add-zero (t .credit), add-zero (t .credits))
+-- the sums of a side's kinds make up that side
+debit-sums : (f : Entry → ℕ) (es : List Entry)
+    → sumOf (λ e. eqb (e .kind) 22) f es + sumOf (λ e. eqb (e .kind) 20) f es ≡ sumOf debitEntry f es
+unfolding debitEntry
+debit-sums f [] = refl
+debit-sums f (e ∷ es) = omega (arith, debit-sums f es, debit-kinds (e .kind) (f e))
 
-gathered-more : (t : Totals) (e : Entry) (es : List Entry) → gathered t (e ∷ es) ≡ gathered (withEntry t e) es
-unfolding booked debitEntry creditEntry
-gathered-more t e es = simp add-assoc
+credit-sums : (f : Entry → ℕ) (es : List Entry)
+    → sumOf (λ e. eqb (e .kind) 25) f es + sumOf (λ e. eqb (e .kind) 23) f es + sumOf (λ e. eqb (e .kind) 21) f es ≡ sumOf creditEntry f es
+unfolding creditEntry
+credit-sums f [] = refl
+credit-sums f (e ∷ es) = omega (arith, credit-sums f es, credit-kinds (e .kind) (f e))
 
-gathered-all : (es : List Entry) → gathered noTotals es ≡ totalsOf es
-unfolding sumsOf
-gathered-all es = simp zero-add
+pub sides-add-up : SidesAddUp
+unfolding sumsOf together
+sides-add-up es = same-totals (debit-sums amount es) (debit-sums one es) (credit-sums amount es) (credit-sums one es)
 
--- what a loop that sums keeps: the totals t of the first i entries of es, with those left
-pub record Gathering (es : List Entry) (i : ℕ) (left : List Entry) (t : Totals) : Type 0 where
-  pub eq : gathered t left ≡ totalsOf es
-  pub debit-bound : t .debit ≤ i * 1000000000000
-  pub credit-bound : t .credit ≤ i * 1000000000000
-  pub debits-bound : t .debits ≤ i
-  pub credits-bound : t .credits ≤ i
+pub one-of-each : OneOfEach
+unfolding sumsOf together
+one-of-each =
+    record { sales = refl; completions = refl; refunds = refl; sale-voids = refl; completion-voids = refl; totals = refl }
 
-pub gathering-none : (es : List Entry) → Gathering es 0 es noTotals
+-- no more entries on a side than in all
+pub debits-few : (es : List Entry) → totalsOf es .debits ≤ length es
+debits-few es = rw (sides-add-up es) (count-bounded debitEntry es)
+
+pub credits-few : (es : List Entry) → totalsOf es .credits ≤ length es
+credits-few es = rw (sides-add-up es) (count-bounded creditEntry es)
+
+-- the totals of a journal fit their numbers
+pub totals-fit : (n : ℕ) (j : List ℕ) → n < 65536 → Fits (totalsOf (entriesOf n j))
+totals-fit n j h =
+    let few = length-entries-le n j in
+    let es = entriesOf n j in
+    rw (sides-add-up es)
+    (record {
+      debit-fits = omega (arith, amounts-bounded debitEntry n j);
+      debits-fit = omega (arith, count-bounded debitEntry es);
+      credit-fits = omega (arith, amounts-bounded creditEntry n j);
+      credits-fit = omega (arith, count-bounded creditEntry es);
+    })
+
+pub totals-of-sums : {x : Sums} {t : Totals} (n : ℕ) (j : List ℕ) → n < 65536 → x ≡ batchSums (entriesOf n j) → (Fits (together x) → t ≡ together x)
+    → t ≡ totalsOf (entriesOf n j)
+totals-of-sums n j h e f = f (rw e (totals-fit n j h)) ∙ ap together e
+
+-- a sum of at most i entries
+pub record Within (i : ℕ) (x : Sum) : Type 0 where
+  pub amount-bound : x .amount ≤ i * 1000000000000
+  pub count-bound : x .count ≤ i
+
+within-more : (i a : ℕ) → a < 1000000000000 → (x : Sum) (b : Bool) → Within i x → Within (i + 1) (plusSum x (single b a))
+within-more i a h x true w = record { amount-bound = omega (arith, w .amount-bound); count-bound = omega (arith, w .count-bound) }
+within-more i a h x false w = record { amount-bound = omega (arith, w .amount-bound); count-bound = omega (arith, w .count-bound) }
+
+room-within : (i a : ℕ) → i < 65535 → a < 1000000000000 → (x : Sum) → Within i x → RoomFor a x
+room-within i a h k x w =
+    record { sum-small = omega (arith, w .amount-bound); count-small = omega (arith, w .count-bound); amount-small = k }
+
+-- what a loop that sums keeps: the sums x of the first i entries of es, with those left
+pub record Gathering (es : List Entry) (i : ℕ) (left : List Entry) (x : Sums) : Type 0 where
+  pub eq : plusSums x (batchSums left) ≡ batchSums es
+  pub bounds : EachSum (Within i) x
+
+pub gathering-none : (es : List Entry) → Gathering es 0 es noSums
 gathering-none es =
+    let z : Within 0 noSum = record { amount-bound = omega arith; count-bound = omega arith } in
     record {
-      eq = gathered-all es;
-      debit-bound = omega arith;
-      credit-bound = omega arith;
-      debits-bound = omega arith;
-      credits-bound = omega arith;
+      eq = none-before (batchSums es);
+      bounds = record { sales = z; completions = z; refunds = z; sale-voids = z; completion-voids = z };
     }
 
-pub gathering-room : {es left : List Entry} {i : ℕ} {t : Totals} (e : Entry) → Gathering es i left t
-    → i < 65535 → e .amount < 1000000000000 → Room t (e .amount)
-gathering-room e r h a =
-    record {
-      debit-small = omega (arith, r .debit-bound);
-      credit-small = omega (arith, r .credit-bound);
-      debits-small = omega (arith, r .debits-bound);
-      credits-small = omega (arith, r .credits-bound);
-      amount-small = a;
-    }
+pub gathering-room : {es left : List Entry} {i : ℕ} {x : Sums} (e : Entry) → Gathering es i left x
+    → i < 65535 → e .amount < 1000000000000 → EachSum (RoomFor (e .amount)) x
+gathering-room {es} {left} {i} {x} e r h a = each-implies (room-within i (e .amount) h a) x (r .bounds)
 
-pub gathering-more : {es left : List Entry} {i : ℕ} {t : Totals} {e : Entry} → Gathering es i (e ∷ left) t → e .amount < 1000000000000
-    → Gathering es (i + 1) left (withEntry t e)
-unfolding booked debitEntry creditEntry
-gathering-more {es} {left} {i} {t} {e} r a =
+pub gathering-more : {es left : List Entry} {i : ℕ} {x : Sums} {e : Entry} → Gathering es i (e ∷ left) x → e .amount < 1000000000000
+    → Gathering es (i + 1) left (added (e .kind) (e .amount) x)
+unfolding added sumsOf
+gathering-more {es} {left} {i} {x} {e} r a =
     record {
-      eq = sym (gathered-more t e left) ∙ r .eq;
-      debit-bound = omega (arith, r .debit-bound, chosen-bounded (λ e. e .amount) 1000000000000 (debitEntry e) e (omega arith));
-      credit-bound = omega (arith, r .credit-bound, chosen-bounded (λ e. e .amount) 1000000000000 (creditEntry e) e (omega arith));
-      debits-bound = omega (arith, r .debits-bound, chosen-bounded (λ e. 1) 1 (debitEntry e) e (omega arith));
-      credits-bound = omega (arith, r .credits-bound, chosen-bounded (λ e. 1) 1 (creditEntry e) e (omega arith));
+      eq = moved ∙ r .eq;
+      bounds = each-added (e .kind) (e .amount) (within-more i (e .amount) a) x (r .bounds);
     }
+  where
+    moved : plusSums (added (e .kind) (e .amount) x) (batchSums left) ≡ plusSums x (batchSums (e ∷ left))
+    moved = plus-assoc x (eachKind (λ kind. single (eqb (e .kind) kind) (e .amount))) (batchSums left)
 
-pub gathering-done : {es : List Entry} {i : ℕ} {t : Totals} → Gathering es i [] t → t ≡ totalsOf es
-gathering-done {es} {i} {t} r = sym (gathered-none t) ∙ r .eq
+pub gathering-done : {es : List Entry} {i : ℕ} {x : Sums} → Gathering es i [] x → x ≡ batchSums es
+unfolding sumsOf
+gathering-done {es} {i} {x} r = sym (none-more x) ∙ r .eq

@@ -5,7 +5,8 @@ use Prim.Native.Nat.{ℕ, zero, suc, _+_, _*_}
 use lib.Dec.{leb, ltb, eqb}
 use lib.ListN.{length, take, drop, set}
 use Rattle.numbers.specs.Numbers.{following}
-use Rattle.kinds.specs.Kinds.{isDebit, isCredit, originalKind}
+use Rattle.kinds.specs.Kinds.{originalKind}
+use Rattle.kinds.specs.Sums.{eachKind, together}
 use Rattle.entry.specs.Entry.{entrySize, decode, encode, blank}
 use Rattle.entry.specs.Form.{dueEntry, fits}
 use Rattle.entry.specs.declared.Entry.{Entry}
@@ -14,6 +15,8 @@ use Rattle.journal.specs.declared.Found.the-variants.{At, Nowhere}
 use Rattle.journal.specs.declared.Query.{Query}
 use Rattle.journal.specs.declared.Query.the-variants.{Trace as OfTrace, Original, Due}
 use Rattle.kinds.specs.declared.Totals.{Totals}
+use Rattle.kinds.specs.declared.sums.Sum.{Sum}
+use Rattle.kinds.specs.declared.sums.Sums.{Sums}
 
 -- the first n entries of the bytes j; what does not stand there whole is no entry, and bytes after the last are not read
 abbrev pub entriesOf : ℕ → List ℕ → List Entry
@@ -41,29 +44,31 @@ abbrev pub firstOf : (Entry → Bool) → ℕ → List Entry → Found
 firstOf p i [] = Nowhere
 firstOf p i (e ∷ es) = cond (p e) (At i) (firstOf p (suc i) es)
 
--- debit and credit, amounts and counts; a voided sale stays in debit
-unfoldable pub debitEntry : Entry → Bool
-debitEntry e = isDebit (e .kind)
-
-unfoldable pub creditEntry : Entry → Bool
-creditEntry e = isCredit (e .kind)
-
-abbrev amount : Entry → ℕ
+abbrev pub amount : Entry → ℕ
 amount e = e .amount
 
-abbrev one : Entry → ℕ
+abbrev pub one : Entry → ℕ
 one e = 1
 
--- of the entries that satisfy p
-unfoldable pub sumsOf : (Entry → Bool) → List Entry → Totals
-sumsOf p es =
-    record {
-      debit = sumOf (λ e. p e && debitEntry e) amount es; debits = sumOf (λ e. p e && debitEntry e) one es;
-      credit = sumOf (λ e. p e && creditEntry e) amount es; credits = sumOf (λ e. p e && creditEntry e) one es }
+-- amount and count of the entries that satisfy p
+abbrev pub sumOver : (Entry → Bool) → List Entry → Sum
+sumOver p es = record { amount = sumOf p amount es; count = sumOf p one es }
+
+-- an entry that satisfies p is of a kind; a voided sale is a sale
+abbrev pub ofKind : (Entry → Bool) → ℕ → Entry → Bool
+ofKind p kind e = p e && eqb (e .kind) kind
+
+-- 001, 4.3.2 (document 02, request 5): of the entries that satisfy p, each kind its own sum
+unfoldable pub sumsOf : (Entry → Bool) → List Entry → Sums
+sumsOf p es = eachKind (λ kind. sumOver (ofKind p kind) es)
 
 -- of all entries
+abbrev pub batchSums : List Entry → Sums
+batchSums es = sumsOf (λ e. true) es
+
+-- debit and credit, amounts and counts
 abbrev pub totalsOf : List Entry → Totals
-totalsOf es = sumsOf (λ e. true) es
+totalsOf es = together (batchSums es)
 
 -- an entry has this trace
 unfoldable pub hasTrace : ℕ → Entry → Bool

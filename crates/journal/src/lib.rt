@@ -1,5 +1,6 @@
 // The journal: lent bytes, one entry per approval, oldest first (document 01, "State and journal").
 use entry::Entry;
+use kinds::Sums;
 use kinds::Totals;
 use numbers::Trace;
 ghost use mathlib.Core.Path.{_≡_};
@@ -7,7 +8,7 @@ ghost use Prim.Native.Nat.{_+_, _*_, _≤_, _<_};
 ghost use lib.ListN.{length, take, drop};
 ghost use Rattle.entry.specs.Entry.{decode, entrySize};
 ghost use Rattle.entry.specs.Form.{dueEntry};
-ghost use Rattle.journal.specs.Journal.{entriesOf, entryAt, every, firstOf, asked, totalsOf, isAt, nowhere, originalFor, fitsAt, nextDue, putEntry, setByte};
+ghost use Rattle.journal.specs.Journal.{entriesOf, entryAt, every, firstOf, asked, batchSums, totalsOf, isAt, nowhere, originalFor, fitsAt, nextDue, putEntry, setByte};
 
 // The place of an entry, the oldest being 0, or that there is none.
 pub enum Found {
@@ -98,10 +99,18 @@ pub fn all_fit(journal: &[u8], n: u16, sendings: u8, uploading: bool, awaited: F
     true
 }
 
+// Debit and credit of the first n entries.
 pub fn totals_of(journal: &[u8], n: u16) -> Totals
     ensures { λ r. ⌜ r ≡ totalsOf (entriesOf n (now (journal .entry))) ⌝ }
 {
-    let mut sums = Totals::new();
+    sums_of(journal, n).together()
+}
+
+// What the first n entries add up to, each kind its own sum (001, 4.3.2).
+pub fn sums_of(journal: &[u8], n: u16) -> Sums
+    ensures { λ r. ⌜ r ≡ batchSums (entriesOf n (now (journal .entry))) ⌝ }
+{
+    let mut sums = Sums::new();
     let mut i: u16 = 0;
     let mut at = 0;
     while i < n {

@@ -13,9 +13,9 @@ use Rattle.message.specs.Message.{largest}
 use Rattle.entry.specs.Entry.{entrySize}
 use Rattle.entry.specs.Form.{inForm, keepsVoided, keepsUnmarked, keepsResends, keepsSilent}
 use Rattle.entry.specs.declared.Entry.{Entry}
-use Rattle.journal.specs.Journal.{entriesOf, every, debitEntry, creditEntry, sumsOf, totalsOf, distinct, isAt}
+use Rattle.journal.specs.Journal.{entriesOf, every, totalsOf, distinct, isAt}
 use Rattle.journal.proofs.Entries.{length-entries-le}
-use Rattle.journal.proofs.Sums.{count-bounded}
+use Rattle.journal.proofs.Sums.{debits-few, credits-few}
 use Rattle.state.specs.declared.State.{State}
 use Rattle.state.specs.Calls.{Lent}
 use Rattle.checks.specs.Checks.{firstBroken}
@@ -97,7 +97,6 @@ fit s lent e = go (tooShort s lent) (keepsRule2 s (entriesOf (s .entries) (lent 
 
 -- the totals stored are the journal's, so they have room for an amount of twelve digits
 pub bookable : (s : State) (lent : Lent) → Fit s lent → (amount : ℕ) → amount < 1000000000000 → Bookable amount s
-unfolding sumsOf
 bookable s lent f amount small =
     let es = entriesOf (s .entries) (lent .journal) in
     let n = length-entries-le (s .entries) (lent .journal) in
@@ -109,8 +108,8 @@ bookable s lent f amount small =
           (record {
             debit-small = omega (arith, f .order .journal .debit-most);
             credit-small = omega (arith, f .order .journal .credit-most);
-            debits-small = omega (arith, count-bounded debitEntry es, o .few, o .settings .limit-most);
-            credits-small = omega (arith, count-bounded creditEntry es, o .few, o .settings .limit-most);
+            debits-small = omega (arith, debits-few es, o .few, o .settings .limit-most);
+            credits-small = omega (arith, credits-few es, o .few, o .settings .limit-most);
             amount-small = small;
           });
     }

@@ -2,3 +2,4 @@
 pub mod InOrder
 pub mod Idle
 pub mod Tests
+pub mod Summing

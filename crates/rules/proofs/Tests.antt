@@ -18,7 +18,7 @@ use Rattle.state.specs.declared.Request.{Request}
 use Rattle.state.specs.declared.State.{State}
 use Rattle.state.specs.Calls.{Lent}
 use Rattle.checks.specs.Checks.{firstBroken}
-use Rattle.rules.specs.Rules.{journalKept, inUpload, due, awaitedItem, originalUnvoided, requestKept, phaseKept, tooShort, keepsRule2, rules12}
+use Rattle.rules.specs.Rules.{journalKept, inUpload, due, awaitedItem, originalUnvoided, requestKept, phaseKept, tooShort, keepsRule2, rules12, reportRules}
 use Rattle.state_rules.specs.StateRules.{stateKept, sumsKept, past}
 
 -- a search that finds nothing
@@ -101,22 +101,26 @@ pub short-message : (s : State) (lent : Lent) → length (lent .message) < large
 unfolding firstBroken tooShort
 short-message s lent h = rw (lt-ltb (length (lent .message)) largest h)
 
-pub short-journal : (s : State) (lent : Lent) → largest ≤ length (lent .message) → length (lent .journal) < entrySize * s .settings .limit
-    → 1 ≡ firstBroken (rules12 s lent)
+pub long-message : (s : State) (lent : Lent) {r : ℕ} → largest ≤ length (lent .message) → r ≡ firstBroken (reportRules s (lent .journal))
+    → r ≡ firstBroken (rules12 s lent)
 unfolding firstBroken tooShort
-short-journal s lent g h = rw (le-ltb (length (lent .message)) largest g, lt-ltb (length (lent .journal)) (entrySize * s .settings .limit) h)
+long-message s lent h e = e ∙ rw (le-ltb (length (lent .message)) largest h)
 
-pub no-order : (s : State) (lent : Lent) (r : Bool) → largest ≤ length (lent .message) → entrySize * s .settings .limit ≤ length (lent .journal)
-    → r ≡ keepsRule2 s (entriesOf (s .entries) (lent .journal)) → not r ≡ true → 2 ≡ firstBroken (rules12 s lent)
-unfolding firstBroken tooShort
-no-order s lent true g h e t = absurd (true≢false (sym t))
-no-order s lent false g h e t = rw (le-ltb (length (lent .message)) largest g, le-ltb (length (lent .journal)) (entrySize * s .settings .limit) h, ← e)
+pub short-journal : (s : State) (j : List ℕ) → length j < entrySize * s .settings .limit → 1 ≡ firstBroken (reportRules s j)
+unfolding firstBroken
+short-journal s j h = rw (lt-ltb (length j) (entrySize * s .settings .limit) h)
 
-pub all-kept : (s : State) (lent : Lent) (r : Bool) → largest ≤ length (lent .message) → entrySize * s .settings .limit ≤ length (lent .journal)
-    → r ≡ keepsRule2 s (entriesOf (s .entries) (lent .journal)) → not r ≡ false → 0 ≡ firstBroken (rules12 s lent)
-unfolding firstBroken tooShort
-all-kept s lent false g h e t = absurd (true≢false t)
-all-kept s lent true g h e t = rw (le-ltb (length (lent .message)) largest g, le-ltb (length (lent .journal)) (entrySize * s .settings .limit) h, ← e)
+pub no-order : (s : State) (j : List ℕ) (r : Bool) → entrySize * s .settings .limit ≤ length j
+    → r ≡ keepsRule2 s (entriesOf (s .entries) j) → not r ≡ true → 2 ≡ firstBroken (reportRules s j)
+unfolding firstBroken
+no-order s j true h e t = absurd (true≢false (sym t))
+no-order s j false h e t = rw (le-ltb (length j) (entrySize * s .settings .limit) h, ← e)
+
+pub all-kept : (s : State) (j : List ℕ) (r : Bool) → entrySize * s .settings .limit ≤ length j
+    → r ≡ keepsRule2 s (entriesOf (s .entries) j) → not r ≡ false → 0 ≡ firstBroken (reportRules s j)
+unfolding firstBroken
+all-kept s j false h e t = absurd (true≢false t)
+all-kept s j true h e t = rw (le-ltb (length j) (entrySize * s .settings .limit) h, ← e)
 
 -- an awaited request's tests, where its trace is looked for
 pub request-kept-is : (limit n : ℕ) (es : List Entry) (q : Request)

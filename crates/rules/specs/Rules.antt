@@ -132,6 +132,11 @@ keepsRule2 s es =
 abbrev pub rules12 : State → Lent → List Rule
 rules12 s lent = rule 1 (tooShort s lent) ∷ rule 2 (not (keepsRule2 s (entriesOf (s .entries) (lent .journal)))) ∷ []
 
+-- the same for a report on terminal and journal, which is lent no message buffer
+abbrev pub reportRules : State → List ℕ → List Rule
+reportRules s j =
+    rule 1 (ltb (length j) (entrySize * s .settings .limit)) ∷ rule 2 (not (keepsRule2 s (entriesOf (s .entries) j))) ∷ []
+
 -- and 10 and 11: signed on, and nothing awaited
 abbrev pub idleRules : State → Lent → List Rule
 idleRules s lent = rules12 s lent ++ (rule 10 (not (s .«signed_on»)) ∷ rule 11 (isWaiting s) ∷ [])

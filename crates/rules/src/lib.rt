@@ -14,7 +14,7 @@ ghost use Rattle.entry.specs.Form.{dueEntry};
 ghost use Rattle.journal.specs.Journal.{entriesOf, totalsOf};
 ghost use Rattle.checks.specs.Checks.{firstBroken};
 ghost use Rattle.state.specs.Calls.{lend};
-ghost use Rattle.rules.specs.Rules.{journalKept, awaitedInUpload, inUpload, itemIn, awaitedItem, unvoidedAt, originalUnvoided, requestKept, awaitedKept, phaseKept, keepsRule2, rules12, idleRules};
+ghost use Rattle.rules.specs.Rules.{journalKept, awaitedInUpload, inUpload, itemIn, awaitedItem, unvoidedAt, originalUnvoided, requestKept, awaitedKept, phaseKept, keepsRule2, rules12, reportRules, idleRules};
 
 // Rule 2, the journal of n entries: by its totals, the sendings set, whether it is the upload, and the place of the awaited item.
 pub fn journal_kept(
@@ -58,11 +58,18 @@ pub fn keeps_rule2(s: State, journal: &[u8]) -> bool
 pub fn first_refusal(s: State, journal: &[u8], message: &[u8]) -> u8
     ensures { λ r. ⌜ r ≡ firstBroken (rules12 s (lend (now (journal .entry)) (now (message .entry)))) ⌝ }
 {
-    let settings = s.settings;
-    let limit = settings.limit as usize;
     if message.len() < Message::LARGEST {
         return 1;
     }
+    report_refusal(s, journal)
+}
+
+// The same for a report on terminal and journal, which is lent no message buffer.
+pub fn report_refusal(s: State, journal: &[u8]) -> u8
+    ensures { λ r. ⌜ r ≡ firstBroken (reportRules s (now (journal .entry))) ⌝ }
+{
+    let settings = s.settings;
+    let limit = settings.limit as usize;
     if journal.len() < Entry::SIZE * limit {
         return 1;
     }

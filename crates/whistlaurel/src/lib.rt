@@ -1,6 +1,7 @@
 // The terminal for C: the functions of the static library, over the bytes of an image. include/whistlaurel.h says how they are used.
 use calls::Call;
 use desk::Desk;
+use kinds::Sums;
 use numbers::Trace;
 use parts::Taken;
 use reading::ReadOutcome;
@@ -19,7 +20,7 @@ ghost use Rattle.state.specs.Calls.{lend};
 ghost use Rattle.image_definitions.specs.Layout.{size};
 ghost use Rattle.image_definitions.specs.Image.{image as imageOf};
 ghost use Rattle.call_definitions.specs.Events.{eventOf, sign-on, starts, answers, no-answer, power-returned, card-agrees, card-declines, send-reversal, settles, send-next-upload};
-ghost use Rattle.interface_definitions.specs.Interface.{gives, numberOf, lengthOf, onImage, settingsOf, deskOf, nothingKeyed, returned, freshImage, numberAt, totalsOn, readNumber, held, fieldAt};
+ghost use Rattle.interface_definitions.specs.Interface.{gives, numberOf, lengthOf, onImage, settingsOf, deskOf, nothingKeyed, returned, freshImage, numberAt, totalsOn, sumsValues, sumsOn, readNumber, held, fieldAt};
 
 // What a function returns beside the numbers of documents 01 and 02: a message leaves; a message does not hold the field.
 const SENDS: u8 = 255;
@@ -273,6 +274,24 @@ pub extern "C" fn whistlaurel_totals(image: &[u8], totals: &mut [u64; 4]) -> u8
     0
 }
 
+// The five sums of the journal in the order of 001, 4.3.2: amount and count of sales, completions, refunds, sale voids, completion voids.
+#[no_mangle]
+pub extern "C" fn whistlaurel_sums(image: &[u8], journal: &[u8], sums: &mut [u64; 10]) -> u8
+    ensures { λ r. ⌜ returned r (now (sums .exit)) ≡ sumsOn (now (image .entry)) (now (journal .entry)) (now (sums .entry)) ⌝ }
+{
+    let held = image::read(image);
+    if !held.accepted {
+        return 2;
+    }
+    let state = held.state;
+    let number = rules::report_refusal(state, journal);
+    if number != 0 {
+        return number;
+    }
+    *sums = sums_values(journal::sums_of(journal, state.entries));
+    0
+}
+
 // Whether bytes are a message: 0, or the number by which they are refused.
 #[no_mangle]
 pub extern "C" fn whistlaurel_read(bytes: &[u8]) -> u8
@@ -304,6 +323,28 @@ pub extern "C" fn whistlaurel_field(bytes: &[u8], n: u8, out: &mut [u8], count: 
             0
         }
     }
+}
+
+fn sums_values(x: Sums) -> [u64; 10]
+    ensures { λ r. ⌜ r ≡ sumsValues x ⌝ }
+{
+    let sales = x.sales;
+    let completions = x.completions;
+    let refunds = x.refunds;
+    let sale_voids = x.sale_voids;
+    let completion_voids = x.completion_voids;
+    [
+        sales.amount,
+        sales.count as u64,
+        completions.amount,
+        completions.count as u64,
+        refunds.amount,
+        refunds.count as u64,
+        sale_voids.amount,
+        sale_voids.count as u64,
+        completion_voids.amount,
+        completion_voids.count as u64,
+    ]
 }
 
 // What the desk has keyed where a call takes nothing from it.

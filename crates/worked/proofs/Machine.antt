@@ -16,9 +16,10 @@ use Rattle.digits.specs.Packed.{packedNumber}
 use Rattle.parts.specs.Parts.{matches, copies, numberIn}
 use Rattle.kinds.specs.Kinds.{isKind, indicatorOf, processingOf, conditionOf, isDebit, isCredit, sideOf, isDue, takesOriginal, originalKind, isVoidable}
 use Rattle.kinds.specs.Totals.{booked}
+use Rattle.kinds.specs.Sums.{together}
 use Rattle.entry.specs.Entry.{decode, encode, allZero}
 use Rattle.entry.specs.Form.{cardInForm, inForm, keepsVoided, keepsUnmarked, keepsResends, keepsSilent}
-use Rattle.journal.specs.Journal.{debitEntry, creditEntry, sumsOf, hasTrace, isOriginal, dueWith, nextDue, absent, taken, putEntry, setByte}
+use Rattle.journal.specs.Journal.{sumsOf, hasTrace, isOriginal, dueWith, nextDue, absent, taken, putEntry, setByte}
 use Rattle.checks.specs.Checks.{firstBroken}
 use Rattle.state.specs.Calls.{judged}
 use Rattle.rules.specs.Rules.{tooShort, originalUnvoided, requestKept, journalKept, keepsRule2}
@@ -42,7 +43,7 @@ unfolding half unpack packedByte pack halfAllowed isPacked allDigits value numbe
     allPrintable tagSize lengthSize elementSize tagsAfter hasTag elementsAfter elementsInForm chipInForm contentsAt spanAt span fieldBytes
     fieldIn readFields readMessage namedBytes fieldsBytes messageBytes packedNumber sameBytes matches copies numberIn isKind indicatorOf
     processingOf conditionOf isDebit isCredit sideOf isDue takesOriginal originalKind isVoidable booked decode encode allZero within
-    cardInForm inForm keepsVoided keepsUnmarked keepsResends keepsSilent debitEntry creditEntry sumsOf hasTrace isOriginal dueWith nextDue
+    cardInForm inForm keepsVoided keepsUnmarked keepsResends keepsSilent sumsOf together hasTrace isOriginal dueWith nextDue
     absent following taken putEntry setByte firstBroken judged tooShort settingsInForm isCard requestInForm reversalInForm approvalInForm
     answeredKept consentKept chipKept signOnKept stateInForm past sumsKept balanced totalsTrue originalUnvoided requestKept stateKept
     journalKept keepsRule2 requestMessage reversalMessage deskInForm originalOf start adopts signOn onSignOn sendReversal repeats

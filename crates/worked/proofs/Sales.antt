@@ -15,6 +15,7 @@ use Rattle.reading.specs.Reading.{readMessage}
 use Rattle.reading.specs.declared.ReadOutcome.the-variants.{Read}
 use Rattle.writing.specs.Writing.{messageBytes}
 use Rattle.kinds.specs.Kinds.{isDebit, sideOf, takesOriginal}
+use Rattle.kinds.specs.Sums.{together}
 use Rattle.kinds.specs.declared.Side.the-variants.{Debit}
 use Rattle.entry.specs.Entry.{entrySize}
 use Rattle.entry.specs.declared.Entry.{Entry}
@@ -141,7 +142,7 @@ all-after (suc n) r h b =
 
 -- a fresh terminal signs on
 fresh-order : keepsRule2 (fresh (settings 300)) [] ≡ true
-unfolding keepsRule2 stateKept journalKept settingsInForm consentKept chipKept signOnKept stateInForm within allPrintable sumsKept sumsOf
+unfolding keepsRule2 stateKept journalKept settingsInForm consentKept chipKept signOnKept stateInForm within allPrintable sumsKept sumsOf together
     balanced totalsTrue
 fresh-order = refl
 

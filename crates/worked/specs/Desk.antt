@@ -74,6 +74,10 @@ approvalItems amount =
 abbrev pub approval : ℕ → ℕ → ℕ → Event
 approval kind amount trace = reply 0x0210 kind trace 0x30 0x30 (approvalItems amount)
 
+-- the same to a refund
+abbrev pub refundApproval : ℕ → ℕ → Event
+refundApproval amount trace = reply 0x0230 25 trace 0x30 0x30 (approvalItems amount)
+
 -- document 02, request 4: 10 with them, of a type to a request of a kind and a trace, its MAC good or bad
 abbrev pub partial : ℕ → ℕ → ℕ → ℕ → Bool → Event
 partial indicator kind amount trace good = answers (replyBytes indicator kind trace 0x31 0x30 (approvalItems amount)) good
