@@ -78,6 +78,7 @@ static bool sign_on_and_go_on(struct desk *desk);
 static void tell_sign_on(const struct desk *desk);
 static void send_reversals(struct desk *desk);
 static bool upload(struct desk *desk);
+static void tell_settlement(const struct sending *sending);
 static void tell_open_batch(const struct desk *desk);
 static size_t split(char *line, char *words[WORDS_MOST]);
 static void carry_out(struct desk *desk, char *words[WORDS_MOST], size_t count);
@@ -173,6 +174,7 @@ static uint8_t exchange(struct desk *desk, const struct call *call)
     }
     *sending = (struct sending){.phase = number(desk, WHISTLAUREL_PHASE), .batch = number(desk, WHISTLAUREL_BATCH)};
     whistlaurel_totals(terminal->image, sizeof terminal->image, sending->totals);
+    whistlaurel_sums(terminal->image, sizeof terminal->image, terminal->journal, sizeof terminal->journal, sending->sums);
     key_pad_write(terminal->message, terminal->length);
     deadline = line_clock() + desk->time_out;
     sending->has_left = line_send(&desk->line, terminal->message, terminal->length, deadline);
@@ -435,14 +437,36 @@ static void settle(struct desk *desk)
         return;
     }
     if (number(desk, WHISTLAUREL_PHASE) == WHISTLAUREL_RESTING) {
-        printf("settled batch %06" PRIu64 ": debit ", sending->batch);
-        tell_amount(sending->totals[0]);
-        printf(" in %" PRIu64 ", credit ", sending->totals[1]);
-        tell_amount(sending->totals[2]);
-        printf(" in %" PRIu64 "\n", sending->totals[3]);
+        tell_settlement(sending);
     }
     tell_open_batch(desk);
     trial_point("after-told");
+}
+
+/* The settlement report: the five sums in the order of Q/CUP 009.1, 4.3.2, then debit, which is the first two, and credit, the others. */
+static void tell_settlement(const struct sending *sending)
+{
+    static const struct {
+        enum whistlaurel_sum place;
+        const char *words;
+    } sums[] = {
+        {WHISTLAUREL_SALES, "sales"},           {WHISTLAUREL_COMPLETIONS, "completions"},
+        {WHISTLAUREL_REFUNDS, "refunds"},       {WHISTLAUREL_SALE_VOIDS, "sale voids"},
+        {WHISTLAUREL_COMPLETION_VOIDS, "completion voids"},
+    };
+
+    for (size_t i = 0; i < sizeof sums / sizeof sums[0]; i++) {
+        const uint64_t *sum = sending->sums + sums[i].place;
+
+        printf("batch %06" PRIu64 ": %s ", sending->batch, sums[i].words);
+        tell_amount(sum[0]);
+        printf(" in %" PRIu64 "\n", sum[1]);
+    }
+    printf("settled batch %06" PRIu64 ": debit ", sending->batch);
+    tell_amount(sending->totals[0]);
+    printf(" in %" PRIu64 ", credit ", sending->totals[1]);
+    tell_amount(sending->totals[2]);
+    printf(" in %" PRIu64 "\n", sending->totals[3]);
 }
 
 /* Tells that a batch is not closed yet, where its settlement has left. */

@@ -13,6 +13,7 @@ struct sending {
     uint64_t phase;       /* in which its answer was awaited; under a sign-on the phase before it */
     uint64_t batch;
     uint64_t totals[4];   /* as whistlaurel_totals gives them */
+    uint64_t sums[10];    /* as whistlaurel_sums gives them */
     bool has_left;        /* false where the centre could not be reached */
     bool is_answered;     /* an answer was taken */
     char code[3];         /* its field 39, empty where it has none or no answer was taken */

@@ -88,6 +88,15 @@ enum whistlaurel_kind {
     WHISTLAUREL_REFUND = 25
 };
 
+/* The places of what whistlaurel_sums gives: that of a sum's amount; its count follows. */
+enum whistlaurel_sum {
+    WHISTLAUREL_SALES = 0,
+    WHISTLAUREL_COMPLETIONS = 2,
+    WHISTLAUREL_REFUNDS = 4,
+    WHISTLAUREL_SALE_VOIDS = 6,
+    WHISTLAUREL_COMPLETION_VOIDS = 8
+};
+
 /*
  * The numbers that whistlaurel_number gives. Those after WHISTLAUREL_PHASE belong to the phase, and are 0 where it has none of them; the last
  * belongs to a sign-on, which changes neither the phase nor the numbers of it.
@@ -241,6 +250,14 @@ uint8_t whistlaurel_number(const uint8_t *image, size_t image_size, size_t row, 
  * that is not refused leaves there the sums of the journal's entries. Returns 0, or 2 for no image.
  */
 uint8_t whistlaurel_totals(const uint8_t *image, size_t image_size, uint64_t totals[4]);
+
+/*
+ * Adds up the batch's journal for a settlement report: sets sums to the amount, in fen, and the count of sales, completions, refunds, sale
+ * voids and completion voids (enum whistlaurel_sum), in the order of Q/CUP 009.1, 4.3.2. The first two together are the debit of
+ * whistlaurel_totals, the last three its credit. A closing empties the journal: ask before the answer to a settlement or an upload's end
+ * is handed in. Returns 0, or as a call does 1 for a journal too short, 2 for no image or an image and a journal that do not fit together.
+ */
+uint8_t whistlaurel_sums(const uint8_t *image, size_t image_size, const uint8_t *journal, size_t journal_size, uint64_t sums[10]);
 
 /* Whether bytes are a well-formed message: 0, or the number 3 to 9, 23 or 24 by which they are refused. */
 uint8_t whistlaurel_read(const uint8_t *bytes, size_t bytes_size);

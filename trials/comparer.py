@@ -17,6 +17,7 @@ WORDS = {kind: word for word, kind in KINDS.items()}
 CHIP_KINDS = ("10", "22")
 CARD_WORDS = ("card-agrees", "card-declines")
 DOUBTFUL = ("given up", "unanswered")
+SUMS = {"sales": "22", "completions": "20", "refunds": "25", "sale voids": "23", "completion voids": "21"}      # of a settlement report, in its order
 
 _WORD = "(" + "|".join(sorted(KINDS, key=len, reverse=True)) + ")"
 _YUAN = r"(\d+\.\d\d) yuan"
@@ -27,6 +28,7 @@ RESULT = re.compile(rf"{_WORD} (\d{{6}}): (approved|declined|reversed|given up|u
 PAID = re.compile(rf"paid by the card {_YUAN}, still to pay {_YUAN}")
 ASKED = re.compile(rf"{_WORD} (\d{{6}}): the centre approves {_PART}, card (\d{{6}}\*+\d{{4}}), chip; card-agrees or card-declines")
 APPROVED_TAIL = re.compile(r", reference (.{12}), authorisation (.{6})")
+SUM = re.compile(rf"batch (\d{{6}}): ({'|'.join(SUMS)}) {_YUAN} in (\d+)")
 SETTLED = re.compile(rf"settled batch (\d{{6}}): debit {_YUAN} in (\d+), credit {_YUAN} in (\d+)")
 READY = re.compile(r"ready, batch (\d{6})")
 SIGNED_ON = re.compile(r"signed on, batch (\d{6})")
@@ -161,6 +163,7 @@ class Comparer:
         self.late_word = None           # trace of a request that ended otherwise than its card's word, given last
         self.rest_due = None            # the request approved in part of which the next line says what is paid and still to pay
         self.totals_due = None          # trace of the approved request after which the totals come next
+        self.report = []                # lines of a settlement report under way
         self.is_starting = False        # the desk has not said yet that it is ready
         self.totals_at_start = 0        # how often the totals were shown before that
         self.listing = None             # lines of a journal or doubtful list under way
@@ -201,6 +204,7 @@ class Comparer:
         self.listing = None
         self.asked = self.late_word = self.totals_due = self.rest_due = None
         self.card_words = self.totals_at_start = 0
+        self.report = []
         self.is_starting = True
         self.has_signed_on = self.is_signed_on = False
         self.pending = self.word_due = None
@@ -218,6 +222,7 @@ class Comparer:
     def _take_ended(self, event):
         self._look_for_rest(None)
         self._look_for_totals()
+        self._look_for_settled()
         if event.status != 0:
             self._differ("exit", f"the desk ended with status {event.status}: {event.words}")
 
@@ -234,6 +239,7 @@ class Comparer:
     def _take_command(self, event):
         self._look_for_rest(None)
         self._look_for_totals()
+        self._look_for_settled()
         self.command = event.text.split()
         self.command_has_sent = False
         self.listing = [] if self.command[0] in ("journal", "doubtful") else None
@@ -251,6 +257,12 @@ class Comparer:
         if self.totals_due:
             self._differ("totals line", f"{self.totals_due} is called approved, and the totals do not follow", self.totals_due)
         self.totals_due = None
+
+    def _look_for_settled(self):
+        """Something else comes where a settlement report goes on, or its batch is called settled. A kill may cut a report off."""
+        if self.report:
+            self._differ("report line", f"after {self.report[-1].group(0)!r} the report does not go on")
+        self.report = []
 
     def _look_for_rest(self, match):
         """The line after an approval in part says what is paid and what is still to pay; no other line does."""
@@ -524,10 +536,25 @@ class Comparer:
         told = _sums((request.kind, request.amount) for request in self._due(number))
         if sums != told:
             self._differ(name, f"{words}, the desk's approved requests give {told}", trace)
-        held = _sums((request.kind, request.held_amount) for request in self.requests.values()
-                     if request.batch == number and request.is_held and request.word not in (None, *DOUBTFUL))
+        held = _sums((request.kind, request.held_amount) for request in self._held(number))
         if sums != held:
             self._differ(f"{name} and ledger", f"{words}, the centre's ledger without doubtful requests gives {held}", trace)
+
+    def _compare_report(self, number):
+        """The five lines right before a batch is called settled: in their order, each with the desk's approved requests of its kind, and with
+        what of the centre's ledger it has ended."""
+        report, self.report = self.report, []
+        self.figures["reports compared"] += 1
+        if [match.group(1, 2) for match in report] != [(number, words) for words in SUMS]:
+            self._differ("report line", f"batch {number} is called settled, and the desk says before {[match.group(0) for match in report]}")
+        for match in report:
+            kind, sum_told = SUMS[match.group(2)], (_fen(match.group(3)), int(match.group(4)))
+            told = _sum(request.amount for request in self._due(number) if request.kind == kind)
+            if sum_told != told:
+                self._differ("report", f"the desk says {match.group(0)!r}, its approved requests give {told}")
+            held = _sum(request.held_amount for request in self._held(number) if request.kind == kind)
+            if sum_told != held:
+                self._differ("report and ledger", f"the desk says {match.group(0)!r}, the centre's ledger without doubtful requests gives {held}")
 
     def _compare_item(self, message):
         trace = message[11]
@@ -564,13 +591,15 @@ class Comparer:
         if not TOTALS.fullmatch(text):
             self._look_for_totals()
         self._look_for_word(text)
+        if not SUM.fullmatch(text) and not SETTLED.fullmatch(text):
+            self._look_for_settled()
         if text.startswith("last request: "):
             self._compare_last(text)
         if self.listing is not None:
             self._take_listed(text)
             return
-        for pattern, method in ((RESULT, self._take_result), (ASKED, self._take_asked), (SETTLED, self._take_settled), (READY, self._take_ready),
-                                (COUNTS, self._take_counts), (TOTALS, self._take_totals), (STATE, self._take_state),
+        for pattern, method in ((RESULT, self._take_result), (ASKED, self._take_asked), (SUM, self.report.append), (SETTLED, self._take_settled),
+                                (READY, self._take_ready), (COUNTS, self._take_counts), (TOTALS, self._take_totals), (STATE, self._take_state),
                                 (REFUSED, self._take_refused), (SIGNED_ON, self._take_signed_on), (NOT_SIGNED_ON, self._take_not_signed_on),
                                 (STILL_SIGNED_ON, self._take_still_signed_on)):
             match = pattern.fullmatch(text.removeprefix("last request: "))
@@ -748,6 +777,7 @@ class Comparer:
         number = match.group(1)
         batch = self.batches[number]
         digits = _sums_of_words(match.groups()[1:])
+        self._compare_report(number)
         if digits != batch.sums:
             self._differ("settled line", f"the desk says {match.group(0)!r}, its settlement carried {batch.sums}")
         if not batch.may_close:
@@ -898,6 +928,11 @@ class Comparer:
         return [request for trace, request in sorted(self.requests.items())
                 if request.batch == number and request.word == "approved" and request.message and request.kind in DEBIT + CREDIT]
 
+    def _held(self, number):
+        """What the centre's ledger holds of a batch, without what the desk calls doubtful or has not ended."""
+        return [request for request in self.requests.values()
+                if request.batch == number and request.is_held and request.word not in (None, *DOUBTFUL)]
+
     def _differ(self, name, words, trace=None):
         of_trace = [history.shown(event) for event in self.events if trace and trace in history.shown(event)]
         latest = [history.shown(event) for event in self.events[-25:]]
@@ -957,6 +992,12 @@ def _fen(yuan):
 
 def _yuan(fen):
     return f"{fen // 100}.{fen % 100:02d}"
+
+
+def _sum(amounts):
+    """The sum of amounts in fen, and how many they are."""
+    amounts = list(amounts)
+    return sum(amounts), len(amounts)
 
 
 def _sums(amounts):

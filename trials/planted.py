@@ -5,10 +5,10 @@ sign-ons have traces between these.
 """
 
 import iso
-from comparer import WORDS, Comparer
+from comparer import SUMS, WORDS, Comparer
 from history import Answered, Command, Ended, Error, Held, Killed, Line, Received, Released, Started, Stored, masked
 
-LATER = "000005"        # the batch after the closing
+LATER, THIRD = "000005", "000006"       # the batch after the first closing, and the one after the second
 TERMINAL, MERCHANT, BATCH, CARD, DATE = "LIB00001", "WHISTLAUREL0001", "000001", "6222021234561234", "0315"
 LIMIT, SENDINGS, REFUND = 12, 3, 1000
 CHIP = iso.element("5A", bytes.fromhex(CARD)) + iso.element("9F26", bytes(8)) + iso.element("9F10", bytes(128))
@@ -61,7 +61,7 @@ def names_found(labelled):
 
 def sound():
     """A history as (label, event), without a fault: each way in which a request can end, the card's words, sign-ons, an upload, approvals in
-    part."""
+    part, all kinds in one batch, a settlement report that is cut off."""
     return [
         ("start", Started("")), ("", sign_on(1)), ("", signed_on(1, "000001")), ("", on("000001")), ("", Line("last request: none")),
         ("", Line("ready, batch 000001")),
@@ -95,6 +95,8 @@ def sound():
         *sound_sign_ons(),
         *sound_settlement(),
         *((label, later(event)) for label, event in sound_parts()),
+        *((label, later(event, THIRD)) for label, event in sound_kinds()),
+        *sound_cut_report(),
         ("", Command("quit")), ("quit", Ended(0, "")),
     ]
 
@@ -149,6 +151,7 @@ def sound_settlement():
         ("item 1", item("22", 1, 12000)), ("", upload_answer("22", 1, "201")), ("item 3", item("23", 3, 12000)),
         ("accepted 3", upload_answer("23", 3, "201")), ("", item("22", 8, 2500)), ("", upload_answer("22", 8, "201")),
         ("end", upload_end(12)), ("closing", upload_answer("00", 12, "202")),
+        *report(11, BATCH, (14500, 2), (0, 0), (0, 0), (12000, 1), (0, 0)),
         ("settled", Line("settled batch 000001: debit 145.00 yuan in 2, credit 120.00 yuan in 1")),
         ("", Command("totals")), ("closed totals", totals(0, 0, 0, 0)),
         # 13: signed off, the desk signs on for it and adopts the number that the centre brings.
@@ -196,14 +199,45 @@ def sound_parts():
         ("item 14", item("22", 14, 2000)), ("", upload_answer("22", 14, "201")), ("", item("23", 15, 2000)), ("", upload_answer("23", 15, "201")),
         ("item 16", item("22", 16, 400)), ("", upload_answer("22", 16, "201")), ("", item("22", 19, 800)), ("", upload_answer("22", 19, "201")),
         ("", item("22", 20, 999)), ("", upload_answer("22", 20, "201")), ("", upload_end(23)), ("", upload_answer("00", 23, "202")),
+        *report(22, LATER, (4199, 4), (0, 0), (0, 0), (2000, 1), (0, 0)),
         ("", Line(f"settled batch {LATER}: debit 41.99 yuan in 4, credit 20.00 yuan in 1")),
+    ]
+
+
+def sound_kinds():
+    """Each kind that has a sum and a pre-authorisation, in the third batch, which is closed at once."""
+    return [
+        ("", Command(f"sale 1000 {CARD}")), ("", sign_on(231)), ("", signed_on(231, THIRD)), ("", on(THIRD)),
+        *approved("22", 24, 1000, request("22", 24, 1000), totals(1000, 1, 0, 0)),
+        ("", Command(f"sale 200 {CARD}")), *approved("22", 25, 200, request("22", 25, 200), totals(1200, 2, 0, 0)),
+        ("", Command(f"sale 30 {CARD}")), *approved("22", 26, 30, request("22", 26, 30), totals(1230, 3, 0, 0)),
+        ("", Command(f"complete 400 {CARD} A00001 {DATE}")), *approved("20", 27, 400, request("20", 27, 400), totals(1630, 4, 0, 0)),
+        ("", Command(f"complete 5000 {CARD} A00001 {DATE}")), *approved("20", 28, 5000, request("20", 28, 5000), totals(6630, 5, 0, 0)),
+        ("", Command(f"refund 70 {CARD} 000000000001 {DATE}")), *approved("25", 29, 70, request("25", 29, 70), totals(6630, 5, 70, 1)),
+        ("", Command(f"sale-void {six(25)}")), *approved("23", 30, 200, void(30, 25, 200), totals(6630, 5, 270, 2)),
+        ("", Command(f"complete-void {six(27)}")), *approved("21", 31, 400, void(31, 27, 400, "21"), totals(6630, 5, 670, 3)),
+        ("", Command(f"authorise 600 {CARD}")), *approved("10", 32, 600, request("10", 32, 600), totals(6630, 5, 670, 3)),
+        ("", Command("settle")), ("", settlement(33, 6630, 5, 670, 3)), ("digit 33", settlement_answer(33, 6630, 5, 670, 3, "1")),
+        *report(33, THIRD, (1230, 3), (5400, 2), (70, 1), (200, 1), (400, 1)),
+        ("settled 33", Line(f"settled batch {THIRD}: debit 66.30 yuan in 5, credit 6.70 yuan in 3")),
+    ]
+
+
+def sound_cut_report():
+    """An empty batch is closed, and the desk killed while it reports that."""
+    return [
+        ("", Command("settle")), ("", sign_on(331, "000007")), ("", signed_on(331, "000007")), ("", on("000007")),
+        ("", later(settlement(34, 0, 0, 0, 0), "000007")), ("", later(settlement_answer(34, 0, 0, 0, 0, "1"), "000007")),
+        *report(34, "000007", (0, 0), (0, 0)), ("", Killed("random")),
+        ("", Started("")), ("", sign_on(341, "000008")), ("", signed_on(341, "000008")), ("", on("000008")),
+        ("", last(result("10", 32, "approved", 600))), ("", Line("ready, batch 000008")),
     ]
 
 
 def planted_faults():
     """(what is wrong, name of the difference that must be found, change of the sound history)."""
     return (faults_of_requests() + faults_of_chips() + faults_of_totals() + faults_under_sign_ons() + faults_of_sign_ons()
-            + faults_of_settlement() + faults_of_parts() + faults_after_parts())
+            + faults_of_settlement() + faults_of_reports() + faults_of_parts() + faults_after_parts())
 
 
 def faults_of_requests():
@@ -405,6 +439,65 @@ def faults_of_settlement():
     ]
 
 
+def faults_of_reports():
+    """Of the lines before a batch is called settled, and of their sums."""
+    labels = [f"{words} 33" for words in SUMS]
+    return [
+        ("no report", "report line", without(*labels)),
+        ("a report without its first line", "report line", without("sales 33")),
+        ("a report without a line whose sum is 0", "report line", without("completions 11")),
+        ("a report without its last line", "report line", without("completion voids 33")),
+        ("a line of a report twice", "report line", after("refunds 33", sum_line(THIRD, "refunds", 70, 1))),
+        ("sales and completions exchanged", "report line", move("sales 33", "completions 33")),
+        ("the lines of the voids exchanged", "report line", move("sale voids 33", "completion voids 33")),
+        ("refunds told after the voids", "report line", move("refunds 33", "completion voids 33")),
+        ("a line of another batch", "report line", replace("refunds 33", sum_line(LATER, "refunds", 70, 1))),
+        ("a report with the number of the next batch", "report line", in_batch("000007", *labels)),
+        ("the whole report after the batch is called settled", "report line", move("settled 33", "digit 33")),
+        ("another line within a report", "report line", after("refunds 33", totals(6630, 5, 670, 3))),
+        ("a report, and the batch not called settled", "report line", without("settled 33")),
+        ("a report of a batch that is not closed", "report line", replace("settled 33", Line("settlement not answered; settle again"))),
+        ("a line of a report after the batch is called settled", "report line", after("settled 33", sum_line(THIRD, "sales", 1230, 3))),
+        ("a sum off by one fen", "report", replace("refunds 33", sum_line(THIRD, "refunds", 71, 1))),
+        ("a sum with one request too many", "report", replace("sale voids 33", sum_line(THIRD, "sale voids", 200, 2))),
+        ("the count of another kind", "report", replace("sales 33", sum_line(THIRD, "sales", 1230, 2))),
+        ("the amount of another kind", "report", replace("completion voids 33", sum_line(THIRD, "completion voids", 200, 1))),
+        ("amount and count of sales and completions exchanged", "report", summed(33, THIRD, sales=(5400, 2), completions=(1230, 3))),
+        ("a completion summed as a sale", "report", summed(33, THIRD, sales=(1630, 4), completions=(5000, 1))),
+        ("a completion summed as a refund", "report", summed(33, THIRD, completions=(5000, 1), refunds=(470, 2))),
+        ("a sale void summed as a refund", "report", summed(33, THIRD, refunds=(270, 2), sale_voids=(0, 0))),
+        ("a completion void summed as a sale void", "report", summed(33, THIRD, sale_voids=(600, 2), completion_voids=(0, 0))),
+        ("a voided sale taken out of the sales", "report", summed(33, THIRD, sales=(1030, 2))),
+        ("a voided completion taken out of the completions", "report", summed(33, THIRD, completions=(5000, 1))),
+        ("a pre-authorisation summed as a completion", "report", summed(33, THIRD, completions=(6000, 3))),
+        ("the debit told as the sales", "report", summed(33, THIRD, sales=(6630, 5))),
+        ("sums of an emptied journal", "report", summed(33, THIRD, **{words.replace(" ", "_"): (0, 0) for words in SUMS})),
+        ("sums of the batch before", "report", summed(33, THIRD, sales=(4199, 4))),
+        ("sums of an upload that leave out an entry", "report", summed(11, BATCH, sales=(12000, 1))),
+        ("a sale that was given up in a sum", "report", summed(11, BATCH, sales=(19500, 3))),
+        ("a sale that the card declined in a sum", "report", summed(22, LATER, sales=(4899, 5))),
+        ("a refund without an answer in a sum", "report", summed(11, BATCH, refunds=(700, 1))),
+        ("the amount asked in a sum", "report", summed(22, LATER, sales=(7199, 4))),
+        ("a sum without what the centre holds", "report and ledger", without("released 7")),
+        ("a sum of a part that the ledger has otherwise", "report and ledger", replace("held 14", held(14, 5000))),
+    ]
+
+
+def in_batch(number, *labels):
+    """Lines of a report have this batch number."""
+    return lambda labelled: [(label, Line(event.text.replace(THIRD, number)) if label in labels else event) for label, event in labelled]
+
+
+def summed(place, batch, **sums):
+    """Lines of a settlement's report have these sums."""
+    def change(labelled):
+        for name, amount_and_count in sums.items():
+            words = name.replace("_", " ")
+            labelled = replace(f"{words} {place}", sum_line(batch, words, *amount_and_count))(labelled)
+        return labelled
+    return change
+
+
 def faults_of_parts():
     """Of what is told of an approval in part, and of its totals."""
     return [
@@ -494,11 +587,11 @@ def six(place):
     return f"{10 * place:06d}"
 
 
-def later(event):
-    """The same event in the later batch."""
+def later(event, batch=LATER):
+    """The same event in a later batch."""
     if not isinstance(event, (Received, Answered)):
         return event
-    fields = {number: value[:2] + LATER + value[8:] if number == 60 else value.replace(BATCH, LATER, 1) if number == 61 else value
+    fields = {number: value[:2] + batch + value[8:] if number == 60 else value.replace(BATCH, batch, 1) if number == 61 else value
               for number, value in event[0].items()}
     return event._replace(**{event._fields[0]: fields})
 
@@ -506,12 +599,12 @@ def later(event):
 def card_fields(kind, place, amount, batch=BATCH):
     processing = "030000" if kind == "10" else "000000" if kind in ("20", "22") else "200000"
     return {0: {"25": "0220", "10": "0100"}.get(kind, "0200"), 2: CARD, 3: processing, 4: f"{amount:012d}", 11: six(place), 22: "012",
-            25: "06" if kind == "10" else "00", 41: TERMINAL, 42: MERCHANT, 49: "156", 60: kind + batch + "000" + ("001" if kind == "22" else ""),
-            64: bytes(8)}
+            25: "06" if kind in ("10", "20", "21") else "00", 41: TERMINAL, 42: MERCHANT, 49: "156",
+            60: kind + batch + "000" + ("001" if kind == "22" else ""), 64: bytes(8)}
 
 
 def request(kind, place, amount, batch=BATCH):
-    extra = {37: "000000000001", 61: "0" * 12 + DATE} if kind == "25" else {}
+    extra = {"25": {37: "000000000001", 61: "0" * 12 + DATE}, "20": {38: "A00001", 61: "0" * 12 + DATE}}.get(kind, {})
     return Received({**card_fields(kind, place, amount, batch), **extra})
 
 
@@ -523,9 +616,9 @@ def chip_reversal(kind, place, amount, changed=()):
     return chip_request(kind, place, amount, {0: "0400", 39: "06", **dict(changed)})
 
 
-def void(place, original, amount):
+def void(place, original, amount, kind="23"):
     extra = {37: reference(original), 38: authorisation(original), 61: f"{BATCH}{six(original)}{DATE}"}
-    return Received({**card_fields("23", place, amount), **extra})
+    return Received({**card_fields(kind, place, amount), **extra})
 
 
 def reference(place):
@@ -555,6 +648,11 @@ def part(kind, place, amount, mac_is_good=True, left_out=None):
 
 def held(place, amount):
     return Held(six(place), amount)
+
+
+def approved(kind, place, amount, message, totals_after):
+    """What follows the command of a request that is approved."""
+    return [("", event) for event in (message, held(place, amount), approval(kind, place, amount), result(kind, place, "approved", amount), totals_after)]
 
 
 def reversal(kind, place, amount, reason="98", batch=BATCH):
@@ -638,6 +736,15 @@ def last(line):
 
 def totals(debit, debit_count, credit, credit_count):
     return Line(f"totals debit {yuan(debit)} in {debit_count} credit {yuan(credit)} in {credit_count}")
+
+
+def sum_line(batch, words, amount, count):
+    return Line(f"batch {batch}: {words} {yuan(amount)} in {count}")
+
+
+def report(place, batch, *sums):
+    """The lines before a batch is called settled, by (amount, count), labelled by the place of its settlement."""
+    return [(f"{words} {place}", sum_line(batch, words, *amount_and_count)) for words, amount_and_count in zip(SUMS, sums)]
 
 
 def entry(kind, place, amount, voided=""):

@@ -24,7 +24,7 @@ import history
 import iso
 import planted
 from centre import PREPAID, Centre
-from comparer import ASKED, KINDS, NOT_SIGNED_ON, RESULT, SIGNED_ON, STILL_SIGNED_ON, Comparer
+from comparer import ASKED, KINDS, NOT_SIGNED_ON, RESULT, SIGNED_ON, STILL_SIGNED_ON, SUM, Comparer
 
 POINTS = ("before-call", "before-store", "during-store", "after-store", "after-send", "after-answer", "before-answer-store",
           "after-answer-store", "after-told", "after-power")
@@ -418,6 +418,8 @@ def _lines_left(command, line, left, pending):
         return 0 if word == "sign-on" else None
     if any(pattern.fullmatch(line) for pattern in (SIGNED_ON, NOT_SIGNED_ON, STILL_SIGNED_ON)):
         return None if word != "sign-on" or pending and SIGNED_ON.fullmatch(line) else 0
+    if SUM.fullmatch(line):
+        return None
     if word == "journal":
         return 0 if line.startswith("journal ") or line.startswith("error") else None
     if left:
@@ -445,8 +447,8 @@ def show_difference(store, difference):
 def show_figures(figures, differences, seconds):
     names = ("rounds", "random kills", "kills at points", "messages", "card requests", "approved", "declined", "reversed", "given up",
              "unanswered", "approved in part", "reversals", "settlements", "closings", "upload items", "upload ends", "refusals", "journals compared",
-             "totals compared", "doubtful lists compared", "chip requests", "cards asked", "cards agreed", "cards declined", "cards silent",
-             "kills in the wait for a card", "sign-ons", "sign-ons before a reversal", "signed on", "not signed on", "still signed on",
+             "totals compared", "reports compared", "doubtful lists compared", "chip requests", "cards asked", "cards agreed", "cards declined",
+             "cards silent", "kills in the wait for a card", "sign-ons", "sign-ons before a reversal", "signed on", "not signed on", "still signed on",
              "numbers adopted", "left pending")
     for name in names:
         print(f"{name}: {figures[name]}")

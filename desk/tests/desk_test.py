@@ -112,6 +112,16 @@ def totals(debit, debits, credit=0, credits=0):
     return "totals debit %d.%02d yuan in %d credit %d.%02d yuan in %d" % (*divmod(debit, 100), debits, *divmod(credit, 100), credits)
 
 
+def settled(batch, *sums):
+    """The six lines of a settlement: (amount in fen, count) of sales, completions, refunds, sale voids and completion voids; those left out are 0."""
+    sums = [*sums, *[(0, 0)] * (5 - len(sums))]
+    debit, credit = ([sum(part) for part in zip(*side)] for side in (sums[:2], sums[2:]))
+    words = ("sales", "completions", "refunds", "sale voids", "completion voids")
+    return ["batch %s: %s %d.%02d yuan in %d" % (batch, word, *divmod(amount, 100), count) for word, (amount, count) in zip(words, sums)] + [
+        "settled batch %s: debit %d.%02d yuan in %d, credit %d.%02d yuan in %d" % (batch, *divmod(debit[0], 100), debit[1],
+                                                                                   *divmod(credit[0], 100), credit[1])]
+
+
 def frame(message, front=ANSWER_FRONT):
     return (len(front) + len(message)).to_bytes(2, "big") + front + message
 
@@ -292,9 +302,9 @@ class DeskTest(unittest.TestCase):
         self.desk(centre, "sale 5 " + CARD, kill="after-answer-store:2", status=-signal.SIGKILL)
         lines = self.desk(centre, "totals", "settle", "totals", "authorise 100 " + CARD)
         approved = "last request: sale 000010: approved 0.05 yuan, card %s, reference 000000000010, authorisation A00010" % MASKED
-        self.assertEqual(lines[:6], ["signed on, batch 000001", approved, totals(12005, 2, 12000, 1), "ready, batch 000001",
-                                     totals(12005, 2, 12000, 1), "settled batch 000001: debit 120.05 yuan in 2, credit 120.00 yuan in 1"])
-        self.assertEqual([lines[6], lines[7], lines[9]], [totals(0, 0), "signed on, batch 000002", totals(0, 0)])
+        self.assertEqual(lines[:11], ["signed on, batch 000001", approved, totals(12005, 2, 12000, 1), "ready, batch 000001",
+                                      totals(12005, 2, 12000, 1), *settled("000001", (12005, 2), (0, 0), (0, 0), (12000, 1))])
+        self.assertEqual([lines[11], lines[12], lines[14]], [totals(0, 0), "signed on, batch 000002", totals(0, 0)])
         self.assertEqual(self.desk(centre, "settle")[2:4], [totals(0, 0), "ready, batch 000002"])
         self.assertEqual(self.desk(centre)[2:], ["ready, batch 000003"])
 
@@ -335,7 +345,7 @@ class DeskTest(unittest.TestCase):
         self.assertEqual(lines[5:7], ["sale-void 000004: approved 50.00 yuan, card %s, reference 000000000004, authorisation A00004" % MASKED,
                                       totals(5000, 1, 5000, 1)])
         self.assertTrue(lines[7].startswith("sale 000002: 50.00 yuan") and lines[7].endswith(", voided"), lines)
-        self.assertEqual(lines[-1], "settled batch 000001: debit 50.00 yuan in 1, credit 50.00 yuan in 1")
+        self.assertEqual(lines[-6:], settled("000001", (5000, 1), (0, 0), (0, 0), (5000, 1)))
         self.assertEqual([(asked["type"], asked.get(4), asked[60]) for asked in centre.asked],
                          [("0200", "000000012000", "22000001000001"), ("0200", "000000005000", "23000001000"), ("0500", None, "00000001201")])
 
@@ -448,7 +458,7 @@ class DeskTest(unittest.TestCase):
                           "card-agrees", "settle")
         self.assertEqual(lines[4:9] + [lines[9][:5]], [refused] * 5 + ["error"])
         self.assertIn(": approved 120.00 yuan", lines[10])
-        self.assertEqual(lines[11:], [totals(12000, 1), "settled batch 000001: debit 120.00 yuan in 1, credit 0.00 yuan in 0"])
+        self.assertEqual(lines[11:], [totals(12000, 1), *settled("000001", (12000, 1))])
         self.assertEqual(centre.types(), ["0200", "0500"])
 
     def test_silent_card(self):
@@ -573,8 +583,7 @@ class DeskTest(unittest.TestCase):
         lines = self.desk(centre, "sale 12000 " + CARD, "settle", "sale 100 " + CARD, "state", "settle", "state")
         self.assertEqual(lines[5:], [
             "settlement not answered; settle again", "refused (13): the batch is settling or uploading; settle first",
-            "state batch 000001 next-trace 000004 signed-on entries 1 settling",
-            "settled batch 000001: debit 120.00 yuan in 1, credit 0.00 yuan in 0",
+            "state batch 000001 next-trace 000004 signed-on entries 1 settling", *settled("000001", (12000, 1)),
             "state batch 000002 next-trace 000005 signed-off entries 0 resting"])
 
     def test_upload(self):
@@ -583,15 +592,36 @@ class DeskTest(unittest.TestCase):
         lines = self.desk(centre, "sale 12000 " + CARD, "sale 100 " + CARD, "settle", "state", "settle", "state")
         self.assertEqual(lines[7:], [
             "upload not answered; settle again", "state batch 000001 next-trace 000010 signed-on entries 2 uploading",
-            "settled batch 000001: debit 121.00 yuan in 2, credit 0.00 yuan in 0",
-            "state batch 000002 next-trace 000011 signed-off entries 0 resting"])
+            *settled("000001", (12100, 2)), "state batch 000002 next-trace 000011 signed-off entries 0 resting"])
         self.assertEqual(centre.types(), ["0200", "0200", "0500"] + ["0320"] * 9)
 
     def test_settlement_goes_on_at_the_next_start(self):
         self.desk(self.centre(), "sale 100 " + CARD, "settle", kill="after-send:3", status=-signal.SIGKILL)
         lines = self.desk(self.centre(), "counts")
-        self.assertEqual(lines[:2], ["signed on, batch 000001", "settled batch 000001: debit 1.00 yuan in 1, credit 0.00 yuan in 0"])
-        self.assertEqual(lines[3], "ready, batch 000002")
+        self.assertEqual(lines[:7], ["signed on, batch 000001", *settled("000001", (100, 1))])
+        self.assertEqual(lines[8], "ready, batch 000002")
+
+    def test_settlement_report(self):
+        """All kinds in one batch, a part and an authorisation among them: closed at once, after an upload, and by either at the next start."""
+        requests = [*["sale 100 " + CARD] * 5, *["complete 300 %s A00002 1116" % CARD] * 4, *["refund 70 %s 000000000002 1116" % CARD] * 3,
+                    "sale-void 2", "sale-void 3", "complete-void 7", "authorise 90000 " + CARD]
+        report = ["batch 000001: sales 4.40 yuan in 5", "batch 000001: completions 12.00 yuan in 4", "batch 000001: refunds 2.10 yuan in 3",
+                  "batch 000001: sale voids 1.40 yuan in 2", "batch 000001: completion voids 3.00 yuan in 1",
+                  "settled batch 000001: debit 16.40 yuan in 9, credit 6.50 yuan in 6"]
+        self.assertEqual(settled("000001", (440, 5), (1200, 4), (210, 3), (140, 2), (300, 1)), report)
+        for digit, kill, later in (("1", None, ()), ("2", None, ()), ("1", "after-send:18", ()), ("1", "after-send:18", ("digit 2",)),
+                                   ("2", "after-send:25", ())):
+            with self.subTest((digit, kill, later)):
+                self.store = os.path.join(self.folder, "-".join((digit, str(kill), *later)))
+                centre = self.centre("part 40", *["good"] * 15, "digit " + digit)
+                lines = self.desk(centre, *requests, "settle", "totals", kill=kill, status=-signal.SIGKILL if kill else 0)
+                if kill:
+                    self.assertFalse([line for line in lines if line.startswith(("batch", "settled"))])
+                    lines = self.desk(self.centre(*later), "totals")
+                at = lines.index(report[0])
+                self.assertEqual(lines[at:at + 6], report)
+                self.assertEqual([line for line in lines[at + 6:] if not line.startswith("last request")],
+                                 [*["ready, batch 000002"] * bool(kill), totals(0, 0)])
 
     def test_signs_on_at_start(self):
         """The request's fields, the centre's batch number, and that it is not adopted once a card request has left."""
@@ -611,11 +641,10 @@ class DeskTest(unittest.TestCase):
         self.assertEqual([line for line in lines if not line.startswith("totals")], [
             "signed on, batch 000057", "last request: none", "ready, batch 000057",
             "sale 000002: approved 1.00 yuan, card %s, reference 000000000002, authorisation A00002" % MASKED,
-            "settled batch 000057: debit 1.00 yuan in 1, credit 0.00 yuan in 0",
+            *settled("000057", (100, 1)),
             "state batch 000058 next-trace 000004 signed-off entries 0 resting", "signed on, batch 000090",
             "sale 000005: approved 2.00 yuan, card %s, reference 000000000005, authorisation A00005" % MASKED,
-            "settled batch 000090: debit 2.00 yuan in 1, credit 0.00 yuan in 0", "signed on, batch 000120",
-            "settled batch 000120: debit 0.00 yuan in 0, credit 0.00 yuan in 0"])
+            *settled("000090", (200, 1)), "signed on, batch 000120", *settled("000120")])
         self.assertEqual(centre.order, ["0800", "0200", "0500", "0800", "0200", "0500", "0800", "0500"])
 
     def test_sign_on_declined(self):
@@ -697,10 +726,9 @@ class DeskTest(unittest.TestCase):
         lines = self.desk(centre, "settle", "state", "settle", "state")
         self.assertEqual(lines[:2], ["not signed on: the centre has declined (96); the next request tries again",
                                      "upload not answered; settle again"])
-        self.assertEqual(lines[-6:], [
+        self.assertEqual(lines[-11:], [
             "not signed on: the centre has not answered; the next request tries again", "refused (10): signed off",
-            "state batch 000001 next-trace 000010 signed-off entries 2 uploading", "signed on, batch 000001",
-            "settled batch 000001: debit 3.00 yuan in 2, credit 0.00 yuan in 0",
+            "state batch 000001 next-trace 000010 signed-off entries 2 uploading", "signed on, batch 000001", *settled("000001", (300, 2)),
             "state batch 000002 next-trace 000012 signed-off entries 0 resting"])
         self.assertEqual(centre.order, ["0800", "0200", "0200", "0500", "0800", "0800", "0500", "0320", "0320", "0800", "0800", "0800", "0320",
                                         "0320"])

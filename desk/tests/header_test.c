@@ -47,6 +47,7 @@ static void part_approvals(void);
 static void part_approval_with_a_chip(void);
 static void closing_phases(void);
 static void kinds(void);
+static void settlement_report(void);
 static void entries(void);
 static void refusals_of_memory(void);
 static void refusals_of_messages(void);
@@ -56,6 +57,7 @@ static void refusals_of_chips(void);
 static void refusals_of_sign_ons(void);
 static void refusal_of_totals(void);
 static void refusals_of_sums(void);
+static void refusals_of_reports(void);
 
 int main(void)
 {
@@ -71,6 +73,7 @@ int main(void)
     part_approval_with_a_chip();
     closing_phases();
     kinds();
+    settlement_report();
     entries();
     refusals_of_memory();
     refusals_of_messages();
@@ -80,6 +83,7 @@ int main(void)
     refusals_of_sign_ons();
     refusal_of_totals();
     refusals_of_sums();
+    refusals_of_reports();
     printf("header_test: %s\n", failures == 0 ? "every constant holds" : "failed");
     return failures == 0 ? 0 : 1;
 }
@@ -296,11 +300,26 @@ static void counts_are(const struct terminal *t, const uint64_t counts[6])
     HOLDS(number(t, WHISTLAUREL_UNANSWERED) == counts[5]);
 }
 
-/* Compares the totals, as the rows have them and as whistlaurel_totals gives them: debit amount and count, credit amount and count. */
+static uint8_t take_sums(const struct terminal *t, uint64_t sums[10])
+{
+    return whistlaurel_sums(t->image, sizeof t->image, t->journal, sizeof t->journal, sums);
+}
+
+/*
+ * Compares the totals, as the rows have them, as whistlaurel_totals gives them and as the sums make them up: debit amount and count, credit
+ * amount and count.
+ */
 static void totals_are(const struct terminal *t, const uint64_t totals[4])
 {
     uint64_t given[4] = {UINT64_MAX, UINT64_MAX, UINT64_MAX, UINT64_MAX};
+    uint64_t sums[10];
 
+    memset(sums, 0xFF, sizeof sums);
+    HOLDS(take_sums(t, sums) == WHISTLAUREL_QUIET);
+    for (size_t i = 0; i < 2; i++) {
+        HOLDS(sums[WHISTLAUREL_SALES + i] + sums[WHISTLAUREL_COMPLETIONS + i] == totals[i]);
+        HOLDS(sums[WHISTLAUREL_REFUNDS + i] + sums[WHISTLAUREL_SALE_VOIDS + i] + sums[WHISTLAUREL_COMPLETION_VOIDS + i] == totals[2 + i]);
+    }
     HOLDS(whistlaurel_totals(t->image, sizeof t->image, given) == WHISTLAUREL_QUIET);
     HOLDS(memcmp(given, totals, sizeof given) == 0);
     HOLDS(number(t, WHISTLAUREL_DEBIT_AMOUNT) == totals[0]);
@@ -696,6 +715,53 @@ static void kinds(void)
     kind_leaves(&t, WHISTLAUREL_AUTHORISATION_VOID, 0, 0x0100, 0);
 }
 
+/* Compares the sums of a batch. */
+static void sums_are(const struct terminal *t, const uint64_t sums[10])
+{
+    uint64_t given[10];
+
+    memset(given, 0xFF, sizeof given);
+    HOLDS(take_sums(t, given) == WHISTLAUREL_QUIET);
+    HOLDS(memcmp(given, sums, sizeof given) == 0);
+}
+
+/* Each kind has its own sum. What is voided stays in its own, a part counts as approved, an authorisation and its void are in none. */
+static void settlement_report(void)
+{
+    static const struct {
+        enum whistlaurel_kind kind;
+        uint64_t amount;
+        uint32_t original;
+    } requests[] = {
+        {WHISTLAUREL_SALE, 100, 0},            {WHISTLAUREL_SALE, 200, 0},
+        {WHISTLAUREL_SALE, 400, 0},            {WHISTLAUREL_SALE, 800, 0},
+        {WHISTLAUREL_COMPLETION, 1000, 0},     {WHISTLAUREL_COMPLETION, 2000, 0},
+        {WHISTLAUREL_COMPLETION, 4000, 0},     {WHISTLAUREL_COMPLETION, 8000, 0},
+        {WHISTLAUREL_REFUND, 77, 0},           {WHISTLAUREL_SALE_VOID, 0, 3},
+        {WHISTLAUREL_SALE_VOID, 0, 5},         {WHISTLAUREL_COMPLETION_VOID, 0, 6},
+        {WHISTLAUREL_COMPLETION_VOID, 0, 7},   {WHISTLAUREL_COMPLETION_VOID, 0, 9},
+        {WHISTLAUREL_AUTHORISATION, 90000, 0}, {WHISTLAUREL_AUTHORISATION_VOID, 90000, 0},
+    };
+    static const uint64_t sums[10] = {
+        [WHISTLAUREL_SALES] = 1540,      5, [WHISTLAUREL_COMPLETIONS] = 15000,      4, [WHISTLAUREL_REFUNDS] = 77, 1,
+        [WHISTLAUREL_SALE_VOIDS] = 1000, 2, [WHISTLAUREL_COMPLETION_VOIDS] = 11000, 3,
+    };
+    struct terminal t = terminal_of(20, 1);
+
+    for (size_t i = 0; i < sizeof requests / sizeof requests[0]; i++) {
+        approve(&t, requests[i].kind, requests[i].amount, requests[i].original);
+    }
+    HOLDS(start(&t, WHISTLAUREL_SALE, 100, 0) == WHISTLAUREL_SENDS);
+    HOLDS(reply_part(&t, "\x00\x00\x00\x00\x00\x40", true) == WHISTLAUREL_QUIET);
+    HOLDS(number(&t, WHISTLAUREL_ENTRIES) == 17);
+    sums_are(&t, sums);
+    totals_are(&t, (uint64_t[4]){16540, 9, 12077, 6});
+    HOLDS(whistlaurel_settle(LENT(&t)) == WHISTLAUREL_SENDS);
+    sums_are(&t, sums);
+    HOLDS(reply(&t, "00", 1, true) == WHISTLAUREL_QUIET);
+    sums_are(&t, (uint64_t[10]){0});
+}
+
 static void entries(void)
 {
     struct terminal t = terminal_of(10, 3);
@@ -893,7 +959,29 @@ static void refusals_of_sums(void)
             struct terminal t = ts[image];
 
             memcpy(t.journal, ts[journal].journal, sizeof t.journal);
+            HOLDS(take_sums(&t, (uint64_t[10]){0}) == (image == journal ? WHISTLAUREL_QUIET : WHISTLAUREL_OUT_OF_FORM));
             HOLDS(whistlaurel_settle(LENT(&t)) == (image == journal ? WHISTLAUREL_SENDS : WHISTLAUREL_OUT_OF_FORM));
         }
     }
+}
+
+/* No image comes before a short journal, and that before one that does not fit. No refusal sets a sum; a journal of the limit is enough. */
+static void refusals_of_reports(void)
+{
+    static const uint8_t zeros[10 * WHISTLAUREL_ENTRY_SIZE];
+    struct terminal t = terminal_of(10, 3);
+    uint64_t sums[10] = {1, 2, 3, 4, 5, 6, 7, 8, 9, 10};
+
+    approve(&t, WHISTLAUREL_SALE, 100, 0);
+    HOLDS(whistlaurel_sums(zeros, WHISTLAUREL_IMAGE_SIZE, t.journal, sizeof t.journal, sums) == WHISTLAUREL_OUT_OF_FORM);
+    HOLDS(whistlaurel_sums(t.image, WHISTLAUREL_IMAGE_SIZE - 1, t.journal, sizeof t.journal, sums) == WHISTLAUREL_OUT_OF_FORM);
+    HOLDS(whistlaurel_sums(t.image, WHISTLAUREL_IMAGE_SIZE - 1, t.journal, 0, sums) == WHISTLAUREL_OUT_OF_FORM);
+    HOLDS(whistlaurel_sums(t.image, sizeof t.image, t.journal, sizeof zeros - 1, sums) == WHISTLAUREL_BUFFER_TOO_SHORT);
+    HOLDS(whistlaurel_sums(t.image, sizeof t.image, zeros, sizeof zeros - 1, sums) == WHISTLAUREL_BUFFER_TOO_SHORT);
+    HOLDS(whistlaurel_sums(t.image, sizeof t.image, zeros, sizeof zeros, sums) == WHISTLAUREL_OUT_OF_FORM);
+    for (size_t i = 0; i < 10; i++) {
+        HOLDS(sums[i] == i + 1);
+    }
+    HOLDS(whistlaurel_sums(t.image, sizeof t.image, t.journal, sizeof zeros, sums) == WHISTLAUREL_QUIET);
+    HOLDS(sums[WHISTLAUREL_SALES] == 100 && sums[WHISTLAUREL_SALES + 1] == 1 && sums[WHISTLAUREL_COMPLETION_VOIDS + 1] == 0);
 }

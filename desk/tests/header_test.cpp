@@ -12,6 +12,7 @@ int main()
     std::array<uint8_t, WHISTLAUREL_IMAGE_SIZE> image{};
     std::array<uint8_t, WHISTLAUREL_MESSAGE_SIZE> message{};
     std::vector<uint8_t> journal(WHISTLAUREL_ENTRY_SIZE * WHISTLAUREL_MOST_ENTRIES);
+    std::array<uint64_t, 10> sums{};
     size_t length = 0;
     uint64_t phase = WHISTLAUREL_PENDING;
     uint64_t trace = 0;
@@ -29,6 +30,9 @@ int main()
     good = good && phase == WHISTLAUREL_RESTING;
     good = good && whistlaurel_number(image.data(), image.size(), WHISTLAUREL_SIGN_ON_AWAITED, &trace) == WHISTLAUREL_QUIET;
     good = good && trace == 1;
+    sums[WHISTLAUREL_COMPLETION_VOIDS] = 1;
+    good = good && whistlaurel_sums(image.data(), image.size(), journal.data(), journal.size(), sums.data()) == WHISTLAUREL_QUIET;
+    good = good && sums == std::array<uint64_t, 10>{};
     std::printf("header_test_cpp: %s\n", good ? "compiles and links" : "failed");
     return good ? 0 : 1;
 }
