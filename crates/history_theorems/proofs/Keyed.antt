@@ -15,7 +15,7 @@ use Rattle.kinds.specs.Kinds.{isDebit, isCredit, takesOriginal, originalKind, s
 use Rattle.kinds.specs.declared.Side.the-variants.{Debit, Credit, Neither}
 use Rattle.kinds.specs.declared.Totals.{Totals}
 use Rattle.entry.specs.declared.Entry.{Entry}
-use Rattle.journal.specs.Journal.{entryAt, sumOf, firstOf, totalsOf, isOriginal, originalFor, nowhere}
+use Rattle.journal.specs.Journal.{entryAt, firstOf, totalsOf, isOriginal, originalFor, nowhere}
 use Rattle.journal.specs.Sums.{debitEntry, creditEntry}
 use Rattle.journal.proofs.Sums.{sides-add-up}
 use Rattle.journal.specs.declared.Found.{Found}
@@ -31,6 +31,7 @@ use Rattle.call_definitions.specs.Start.{originalOf, entryOf}
 use Rattle.history_theorems.specs.Standing.{Standing}
 use Rattle.history_theorems.specs.Approvals.{Approval, voidedBy, IsEntry, AreEntries}
 use Rattle.history_theorems.specs.Requests.{isVoid, isNamed, isThere, isVoided, amountNamed, amounts, cardInForm, dateInForm, textInForm, keyedInForm, amountOf, passes, startNumber}
+use Rattle.history_theorems.proofs.Summing.{amounts-for}
 use Rattle.history_theorems.proofs.ByKind.{void-is, authorisation-keyed, date-keyed, kind-listed}
 use Rattle.history_theorems.proofs.Requests.{named-alike}
 
@@ -130,20 +131,13 @@ module _ (d : Desk) where
       go w false n = found-after k e es v vs n (firstOf sought (suc k) es) refl w
 
 -- 21: the totals
-sums-alike : (kinds : List ℕ) (p : Entry → Bool) → ((e : Entry) → p e ≡ among (e .kind) kinds) → (es : List Entry) (vs : List Approval) → AreEntries es vs
-    → sumOf p (λ e. e .amount) es ≡ amounts kinds vs
-sums-alike kinds p q [] [] h = refl
-sums-alike kinds p q [] (v ∷ vs) h = absurd h
-sums-alike kinds p q (e ∷ es) [] h = absurd h
-sums-alike kinds p q (e ∷ es) (v ∷ vs) h = rw (q e, h .0 .kind-is, h .0 .amount-is, sums-alike kinds p q es vs (h .1))
-
 debits-alike : (es : List Entry) (vs : List Approval) → AreEntries es vs → totalsOf es .debit ≡ amounts (20 ∷ 22 ∷ []) vs
 unfolding debitEntry isDebit
-debits-alike es vs h = ap (λ (t : Totals). t .debit) (sides-add-up es) ∙ sums-alike (20 ∷ 22 ∷ []) debitEntry (λ e. refl) es vs h
+debits-alike es vs h = ap (λ (t : Totals). t .debit) (sides-add-up es) ∙ amounts-for (λ k. among k (20 ∷ 22 ∷ [])) debitEntry (λ e. refl) es vs h
 
 credits-alike : (es : List Entry) (vs : List Approval) → AreEntries es vs → totalsOf es .credit ≡ amounts (21 ∷ 23 ∷ 25 ∷ []) vs
 unfolding creditEntry isCredit
-credits-alike es vs h = ap (λ (t : Totals). t .credit) (sides-add-up es) ∙ sums-alike (21 ∷ 23 ∷ 25 ∷ []) creditEntry (λ e. refl) es vs h
+credits-alike es vs h = ap (λ (t : Totals). t .credit) (sides-add-up es) ∙ amounts-for (λ k. among k (21 ∷ 23 ∷ 25 ∷ [])) creditEntry (λ e. refl) es vs h
 
 -- no kind is both
 debit-only : (k : ℕ) → among k (20 ∷ 22 ∷ []) ≡ true → among k (21 ∷ 23 ∷ 25 ∷ []) ≡ false

@@ -18,7 +18,7 @@ pub mod Items
 pub mod Settled
 pub mod ByKind
 pub mod Requests
-pub mod Keyed
 pub mod Summing
+pub mod Keyed
 pub mod Started
 pub mod Theorems

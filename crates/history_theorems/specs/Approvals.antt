@@ -3,7 +3,7 @@
 use mathlib.Core.Path.{_≡_}
 use mathlib.Core.List.{List, [], _∷_, _++_}
 use mathlib.Core.Bool.{Bool, true, false, cond, not, _&&_, _||_}
-use Prim.Native.Nat.{ℕ, zero, suc, _≤_}
+use Prim.Native.Nat.{ℕ, zero, suc, _+_, _≤_}
 use lib.Dec.{eqb}
 use lib.ListN.{length, take}
 use Rattle.digits.specs.Packed.{numeral}
@@ -55,6 +55,15 @@ whenGiven (refused n) e x xs = xs
 abbrev pub approvals : History → List Approval
 approvals [] = []
 approvals (c ∷ h) = whenGiven (c .given) (c .event) (standing h) (approvals h)
+
+-- the sum of f over the approvals whose kind passes a test
+abbrev pub sumFor : (ℕ → Bool) → (Approval → ℕ) → List Approval → ℕ
+sumFor t f [] = 0
+sumFor t f (x ∷ xs) = cond (t (kindIn (x .request))) (f x) 0 + sumFor t f xs
+
+-- for the answered amount (document 02, request 4)
+abbrev pub answered : Approval → ℕ
+answered x = amountIn (x .answer)
 
 -- the trace of the request that a void names
 unfoldable pub originalIn : Message → ℕ

@@ -20,7 +20,7 @@ use Rattle.history.specs.Words.{messageIn, kindIn, amountIn, listedKinds, debit
 use Rattle.history.specs.History.{Given, sent, refused, batchOf}
 use Rattle.history.specs.Demand.{Invocation, runs, begun, InvocationsShaped, Each}
 use Rattle.history_theorems.specs.Standing.{Standing, traceIn, standing, signOn}
-use Rattle.history_theorems.specs.Approvals.{Approval, approvals, voidedBy, AtPlace}
+use Rattle.history_theorems.specs.Approvals.{Approval, approvals, sumFor, answered, voidedBy, AtPlace}
 use Rattle.history_theorems.specs.Judged.{reversalPending, numberOf}
 use Rattle.history_theorems.specs.Fields.{copied, approvedAmount, sendsChip, chipItems, requestItems, keyedItems, originalItems}
 
@@ -47,8 +47,7 @@ amountNamed d (v ∷ vs) = cond (isNamed d v) (amountIn (v .answer)) (amountName
 
 -- the amounts of the approvals of these kinds
 abbrev pub amounts : List ℕ → List Approval → ℕ
-amounts kinds [] = 0
-amounts kinds (v ∷ vs) = cond (among (kindIn (v .request)) kinds) (amountIn (v .answer)) 0 + amounts kinds vs
+amounts kinds vs = sumFor (λ kind. among kind kinds) answered vs
 
 -- 13 to 19 digits
 unfoldable pub cardInForm : Card → Bool

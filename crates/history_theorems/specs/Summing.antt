@@ -1,27 +1,20 @@
 -- Document 02, request 5, from the history: each of the journal's five sums is that of the approved card requests of its kind.
 use mathlib.Core.Path.{_≡_}
-use mathlib.Core.List.{List, [], _∷_}
-use mathlib.Core.Bool.{cond}
-use Prim.Native.Nat.{ℕ, _+_}
+use mathlib.Core.List.{List}
+use Prim.Native.Nat.{ℕ}
 use lib.Dec.{eqb}
 use Rattle.kinds.specs.declared.sums.Sum.{Sum}
 use Rattle.kinds.specs.declared.sums.Sums.{Sums}
 use Rattle.journal.specs.Journal.{entriesOf, batchSums}
 use Rattle.state.specs.declared.Settings.{Settings}
 use Rattle.call_definitions.specs.Shapes.{SettingsShaped}
-use Rattle.history.specs.Words.{kindIn, amountIn}
 use Rattle.history.specs.Demand.{Invocation, runs, begun, InvocationsShaped}
-use Rattle.history_theorems.specs.Approvals.{Approval, approvals}
+use Rattle.history_theorems.specs.Approvals.{Approval, approvals, sumFor, answered}
 
--- the sum of f over the approvals of a kind
-abbrev pub sumFor : ℕ → (Approval → ℕ) → List Approval → ℕ
-sumFor kind f [] = 0
-sumFor kind f (v ∷ vs) = cond (eqb (kindIn (v .request)) kind) (f v) 0 + sumFor kind f vs
-
--- the answered amounts, and how many they are
+-- the answered amounts of the approvals of a kind, and how many they are
 pub record SumOf (kind : ℕ) (vs : List Approval) (x : Sum) : Type 0 where
-  pub amount-is : x .amount ≡ sumFor kind (λ v. amountIn (v .answer)) vs
-  pub count-is : x .count ≡ sumFor kind (λ v. 1) vs
+  pub amount-is : x .amount ≡ sumFor (λ k. eqb k kind) answered vs
+  pub count-is : x .count ≡ sumFor (λ k. eqb k kind) (λ v. 1) vs
 
 -- 22 sale, 20 completion, 25 refund, 23 sale void, 21 completion void
 pub record FiveSums (vs : List Approval) (x : Sums) : Type 0 where

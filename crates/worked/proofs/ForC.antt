@@ -19,6 +19,7 @@ for-c =
       not-held = refl;
       totals = refl;
       sums = refl;
+      sums-no-image = refl;
       sums-short = refl;
       sums-other = refl;
       debit-amount = refl;

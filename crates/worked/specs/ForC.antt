@@ -45,7 +45,8 @@ pub record ForC : Type 0 where
   pub totals : totalsOn (image (sold .state)) [] ≡ returned 0 (12000 ∷ 1 ∷ 0 ∷ 0 ∷ [])
   -- sales, completions, refunds, sale voids, completion voids: the amount and the count of each
   pub sums : sumsOn (image (batch .state)) (batch .lent .journal) [] ≡ returned 0 (13 ∷ 2 ∷ 30 ∷ 1 ∷ 700 ∷ 1 ∷ 5 ∷ 1 ∷ 0 ∷ 0 ∷ [])
-  -- a journal of one byte less is too short, and an empty one is not this terminal's
+  -- bytes that are no image; a journal of one byte less is too short, and an empty one is not this terminal's
+  pub sums-no-image : sumsOn (drop 1 (image (batch .state))) (batch .lent .journal) (7 ∷ []) ≡ returned 2 (7 ∷ [])
   pub sums-short : sumsOn (image (batch .state)) (drop 1 (batch .lent .journal)) (7 ∷ []) ≡ returned 1 (7 ∷ [])
   pub sums-other : sumsOn (image (batch .state)) (replicate 240 0) (7 ∷ []) ≡ returned 2 (7 ∷ [])
   -- after case f, by their rows
