@@ -1,4 +1,6 @@
 // The entry of an approval, and the card of an entry (document 01, "State and journal" and "Calls").
+#![tactic(auto)]
+
 ghost use Rattle.std.specs.Prelude.{◌≡◌};
 ghost use Rattle.approval.specs.Cards.{card_of};
 ghost use Rattle.approval.specs.Approval.{zero_filled, approval_of, approved_entry};

@@ -1,4 +1,6 @@
 // The messages of a batch: sign-on, settlement, upload item and the upload's end (document 01, "Messages"; document 02, request 3).
+#![tactic(auto)]
+
 ghost use Rattle.std.specs.Prelude.{◌≡◌, []};
 ghost use Rattle.message.specs.Message.{whole};
 ghost use Rattle.message.specs.Build.{digits, message_of};

@@ -1,4 +1,6 @@
 // Answer, no answer, power returned (document 01, "Calls").
+#![tactic(auto)]
+
 ghost use Rattle.std.specs.Prelude.{◌≡◌};
 ghost use Rattle.journal.specs.Journal.{entries_of};
 ghost use Rattle.state.specs.Calls.{lend, result_of};

@@ -1,4 +1,6 @@
 // Send reversal (document 01, "Calls").
+#![tactic(auto)]
+
 ghost use Rattle.std.specs.Prelude.{◌≡◌, ◌≤◌, length};
 ghost use Rattle.message.specs.Message.{largest};
 ghost use Rattle.state.specs.Calls.{lend, result_of};

@@ -1,4 +1,6 @@
 // Settle (document 01, "Calls").
+#![tactic(auto)]
+
 ghost use Rattle.std.specs.Prelude.{◌≡◌};
 ghost use Rattle.checks.specs.Checks.{first_broken};
 ghost use Rattle.state.specs.Calls.{lend, result_of};

@@ -1,4 +1,6 @@
 // Sign on (document 02, request 3).
+#![tactic(auto)]
+
 ghost use Rattle.std.specs.Prelude.{◌≡◌};
 ghost use Rattle.checks.specs.Checks.{first_broken};
 ghost use Rattle.state.specs.Calls.{lend, result_of};

@@ -1,4 +1,6 @@
 // Start: the request leaves (document 01, "Calls").
+#![tactic(auto)]
+
 ghost use Rattle.std.specs.Prelude.{◌≡◌};
 ghost use Rattle.journal.specs.Journal.{entries_of};
 ghost use Rattle.checks.specs.Checks.{first_broken};

@@ -1,4 +1,6 @@
 // Send next upload (document 01, "Calls").
+#![tactic(auto)]
+
 ghost use Rattle.std.specs.Prelude.{◌≡◌, true, ◌≤◌, ◌<◌, length};
 ghost use Rattle.message.specs.Message.{largest};
 ghost use Rattle.journal.specs.Journal.{entries_of, next_due};

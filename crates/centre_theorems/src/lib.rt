@@ -1,1 +1,3 @@
 // What is proved of the simulated centre's answers; no code.
+#![tactic(auto)]
+

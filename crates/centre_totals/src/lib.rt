@@ -1,4 +1,6 @@
 // Field 48 of the simulated centre's answer to a settlement: the totals as they were sent, and the reconciliation digit.
+#![tactic(auto)]
+
 ghost use Rattle.std.specs.Prelude.{◌≡◌};
 ghost use Rattle.parts.specs.Layout.{with_part};
 ghost use Rattle.centre_totals.specs.Totals.{sent_part, field48_with};

@@ -1,9 +1,11 @@
 // What left by its message type, the type of the answer to it, and whether the code of an answer approves.
+#![tactic(auto)]
+
 ghost use Rattle.std.specs.Prelude.{◌≡◌};
 ghost use Rattle.centre_types.specs.Types.{left_as, answer_type, is_approval};
 
 // What left.
-#[derive(Drop)]
+#[derive(Clone, Copy)]
 pub enum Left {
     Nothing,
     Request,

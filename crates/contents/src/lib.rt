@@ -1,4 +1,6 @@
 // A field's contents, tested and copied in one pass (document 01, rules 6 and 8).
+#![tactic(auto)]
+
 ghost use Rattle.std.specs.Prelude.{◌≡◌, true, length};
 ghost use Rattle.digits.specs.Digits.{is_packed};
 ghost use Rattle.field.specs.Contents.{all_printable};
@@ -28,7 +30,7 @@ pub fn take(class: Class, n: u8, b: &[u8], out: &mut [u8]) -> u8
             8
         }
         Class::Any => {
-            bytes::copy(b, out);
+            out.copy_from_slice(b);
             0
         }
     }

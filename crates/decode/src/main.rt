@@ -1,4 +1,6 @@
 // Shows messages: reads a message in hexadecimal from each line of standard input, and writes what it holds.
+#![tactic(auto)]
+
 use hexadecimal::Hex;
 use input::Input;
 use libc::{STDIN_FILENO, STDOUT_FILENO};

@@ -1,4 +1,6 @@
 // What the desk keys, the request that it makes, and the rules of start that need no look at a journal (document 01, "Calls").
+#![tactic(auto)]
+
 ghost use Rattle.std.specs.Prelude.{◌≡◌, ◌≤◌, length};
 ghost use Rattle.checks.specs.Checks.{first_broken};
 ghost use Rattle.state.specs.State.{chip_of};
@@ -12,7 +14,7 @@ use state::{Card, Chip, Request, State};
 
 // What the desk keys for a request; the original is the trace of the entry that a void is for. Whether the card is read by its chip, whose
 // field 55 stands beside it.
-#[derive(Drop)]
+#[derive(Clone, Copy)]
 pub struct Desk {
     pub kind: u8,
     pub amount: u64,
@@ -144,7 +146,7 @@ fn chip_of(b: &[u8]) -> Chip
         return Chip::none();
     }
     let mut bytes = [0u8; 255];
-    bytes::copy(b, &mut bytes);
+    bytes.copy_from_slice(b);
     Chip {
         length: b.len() as u8,
         bytes: bytes,

@@ -1,5 +1,7 @@
 // Fields and messages as text. Each function adds to a text of `at` bytes in out, as far as out has room, and gives the new
 // number of bytes.
+#![tactic(auto)]
+
 ghost use Rattle.std.specs.Prelude.{◌++◌};
 ghost use Rattle.field.specs.Table.{formats};
 ghost use Rattle.texts.specs.Text.{text, Adds};

@@ -1,5 +1,7 @@
 // A line of a script as it is echoed, its card numbers masked. Each function adds to a text of n bytes at the front of out, as far as out has room, and
 // gives the new number of bytes.
+#![tactic(auto)]
+
 ghost use Rattle.std.specs.Prelude.{◌≡◌, ◌≤◌, ◌<◌, length};
 ghost use Rattle.texts.specs.Text.{Adds};
 ghost use Rattle.echo.specs.Echo.{is_number, is_card_number, masked, shown_word, shown_line, ended_word, start_after, echo_line};

@@ -1,4 +1,6 @@
 // A whole small program around the terminal: signing on, a sale on a line that stays silent, and its reversal until the desk is free.
+#![tactic(auto)]
+
 use desk::Desk;
 use libc::STDOUT_FILENO;
 use numbers::Trace;

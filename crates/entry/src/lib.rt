@@ -1,4 +1,6 @@
 // An entry of the journal: its bytes and its values (document 01, "State and journal").
+#![tactic(auto)]
+
 ghost use Rattle.std.specs.Prelude.{◌≡◌, [], ◌∷◌, ◌++◌, ◌+◌, ◌≤◌, length, take, drop};
 ghost use Rattle.digits.specs.Digits.{pack};
 ghost use Rattle.digits.specs.Numbers.{digits_of};
@@ -10,7 +12,7 @@ ghost use Rattle.entry.specs.Form.{card_in_form, in_form, fits};
 use numbers::Trace;
 
 // The values of an entry; card and date are packed digits.
-#[derive(Drop)]
+#[derive(Clone, Copy)]
 pub struct Entry {
     pub kind: u8,
     pub voided: u8,
@@ -62,11 +64,11 @@ pub fn entry_of(b: &[u8; Entry::SIZE]) -> Entry
     let mut authorisation = [0u8; 6];
     let mut reference = [0u8; 12];
     let mut reserved = [0u8; 4];
-    bytes::copy(&s[14..24], &mut card);
-    bytes::copy(&s[24..26], &mut date);
-    bytes::copy(&s[26..32], &mut authorisation);
-    bytes::copy(&s[32..44], &mut reference);
-    bytes::copy(&s[44..48], &mut reserved);
+    card.copy_from_slice(&s[14..24]);
+    date.copy_from_slice(&s[24..26]);
+    authorisation.copy_from_slice(&s[26..32]);
+    reference.copy_from_slice(&s[32..44]);
+    reserved.copy_from_slice(&s[44..48]);
     let trace = trace_in(s);
     Entry {
         kind: s[0],
@@ -189,7 +191,7 @@ fn put(s: &[u8], at: usize, b: [u8; Entry::SIZE]) -> [u8; Entry::SIZE]
 {
     let mut out = b;
     let end = at + s.len();
-    bytes::copy(s, &mut out[at..end]);
+    out[at..end].copy_from_slice(s);
     out
 }
 

@@ -2,7 +2,7 @@
 use mathlib.Core.Path.{◌≡◌, ap}
 use mathlib.Core.List.{List, [], ◌∷◌, ◌++◌}
 use Prim.Native.Nat.{ℕ}
-use Rattle.bytes.specs.Bytes.{index_of, index_after}
+use Rattle.words.specs.Bytes.{index_of, index_after}
 use Rattle.texts.specs.Decimal.{decimal}
 use Rattle.texts.specs.Text.{text, feed, six_digits}
 use Rattle.words.specs.Rows.{first_row, other_rows, row}

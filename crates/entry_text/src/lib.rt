@@ -1,5 +1,7 @@
 // An entry of a journal as a line of text, its card number masked. Each function adds to a text of n bytes in out, as far as out has
 // room, and gives the new number of bytes.
+#![tactic(auto)]
+
 ghost use Rattle.std.specs.Prelude.{◌++◌};
 ghost use Rattle.texts.specs.Decimal.{decimal};
 ghost use Rattle.texts.specs.Text.{text, feed, Adds};

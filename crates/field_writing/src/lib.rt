@@ -1,4 +1,6 @@
 // Writing one field: its length, then its contents (document 01, "Message bytes", rules 6 to 8).
+#![tactic(auto)]
+
 ghost use Rattle.std.specs.Prelude.{◌≡◌, ◌+◌, ◌*◌, ◌/◌, ◌%◌, length, take};
 ghost use Rattle.digits.specs.Digits.{pack};
 ghost use Rattle.digits.specs.Numbers.{digits_of};
@@ -9,7 +11,7 @@ ghost use Rattle.field_writing.specs.Placing.{held_fault, put_fault, Placing};
 use field::{Format, Prefix};
 
 // What some bytes are refused for, 0 for nothing, and how many were written.
-#[derive(Drop)]
+#[derive(Clone, Copy)]
 pub struct Placed {
     pub fault: u8,
     pub size: usize,

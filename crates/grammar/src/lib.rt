@@ -1,4 +1,6 @@
 // The grammar of a script: which commands there are, what the words of each must be, and what is wrong with a line.
+#![tactic(auto)]
+
 mod shapes;
 mod table;
 
@@ -6,7 +8,7 @@ pub use shapes::{is_bad, line_fault};
 pub use table::row_of;
 
 // What a word must be.
-#[derive(Drop)]
+#[derive(Clone, Copy)]
 pub enum Shape {
     Number(u64),
     Card,
@@ -27,14 +29,14 @@ pub enum Shape {
 }
 
 // What is wrong with a line: its first word, the number of its words, or word k, the first being 1.
-#[derive(Drop)]
+#[derive(Clone, Copy)]
 pub enum Fault {
     Unknown,
     Count,
     Word(u8),
 }
 
-#[derive(Drop)]
+#[derive(Clone, Copy)]
 pub enum Verdict {
     Fine,
     Wrong(Fault),

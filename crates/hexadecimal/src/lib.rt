@@ -1,10 +1,12 @@
 // Bytes as hexadecimal text.
+#![tactic(auto)]
+
 ghost use Rattle.std.specs.Prelude.{◌≡◌, true, cond, ◌+◌, ◌*◌, ◌<◌, ◌/◌, eqb, length, get_or};
 ghost use Rattle.hexadecimal.specs.Hexadecimal.{hex_value, hex_digit, is_hex, from_hex, hex_at, to_hex};
 ghost use Rattle.hexadecimal.specs.Outcome.{hex_outcome, hex_stored};
 
 // What hexadecimal text gives: so many bytes, or it is no such text, or it says more bytes than there is room for.
-#[derive(Drop)]
+#[derive(Clone, Copy)]
 pub enum Hex {
     Bytes(usize),
     Not,

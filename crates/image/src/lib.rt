@@ -1,5 +1,7 @@
 // The image of the state: its bytes, of one length, with the version of the format at the front. WIDTHS is the layout: a row for each
 // number of the state. After the rows stands a region of bytes, those of the chip.
+#![tactic(auto)]
+
 ghost use Rattle.std.specs.Prelude.{◌≡◌, ◌++◌, ◌+◌, ◌%◌, ◌^◌, ◌≤◌, length, take, drop};
 ghost use Rattle.digits.specs.Lists.{same_bytes};
 ghost use Rattle.field.specs.Bitmap.{word_of};
@@ -150,7 +152,7 @@ fn put(x: &[u8], at: usize, b: [u8; SIZE]) -> [u8; SIZE]
 {
     let mut out = b;
     let end = at + x.len();
-    bytes::copy(x, &mut out[at..end]);
+    out[at..end].copy_from_slice(x);
     out
 }
 
@@ -488,10 +490,10 @@ fn chip_in(v: &[u64], region: &[u8]) -> Chip
     let mut date = [0u8; 2];
     let mut authorisation = [0u8; 6];
     let mut reference = [0u8; 12];
-    bytes::copy(&region[0..255], &mut field55);
-    bytes::copy(&region[255..257], &mut date);
-    bytes::copy(&region[257..263], &mut authorisation);
-    bytes::copy(&region[263..275], &mut reference);
+    field55.copy_from_slice(&region[0..255]);
+    date.copy_from_slice(&region[255..257]);
+    authorisation.copy_from_slice(&region[257..263]);
+    reference.copy_from_slice(&region[263..275]);
     Chip {
         length: low8(v[0]),
         bytes: field55,

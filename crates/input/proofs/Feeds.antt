@@ -3,7 +3,7 @@ use Rattle.std.proofs.Common.{◌≡◌, ℕ, zero, suc, ◌+◌, ◌-◌, ◌<�
 use mathlib.Core.Bool.{and-eq-true_iff, or_assoc}
 use lib.Dec.{leb-suc-suc}
 use lib.Seq.{drop-length, take-nil, slice_empty}
-use Rattle.bytes.specs.Bytes.{slice, index_of, index_after}
+use Rattle.words.specs.Bytes.{slice, index_of, index_after}
 use Rattle.texts.specs.Text.{Adds}
 use Rattle.texts.proofs.Texts.{nothing, and_then}
 use Rattle.line_ends.specs.Lines.{before_feed, has_feed, used}

@@ -3,7 +3,7 @@ use Rattle.std.proofs.Common.{◌≡◌, ℕ, suc, ◌+◌, ◌-◌, ◌<◌, �
 use native.Mathlib.Decide.{dec_lt}
 use borrow.Author.Tests.{not-true, not-false}
 use lib.Seq.{take-append-le, drop-append-le}
-use Rattle.bytes.specs.Bytes.{index_of, index_after}
+use Rattle.words.specs.Bytes.{index_of, index_after}
 use Rattle.texts.specs.Text.{Text}
 use Rattle.texts.proofs.Texts.{start}
 use Rattle.line_ends.specs.Lines.{before_feed, has_feed, without_return, line_of}

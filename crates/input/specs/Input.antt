@@ -1,6 +1,6 @@
 -- The lines of an input, and the words of a line.
 use Rattle.std.specs.Prelude.{◌≡◌, ℕ, ◌+◌, ◌%◌, ◌^◌, ◌<◌, ◌≤◌, Bool, true, cond, not, List, [], ◌++◌, length, take, drop, nat_le}
-use Rattle.bytes.specs.Bytes.{slice, index_of}
+use Rattle.words.specs.Bytes.{slice, index_of}
 use Rattle.texts.specs.Text.{Adds}
 use Rattle.words.specs.Lines.{trimmed, skipped}
 use Rattle.line_ends.specs.Lines.{before_feed, has_feed, line_of}

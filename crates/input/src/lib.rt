@@ -1,10 +1,12 @@
 // The lines of a file or of standard input, and the words of the line in hand.
+#![tactic(auto)]
+
 ghost use Rattle.std.specs.Prelude.{◌≡◌, true, false, length, nat_lt};
 ghost use Rattle.words.specs.Lines.{trimmed};
 ghost use Rattle.input.specs.Input.{in_hand, words_in, Refills, Takes, NextLine};
 
 // Where the bytes of a chunk that are still to be taken begin and end.
-#[derive(Drop)]
+#[derive(Clone, Copy)]
 pub struct Left {
     from: usize,
     end: usize,
@@ -12,7 +14,7 @@ pub struct Left {
 
 // Where the reading of lines stands: the file that is read, the number of the line in hand and how many of its bytes are kept, whether it ended in
 // a line feed, whether the input has ended, and what is left of the chunk.
-#[derive(Drop)]
+#[derive(Clone, Copy)]
 pub struct Input {
     file: i32,
     pub number: u64,

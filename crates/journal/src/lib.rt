@@ -1,4 +1,6 @@
 // The journal: lent bytes, one entry per approval, oldest first (document 01, "State and journal").
+#![tactic(auto)]
+
 ghost use Rattle.std.specs.Prelude.{◌≡◌, ◌+◌, ◌*◌, ◌≤◌, ◌<◌, length, take, drop};
 ghost use Rattle.entry.specs.Entry.{decode, entry_size};
 ghost use Rattle.entry.specs.Form.{due_entry};
@@ -9,7 +11,7 @@ use kinds::{Sums, Totals};
 use numbers::Trace;
 
 // The place of an entry, the oldest being 0, or that there is none.
-#[derive(Drop)]
+#[derive(Clone, Copy)]
 pub enum Found {
     At(u16),
     Nowhere,
@@ -38,7 +40,7 @@ impl Found {
 }
 
 // What an entry is looked for by.
-#[derive(Drop)]
+#[derive(Clone, Copy)]
 pub enum Query {
     Trace(Trace),
     Original { kind: u8, trace: Trace },
@@ -153,7 +155,7 @@ pub fn put_entry(journal: &mut [u8], i: u16, e: Entry)
     let end = at + Entry::SIZE;
     if end <= journal.len() {
         let b = entry::bytes_of(e);
-        bytes::copy(&b, &mut journal[at..end]);
+        journal[at..end].copy_from_slice(&b);
     }
 }
 
@@ -180,7 +182,7 @@ fn bytes_at(journal: &[u8], at: usize) -> [u8; Entry::SIZE]
 {
     let mut b = [0u8; Entry::SIZE];
     let end = at + Entry::SIZE;
-    bytes::copy(&journal[at..end], &mut b);
+    b.copy_from_slice(&journal[at..end]);
     b
 }
 

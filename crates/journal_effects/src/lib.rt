@@ -1,4 +1,6 @@
 // What silence, an answer and a resend leave of state and journal (document 01, "Calls").
+#![tactic(auto)]
+
 ghost use Rattle.std.specs.Prelude.{◌≡◌, ◌+◌, ◌<◌};
 ghost use Rattle.journal.specs.Journal.{entries_of, entry_at};
 ghost use Rattle.approval.specs.Approval.{approval_of};

@@ -7,7 +7,7 @@ use native.Mathlib.Omega.{arith}
 use borrow.Author.Tests.{lt-ltb, le-ltb, ltb-true}
 use lib.Dec.{ltb}
 use lib.ListN.{length, take, length-take}
-use Rattle.bytes.specs.Bytes.{index_of, slice}
+use Rattle.words.specs.Bytes.{index_of, slice}
 use Rattle.texts.specs.Text.{Adds}
 use Rattle.words.proofs.Words.{found}
 use Rattle.line_ends.specs.Lines.{before_feed, has_feed, used}

@@ -1,6 +1,6 @@
 -- A line of some bytes: those up to a line feed.
 use Rattle.std.specs.Prelude.{List, Bool, true, false, cond, ℕ, ◌+◌, ◌-◌, ltb, eqb, length, get_or, take}
-use Rattle.bytes.specs.Bytes.{index_of}
+use Rattle.words.specs.Bytes.{index_of}
 
 -- the bytes of s before its first line feed, or all where it has none
 unfoldable pub before_feed : List ℕ → List ℕ

@@ -1,10 +1,12 @@
 // Where a line ends: what it takes of some bytes, and the line without its line end.
+#![tactic(auto)]
+
 ghost use Rattle.std.specs.Prelude.{◌≡◌};
 ghost use Rattle.texts.specs.Text.{Adds};
 ghost use Rattle.line_ends.specs.Lines.{before_feed, has_feed, used, without_return, line_of};
 
 // What a line takes of some bytes: how many bytes it has then, how many of those are used, and whether it ended in a line feed.
-#[derive(Drop)]
+#[derive(Clone, Copy)]
 pub struct Taken {
     pub len: usize,
     pub used: usize,
@@ -15,7 +17,7 @@ pub struct Taken {
 pub fn take_in(s: &[u8], len: usize, line: &mut [u8]) -> Taken
     ensures { Adds (before_feed s.now) len line.old result.len line.new × (result.used ≡ used s.now) × (result.whole ≡ has_feed s.now) }
 {
-    let end = bytes::scan::find(s, 0, s.len(), b'\n');
+    let end = words::scan::find(s, 0, s.len(), b'\n');
     let kept = texts::add(&s[..end], len, line);
     if end < s.len() {
         return Taken {

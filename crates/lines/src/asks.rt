@@ -11,7 +11,7 @@ use stage::Rehearsal;
 use state::Settings;
 
 // What a line asks for: a call, or none; it may not be obeyed for an error, and 0 is none.
-#[derive(Drop)]
+#[derive(Clone, Copy)]
 pub enum Asked {
     Call(Call),
     Error(usize),

@@ -1,4 +1,6 @@
 // A line of a script, short of the call that it makes: what it asks for, what it changes and what it shows.
+#![tactic(auto)]
+
 mod asks;
 mod shows;
 

@@ -1,4 +1,6 @@
 // Packed digits as text. A card number is never shown whole.
+#![tactic(auto)]
+
 ghost use Rattle.std.specs.Prelude.{◌≡◌, ◌+◌, ◌≤◌, ◌<◌, length};
 ghost use Rattle.digits.specs.Digits.{half};
 ghost use Rattle.texts.specs.Text.{Adds};

@@ -1,4 +1,6 @@
 // Cases of reading and writing that the documents do not star. What this writes is compared with the file stdout.
+#![tactic(auto)]
+
 use field::Class;
 use libc::STDOUT_FILENO;
 use message::{Contents, Located, Message};
@@ -113,7 +115,7 @@ fn show_damaged(s: &[u8], i: usize, b: u8) {
     if n <= 80 {
         if i < n {
             let mut copy = [0u8; 80];
-            bytes::copy(s, &mut copy);
+            copy.copy_from_slice(s);
             copy[i] = b;
             show_reading(&copy[..n]);
         }
@@ -137,7 +139,7 @@ fn long_copy(s: &[u8]) {
     let n = s.len();
     if n < 80 {
         let mut longer = [0u8; 80];
-        bytes::copy(s, &mut longer);
+        longer.copy_from_slice(s);
         let more = n + 1;
         show_reading(&longer[..more]);
         show_reading(&longer);

@@ -1,4 +1,6 @@
 // The messages that leave (document 01, "Kinds" and "Calls").
+#![tactic(auto)]
+
 ghost use Rattle.std.specs.Prelude.{◌≡◌, true, [], ◌++◌, take, drop, replicate};
 ghost use Rattle.digits.specs.Digits.{all_digits};
 ghost use Rattle.message.specs.Message.{whole};
@@ -15,7 +17,7 @@ use state::{Chip, Reason, Request, Reversal, Settings};
 use writing::Writing;
 
 // What a request says of an earlier one: an entry of the journal, or what the desk keyed.
-#[derive(Drop)]
+#[derive(Clone, Copy)]
 pub struct Original {
     pub batch: Batch,
     pub trace: Trace,

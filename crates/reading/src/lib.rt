@@ -1,4 +1,6 @@
 // Reading a message (document 01, rules 3 to 9).
+#![tactic(auto)]
+
 ghost use Rattle.std.specs.Prelude.{◌≡◌, ◌||◌, ◌≤◌, ◌<◌, length, get_or};
 ghost use Rattle.field.specs.Table.{formats};
 ghost use Rattle.field.specs.Bitmap.{names};
@@ -11,14 +13,14 @@ use message::{Contents, Message};
 use span::Span;
 
 // A message was read, or the bytes are refused by a number of document 01.
-#[derive(Drop)]
+#[derive(Clone, Copy)]
 pub enum ReadOutcome {
     Read,
     Refused(u8),
 }
 
 // The outcome, and the message where one was read.
-#[derive(Drop)]
+#[derive(Clone, Copy)]
 pub struct Reading {
     pub outcome: ReadOutcome,
     pub message: Message,
@@ -111,7 +113,7 @@ fn bitmap_in(s: &[u8]) -> [u8; 8]
     if s.len() < 10 {
         return bitmap;
     }
-    bytes::copy(&s[2..10], &mut bitmap);
+    bitmap.copy_from_slice(&s[2..10]);
     bitmap
 }
 

@@ -12,7 +12,7 @@ use stage::Rehearsal;
 use terminal::{Step, Terminal};
 
 // A rehearsal after a line, and how many bytes the line wrote.
-#[derive(Drop)]
+#[derive(Clone, Copy)]
 pub struct Acted {
     pub rehearsal: Rehearsal,
     pub written: usize,

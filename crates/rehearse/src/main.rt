@@ -1,4 +1,6 @@
 // A desk and its terminal, driven by a script: that of standard input, or each that an argument names, under its name.
+#![tactic(auto)]
+
 mod commands;
 
 ghost use Rattle.std.specs.Prelude.{◌≡◌, false};
@@ -18,7 +20,7 @@ use terminal::Terminal;
 const JOURNAL: usize = 1000 * Terminal::ENTRY;
 
 // Where a rehearsal has stopped.
-#[derive(Drop)]
+#[derive(Clone, Copy)]
 struct Stopped {
     input: Input,
     rehearsal: Rehearsal,

@@ -1,4 +1,6 @@
 // Rules 1 and 2 of document 01, "Why a call is turned down".
+#![tactic(auto)]
+
 ghost use Rattle.std.specs.Prelude.{◌≡◌};
 ghost use Rattle.entry.specs.Form.{due_entry};
 ghost use Rattle.journal.specs.Journal.{entries_of, totals_of};

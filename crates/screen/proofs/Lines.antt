@@ -4,7 +4,7 @@ use mathlib.Core.Bool.{Bool, true, false}
 use mathlib.Core.List.{List, [], ◌∷◌, ◌++◌}
 use Prim.Native.Nat.{ℕ, ◌+◌}
 use native.Mathlib.Numerals.{add-one}
-use Rattle.bytes.specs.Bytes.{index_of, index_after}
+use Rattle.words.specs.Bytes.{index_of, index_after}
 use Rattle.hexadecimal.specs.Hexadecimal.{to_hex}
 use Rattle.texts.specs.Decimal.{decimal}
 use Rattle.texts.specs.Text.{text, space, feed, six_digits, Adds}

@@ -1,5 +1,7 @@
 // The lines that a rehearsal writes. Each function adds to a text of n bytes in out, as far as out has room, and gives the
 // new number of bytes.
+#![tactic(auto)]
+
 mod outcomes;
 mod shows;
 

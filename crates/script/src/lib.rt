@@ -1,4 +1,6 @@
 // A line of a script as a command.
+#![tactic(auto)]
+
 mod names;
 mod values;
 
@@ -11,7 +13,7 @@ use grammar::{Fault, Verdict};
 use state::Settings;
 
 // What is shown.
-#[derive(Drop)]
+#[derive(Clone, Copy)]
 pub enum Show {
     Counts,
     Totals,
@@ -22,7 +24,7 @@ pub enum Show {
 }
 
 // What the first word of a line names; requests, voids and what follows an authorisation come with their kind.
-#[derive(Drop)]
+#[derive(Clone, Copy)]
 pub enum Name {
     Terminal,
     Request(u8),
@@ -44,7 +46,7 @@ pub enum Name {
 // What a line asks for; settings and desk data stand beside it. A call comes with the number of the word that gives its bytes, those of an
 // answer or of a chip's field 55; for a call without bytes it is 9, and no word stands there. An amount of more than twelve digits stands
 // for none.
-#[derive(Drop)]
+#[derive(Clone, Copy)]
 pub enum Command {
     Terminal,
     Call {
@@ -65,7 +67,7 @@ pub enum Command {
     Wrong(Fault),
 }
 
-#[derive(Drop)]
+#[derive(Clone, Copy)]
 pub struct Line {
     pub command: Command,
     pub settings: Settings,

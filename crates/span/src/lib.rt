@@ -1,4 +1,6 @@
 // One field at the front of some bytes (document 01, rules 3, 6, 7 and 8).
+#![tactic(auto)]
+
 ghost use Rattle.std.specs.Prelude.{◌≡◌, ◌+◌, ◌*◌, ◌<◌};
 ghost use Rattle.field.specs.Contents.{skip};
 ghost use Rattle.span.specs.Span.{count_in, passed_at, sized_at, frame_at};
@@ -7,7 +9,7 @@ use field::{Format, Prefix};
 
 // A field's count, the bytes before its contents and the bytes of its contents; or why it is refused. Key material of a length that is
 // not allowed has no contents: all its bytes stand before them.
-#[derive(Drop)]
+#[derive(Clone, Copy)]
 pub enum Span {
     Held { count: u8, skip: usize, size: usize },
     Refused(u8),

@@ -1,4 +1,6 @@
 // Where a rehearsal of the desk, its terminal and a simulated centre stands.
+#![tactic(auto)]
+
 ghost use Rattle.std.specs.Prelude.{◌≡◌, false};
 ghost use Rattle.stage.specs.Stage.{as_sent, length_after, after_call, begun, dated, numbered, echoing};
 
@@ -10,7 +12,7 @@ const AS_SENT: u32 = 1000000;
 // Whether a rehearsal has a terminal, the terminal's state, the simulated centre's date MMDD, the batch number that it brings to a
 // sign-on, where one above 999999 stands for the number that the request carried, the length of the last message that left, which
 // stands in the message buffer, and whether lines are echoed.
-#[derive(Drop)]
+#[derive(Clone, Copy)]
 pub struct Rehearsal {
     pub begun: bool,
     pub state: State,

@@ -1,4 +1,6 @@
 // How a call changes the state (document 01, "Calls"): by value, without a buffer.
+#![tactic(auto)]
+
 ghost use Rattle.std.specs.Prelude.{◌≡◌, ◌+◌, ◌<◌, ◌≤◌};
 ghost use Rattle.numbers.specs.Limits.{most_entries, most_sendings};
 ghost use Rattle.state.specs.State.{CountsSmall, CountsBounded, Bookable};

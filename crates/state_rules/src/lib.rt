@@ -1,4 +1,6 @@
 // Rule 2 of document 01 for settings and state, and the bound of rule 21: by value, without a journal.
+#![tactic(auto)]
+
 ghost use Rattle.std.specs.Prelude.{◌≡◌, ◌≤◌};
 ghost use Rattle.state_rules.specs.StateRules.{settings_in_form, is_card, request_in_form, reversal_in_form, awaited_in_form, phase_in_form, awaited_kind, kind_in, awaited_amount, amount_in, awaits_request, request_awaited, approval_in_form, answered_kept, consent_kept, chip_kept, sign_on_kept, state_in_form, awaited_waiting, waiting, balanced, totals_true, state_kept, exceeds, past, sums_kept};
 

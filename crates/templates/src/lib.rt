@@ -1,4 +1,6 @@
 // Templates: texts in which marks stand for numbers and for another text.
+#![tactic(auto)]
+
 ghost use Rattle.std.specs.Prelude.{◌≡◌, ◌≤◌, get_or};
 ghost use Rattle.texts.specs.Text.{Adds};
 ghost use Rattle.templates.specs.Template.{meant, taken, filled};

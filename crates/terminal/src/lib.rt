@@ -1,4 +1,6 @@
 // The card terminal: its state, and the calls of document 01 as methods.
+#![tactic(auto)]
+
 ghost use Rattle.std.specs.Prelude.{◌≡◌};
 ghost use Rattle.state.specs.State.{fresh};
 ghost use Rattle.state.specs.Calls.{lend};
@@ -11,13 +13,13 @@ use entry::Entry;
 use message::Message;
 use state::{Called, Outcome, Settings, State};
 
-#[derive(Drop)]
+#[derive(Clone, Copy)]
 pub struct Terminal {
     pub state: State,
 }
 
 // The constants of the terminal as one value.
-#[derive(Drop)]
+#[derive(Clone, Copy)]
 pub struct Limits {
     pub message: usize,
     pub entry: usize,
@@ -27,7 +29,7 @@ pub struct Limits {
 }
 
 // What a call gives back: a message to send, a quiet change or a refusal, with the terminal beside it.
-#[derive(Drop)]
+#[derive(Clone, Copy)]
 pub struct Step {
     pub outcome: Outcome,
     pub terminal: Terminal,

@@ -1,5 +1,7 @@
 // Parts of a text, and a text that grows in a buffer. Each function that adds, adds to a text of n bytes at the front of out, as far as out has room, and
 // gives the new number of bytes.
+#![tactic(auto)]
+
 ghost use Rattle.std.specs.Prelude.{◌≡◌, [], ◌∷◌, min, get_or, take};
 ghost use Rattle.texts.specs.Decimal.{decimal};
 ghost use Rattle.hexadecimal.specs.Hexadecimal.{to_hex};
@@ -14,7 +16,7 @@ pub fn add(x: &[u8], n: usize, out: &mut [u8]) -> usize
     }
     let k = least(x.len(), out.len() - n);
     let end = n + k;
-    bytes::copy(&x[..k], &mut out[n..end]);
+    out[n..end].copy_from_slice(&x[..k]);
     end
 }
 

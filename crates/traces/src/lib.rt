@@ -1,4 +1,6 @@
 // Trace numbers in the journal: none twice, and the next one that is free (document 01, "State and journal").
+#![tactic(auto)]
+
 ghost use Rattle.std.specs.Prelude.{◌≡◌, ◌+◌, ◌*◌, ◌≤◌, length, take, drop};
 ghost use Rattle.numbers.specs.Limits.{most_entries};
 ghost use Rattle.entry.specs.Entry.{entry_size, trace_offset};
@@ -14,7 +16,7 @@ use numbers::Trace;
 const MOST: usize = numbers::MOST_ENTRIES as usize;
 
 // Where a pass has led: the number it has come to, and how many it may still leave behind.
-#[derive(Drop)]
+#[derive(Clone, Copy)]
 struct Passed {
     next: Trace,
     left: u16,

@@ -1,4 +1,6 @@
 // Cases of the calls: reads a case in hexadecimal from each line of standard input, and writes what its call gives.
+#![tactic(auto)]
+
 mod cases;
 mod integers;
 

@@ -1,4 +1,6 @@
 // The terminal for C: the functions of the static library, over the bytes of an image. include/whistlaurel.h says how they are used.
+#![tactic(auto)]
+
 ghost use Rattle.std.specs.Prelude.{◌≡◌, [], length as lengthIn};
 ghost use Rattle.message.specs.Message.{largest};
 ghost use Rattle.reading.specs.Reading.{read_message};
@@ -409,7 +411,7 @@ fn put_image(s: State, out: &mut [u8])
     ensures { out.new ≡ image_of s }
 {
     let b = image::image_of(s);
-    bytes::copy(&b, out);
+    out.copy_from_slice(&b);
 }
 
 fn length_of(o: Outcome) -> usize

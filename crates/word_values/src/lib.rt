@@ -1,4 +1,6 @@
 // What a word says: a number in decimal, a text, or whether a MAC is good.
+#![tactic(auto)]
+
 ghost use Rattle.std.specs.Prelude.{◌≡◌, cond, length, get_or};
 ghost use Rattle.digits.specs.Lists.{tabulate};
 ghost use Rattle.word_values.specs.Values.{digit_of, number_in, up_to, number_up_to, says_bytes, character, is_text, text_in, is_good};

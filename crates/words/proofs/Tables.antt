@@ -7,7 +7,7 @@ use native.Mathlib.Omega.{arith}
 use native.Mathlib.Nat.{not-suc-le-zero}
 use native.Mathlib.Numerals.{add-one}
 use lib.ListN.{length, take, drop, drop_of_length-le}
-use Rattle.bytes.specs.Bytes.{index_of, slice}
+use Rattle.words.specs.Bytes.{index_of, slice}
 use Rattle.digits.proofs.Lists.{tail_part}
 use Rattle.words.specs.Words.{word_at}
 use Rattle.digits.specs.Lists.{same_bytes}

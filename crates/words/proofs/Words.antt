@@ -5,7 +5,7 @@ use Prim.Native.Nat.{ℕ, zero, suc, ◌+◌, ◌-◌}
 use native.Mathlib.Omega.{arith}
 use lib.ListN.{length, take, drop}
 use lib.Seq.{take-length}
-use Rattle.bytes.specs.Bytes.{index_of, slice}
+use Rattle.words.specs.Bytes.{index_of, slice}
 use Rattle.digits.proofs.Lists.{tail_part}
 use Rattle.words.specs.Words.{past_word, first_word, rest, after}
 

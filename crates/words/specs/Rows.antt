@@ -1,6 +1,6 @@
 -- Tables of text: each row ends in a line feed, and its first word is its name.
 use Rattle.std.specs.Prelude.{List, cond, ℕ, zero, suc, take, drop}
-use Rattle.bytes.specs.Bytes.{index_of}
+use Rattle.words.specs.Bytes.{index_of}
 use Rattle.words.specs.Words.{word_at}
 use Rattle.digits.specs.Lists.{same_bytes}
 

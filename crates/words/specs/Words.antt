@@ -1,6 +1,6 @@
 -- The words of a line, parted by one or more spaces.
 use Rattle.std.specs.Prelude.{List, ℕ, zero, suc, take, drop}
-use Rattle.bytes.specs.Bytes.{index_of}
+use Rattle.words.specs.Bytes.{index_of}
 use Rattle.words.specs.Lines.{trimmed}
 
 -- s from its first space on

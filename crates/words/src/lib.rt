@@ -1,5 +1,8 @@
 // The words of a line, and tables of text.
+#![tactic(auto)]
+
 mod rows;
+pub mod scan;
 
 ghost use Rattle.std.specs.Prelude.{◌≡◌, length};
 ghost use Rattle.words.specs.Lines.{spaces, last_end, trimmed, skipped};
@@ -45,14 +48,14 @@ pub fn is_skipped(s: &[u8]) -> bool
 fn past_word(s: &[u8]) -> &[u8]
     ensures { result.now ≡ past_word s.now }
 {
-    let end = bytes::scan::find(s, 0, s.len(), b' ');
+    let end = scan::find(s, 0, s.len(), b' ');
     &s[end..]
 }
 
 fn first_word(s: &[u8]) -> &[u8]
     ensures { result.now ≡ first_word s.now }
 {
-    let end = bytes::scan::find(s, 0, s.len(), b' ');
+    let end = scan::find(s, 0, s.len(), b' ');
     &s[..end]
 }
 

@@ -2,6 +2,7 @@
 ghost use Rattle.std.specs.Prelude.{◌≡◌};
 ghost use Rattle.words.specs.Rows.{first_row, other_rows, rows_after, row, row_named};
 
+use crate::scan;
 use crate::word;
 
 // Row k of a table, the first being 0; empty where there are fewer.
@@ -37,14 +38,14 @@ fn rows_after(t: &[u8], k: usize) -> &[u8]
 fn first_row(t: &[u8]) -> &[u8]
     ensures { result.now ≡ first_row t.now }
 {
-    let end = bytes::scan::find(t, 0, t.len(), b'\n');
+    let end = scan::find(t, 0, t.len(), b'\n');
     &t[..end]
 }
 
 fn other_rows(t: &[u8]) -> &[u8]
     ensures { result.now ≡ other_rows t.now }
 {
-    let end = bytes::scan::find(t, 0, t.len(), b'\n');
+    let end = scan::find(t, 0, t.len(), b'\n');
     if end < t.len() {
         return &t[end + 1..];
     }

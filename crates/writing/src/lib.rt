@@ -1,4 +1,6 @@
 // Writing a message (document 01, rules 1 and 4 to 8).
+#![tactic(auto)]
+
 ghost use Rattle.std.specs.Prelude.{◌≡◌, ◌++◌, ℕ, ◌+◌, ◌≤◌, ◌<◌, length, get_or, drop};
 ghost use Rattle.field.specs.Table.{formats};
 ghost use Rattle.message.specs.Message.{largest};
@@ -9,7 +11,7 @@ use field_writing::Placed;
 use message::{Contents, Message};
 
 // A message was written, so many bytes long, or it is refused by a number of document 01.
-#[derive(Drop)]
+#[derive(Clone, Copy)]
 pub enum Writing {
     Written(usize),
     Refused(u8),
@@ -96,6 +98,6 @@ fn put_message(m: Message, fields: &[u8], buf: &mut [u8])
     let bitmap = m.bitmap;
     buf[0] = (m.indicator / 256) as u8;
     buf[1] = (m.indicator % 256) as u8;
-    bytes::copy(&bitmap, &mut buf[2..10]);
-    bytes::copy(fields, &mut buf[10..]);
+    buf[2..10].copy_from_slice(&bitmap);
+    buf[10..].copy_from_slice(fields);
 }
