@@ -1,0 +1,14 @@
+-- `batch_messages::management_message` meets its contract.
+use borrow.Author.Rules.{rules}
+use Rattle.batch_messages.proofs.management_message.Goals as goal
+
+pub returns : goal.returns
+returns c =
+    rw (
+      c.joined.ensures,
+      c.with_field60-h60.ensures,
+      c.with_bytes-h42.ensures,
+      c.with_bytes-h41.ensures,
+      c.with_number-h11.ensures,
+      c.type_inv.ensures,
+    )

@@ -1,0 +1,24 @@
+-- `call_start::named_by` meets its contract: the original's four digits of date fit 16 bits.
+use borrow.Author.Rules.{rules}
+use native.Mathlib.Omega.{arith}
+use Rattle.call_start.proofs.Dates.{named-date}
+use Rattle.digits.proofs.Packed.{number-below}
+use Rattle.call_start.proofs.named_by.Goals as goal
+
+pub overflow_cast-result : goal.overflow_cast-result
+overflow_cast-result c =
+    let e = named-date c.args.e _ (search rules)
+    c.packed_number.ensures in
+    omega (arith, e, number-below 4 c.args.e.date)
+
+pub returns-then-takes_original : goal.returns-then-takes_original
+returns-then-takes_original c =
+    rw (
+      named-date c.args.e _ (search rules) c.packed_number.ensures,
+      ← c.takes_original.ensures,
+      c.if-takes_original.true,
+    )
+
+pub returns : goal.returns
+returns c =
+    rw (← c.takes_original.ensures, c.if-takes_original.false)

@@ -1,0 +1,7 @@
+-- `centre::with_digits_sent` meets its contract.
+use borrow.Author.Rules.{rules}
+use Rattle.centre.proofs.with_digits_sent.Goals as goal
+
+pub returns : goal.returns
+returns c =
+    rw (c.with_number.ensures, c.number_sent.ensures)

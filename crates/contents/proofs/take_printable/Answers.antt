@@ -1,0 +1,47 @@
+-- `contents::take_printable` meets its contract. The loop's invariant: the bytes passed are printable, and copied.
+use mathlib.Core.Path.{◌≡◌, refl, sym}
+use mathlib.Core.Bool.{◌&&◌, and-false, true≢false}
+use Prim.Native.Nat.{◌≤◌, ◌-◌}
+use borrow.Author.Rules.{rules}
+use borrow.Author.Tests.{le-leb, lt-leb}
+use lib.Dec.{leb}
+use lib.ListN.{length, get_or}
+use Rattle.digits.proofs.Lists.{all_fails, Passed, passed_none, passed-more, Filled, filled_none, filled_more}
+use Rattle.field.specs.Contents.{all_printable}
+use Rattle.contents.proofs.Packed.{copied_all}
+use Rattle.contents.proofs.take_printable.Goals as goal
+
+pub loop-i-init : goal.loop-i-init
+loop-i-init c = (search rules, passed_none, filled_none _ _)
+
+pub shape_of-out-then-x-lt32 : goal.shape_of-out-then-x-lt32
+shape_of-out-then-x-lt32 c =
+    c.loop-i.invariant.2.len
+
+pub returns-then-x-lt32 : goal.returns-then-x-lt32
+unfolding all_printable
+returns-then-x-lt32 c =
+    (sym (all_fails _ (length c.args.b.now) c.loop-i.i (search rules) (rw (lt-leb _ _ c.if-x-lt32.true))), λ e. absurd (true≢false (sym e)))
+
+pub shape_of-out-then-x-gt126 : goal.shape_of-out-then-x-gt126
+shape_of-out-then-x-gt126 c =
+    c.loop-i.invariant.2.len
+
+pub returns-then-x-gt126 : goal.returns-then-x-gt126
+unfolding all_printable
+returns-then-x-gt126 c =
+    (sym (all_fails _ (length c.args.b.now) c.loop-i.i (search rules) (rw (lt-leb _ _ c.if-x-gt126.true, and-false))), λ e. absurd (true≢false (sym e)))
+
+pub loop-i-preserved : goal.loop-i-preserved
+loop-i-preserved c =
+    let p = passed-more c.loop-i.invariant.1 (rw (le-leb _ _ c.if-x-lt32.false, le-leb _ _ c.if-x-gt126.false)) in
+    (search rules, p, filled_more c.loop-i.invariant.2 (search rules) refl)
+
+pub shape_of-out : goal.shape_of-out
+shape_of-out c = c.loop-i.invariant.2.len
+
+pub returns : goal.returns
+unfolding all_printable
+returns c =
+    let e : c.loop-i.i ≡ length c.args.b.now = search rules in
+    (sym (rw e at c.loop-i.invariant.1.holds), λ e. copied_all c.loop-i.invariant.2 (search rules) c.requires)

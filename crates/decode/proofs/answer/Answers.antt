@@ -1,0 +1,15 @@
+-- `decode::answer` meets its contract.
+use mathlib.Core.Path.{sym, ◌∙◌}
+use borrow.Author.Rules.{rules}
+use native.Mathlib.Omega.{arith}
+use Rattle.hexadecimal.proofs.Hexadecimal.{outcome_fits}
+use lib.Seq.{length-take-le}
+use Rattle.decode.proofs.answer.Goals as goal
+
+pub slice_bounds-bytes-end : goal.slice_bounds-bytes-end
+slice_bounds-bytes-end c =
+    omega (arith, outcome_fits _ _ (sym c.hex_into-h.ensures.0 ∙ c.in-Bytes.is), c.hex_into-h.auto.1.0)
+
+pub slice_bounds-show-end : goal.slice_bounds-show-end
+slice_bounds-show-end c =
+    sym (length-take-le _ _ (omega (arith, outcome_fits _ _ (sym c.hex_into-h.ensures.0 ∙ c.in-Bytes.is), c.hex_into-h.auto.1.0)))

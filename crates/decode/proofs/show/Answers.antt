@@ -1,0 +1,14 @@
+-- `decode::show` meets its contract.
+use borrow.Author.Rules.{rules}
+use mathlib.Core.Path.{sym}
+use native.Mathlib.Omega.{arith}
+use lib.Seq.{length-take-le}
+use Rattle.texts.proofs.Texts.{start, within}
+use Rattle.decode.proofs.show.Goals as goal
+
+pub slice_bounds-text-end : goal.slice_bounds-text-end
+slice_bounds-text-end c = omega (arith, within (c.add_message-n.ensures _ (start _)))
+
+pub slice_bounds-write_all-end : goal.slice_bounds-write_all-end
+slice_bounds-write_all-end c =
+    sym (length-take-le _ _ (omega (arith, within (c.add_message-n.ensures _ (start _)))))

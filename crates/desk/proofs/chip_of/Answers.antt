@@ -1,0 +1,12 @@
+-- `desk::chip_of` meets its contract.
+use native.Mathlib.Omega.{arith}
+use lib.ListN.{length}
+use lib.Seq.{take_all}
+use borrow.Author.Rules.{rules}
+use Rattle.desk.proofs.chip_of.Goals as goal
+
+pub returns-then-b-gt255 : goal.returns-then-b-gt255
+returns-then-b-gt255 c = λ h. absurd (omega arith)
+
+pub returns : goal.returns
+returns c = λ h. rw (c.copy_from_slice.ensures.after, take_all (length c.args.b.now) c.args.b.now (omega arith))

@@ -1,0 +1,6 @@
+-- `desk::sends_field55` meets its contract.
+use borrow.Author.Rules.{rules}
+use Rattle.desk.proofs.sends_field55.Goals as goal
+
+pub returns : goal.returns
+returns c = rw c.sends_chip.ensures

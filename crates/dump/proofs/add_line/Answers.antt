@@ -1,0 +1,11 @@
+-- `dump::add_line` meets its contract.
+use Rattle.texts.proofs.Texts.{and_then}
+use Rattle.templates.specs.Template.{meant, taken, filled}
+use Rattle.dump.specs.Shown.{field_line}
+use borrow.Author.Rules.{rules}
+use Rattle.dump.proofs.add_line.Goals as goal
+
+pub returns : goal.returns
+unfolding filled meant taken field_line
+returns c =
+    and_then (and_then c.add_filled-end.ensures c.add_contents-end.ensures) c.add.ensures

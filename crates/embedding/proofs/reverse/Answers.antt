@@ -1,0 +1,12 @@
+-- `embedding::reverse` meets its contract.
+use mathlib.Core.Path.{◌≡◌, refl}
+use lib.ListN.{length}
+use borrow.Author.Rules.{rules}
+use Rattle.embedding.proofs.reverse.Goals as goal
+
+pub loop-left-init : goal.loop-left-init
+loop-left-init c = (refl, refl)
+
+pub loop-left-preserved : goal.loop-left-preserved
+loop-left-preserved c =
+    (search rules, search rules)

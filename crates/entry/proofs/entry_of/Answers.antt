@@ -1,0 +1,13 @@
+-- `entry_of` meets its contract.
+use mathlib.Core.Path.{◌≡◌}
+use lib.ListN.{length}
+use borrow.Author.Rules.{rules}
+use Rattle.entry.specs.Entry.{entry_size}
+use Rattle.entry.proofs.Bytes.{decode-copied}
+use Rattle.entry.proofs.entry_of.Goals as goal
+
+pub returns : goal.returns
+returns c =
+    let l : length c.args.b.now ≡ entry_size = search rules in
+    decode-copied c.args.b.now l c.trace_in-trace.ensures c.packed_number.ensures c.copy_from_slice.ensures.after.1 c.copy_from_slice-2.ensures.after.1
+    c.copy_from_slice-3.ensures.after.1 c.copy_from_slice-4.ensures.after.1 c.copy_from_slice-5.ensures.after.1

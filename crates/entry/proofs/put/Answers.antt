@@ -1,0 +1,8 @@
+-- `put` meets its contract.
+use borrow.Author.Rules.{rules}
+use Rattle.entry.proofs.Bytes.{put_is}
+use Rattle.entry.proofs.put.Goals as goal
+
+pub returns : goal.returns
+returns c =
+    put_is c.args.at c.args.s.now c.args.b (search rules) c.copy_from_slice.ensures.after.1

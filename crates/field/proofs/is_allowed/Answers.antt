@@ -1,0 +1,8 @@
+-- `field::is_allowed` meets its contract.
+use borrow.Author.Rules.{rules}
+use Rattle.field.specs.Contents.{allowed}
+use Rattle.field.proofs.is_allowed.Goals as goal
+
+pub returns : goal.returns
+unfolding allowed
+returns c = rw (c.wide.ensures, c.wide-2.ensures, c.is_listed_length.ensures)

@@ -1,0 +1,8 @@
+-- `field::table` meets its contract.
+use mathlib.Core.Path.{refl}
+use Rattle.field.specs.Table.{formats}
+use Rattle.field.proofs.table.Goals as goal
+
+pub returns : goal.returns
+unfolding formats
+returns c = refl

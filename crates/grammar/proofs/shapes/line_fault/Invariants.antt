@@ -1,0 +1,12 @@
+-- `grammar::shapes::line_fault` meets its contract.
+use Rattle.grammar.proofs.Faults.{Left, left-all, fine_one, wrong_one, none_left}
+use Prim.Native.Nat.{◌-◌}
+use borrow.Author.Rules.{rules}
+use native.Mathlib.Omega.{arith}
+use Rattle.grammar.proofs.shapes.line_fault.Given as goal
+
+abbrev pub invariant-loop-i : goal.invariant-loop-i
+invariant-loop-i l = Left l.k l.s l.i
+
+abbrev pub decreases-loop-i : goal.decreases-loop-i
+decreases-loop-i l = 11 - l.i

@@ -1,0 +1,13 @@
+-- `input::refilled` meets its contract.
+use Rattle.std.proofs.Common.{rules}
+use Rattle.input.specs.Input.{Within}
+use Rattle.input.proofs.Feeds.{left_stays, left-read}
+use Rattle.input.proofs.refilled.Goals as goal
+
+pub returns-then-left-chunk : goal.returns-then-left-chunk
+returns-then-left-chunk c = search left_stays
+
+pub returns : goal.returns
+returns c =
+    let w : Within (record { from = 0; end = c.count.result }) c.read-got.new.1.0 = search rules in
+    search left-read

@@ -1,0 +1,6 @@
+-- `input::trimmed` meets its contract.
+use Rattle.std.proofs.Common.{rules}
+use Rattle.input.proofs.trimmed.Goals as goal
+
+pub returns : goal.returns
+returns c = rw (c.trim.ensures, c.in_hand.ensures)

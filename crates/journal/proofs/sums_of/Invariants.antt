@@ -1,0 +1,13 @@
+-- `journal::sums_of` meets its contract.
+use borrow.Author.Rules.{rules}
+use native.Mathlib.Omega.{arith}
+use Prim.Native.Nat.{◌-◌}
+use Rattle.journal.proofs.Here.{kind_here}
+use Rattle.journal.proofs.Steps.{Summing, summing_none, summing_room, summing_more, summing_short, summing_done}
+use Rattle.journal.proofs.sums_of.Given as goal
+
+abbrev pub invariant-loop-i : goal.invariant-loop-i
+invariant-loop-i l = Summing l.n l.journal l.i l.at l.sums
+
+abbrev pub decreases-loop-i : goal.decreases-loop-i
+decreases-loop-i l = l.n - l.i

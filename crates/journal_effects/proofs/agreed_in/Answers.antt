@@ -1,0 +1,14 @@
+-- `journal_effects::agreed_in` meets its contract.
+use Rattle.std.proofs.Common.{sym, rules}
+use Rattle.state.proofs.Phases.{not_waiting}
+use Rattle.effect_definitions.specs.JournalEffects.{agreed_in}
+use Rattle.journal_effects.proofs.Phases.{nothing-changed, awaited_in}
+use Rattle.journal_effects.proofs.agreed_in.Goals as goal
+
+pub returns-in_default : goal.returns-in_default
+returns-in_default c room =
+    sym (nothing-changed c.args.s.phase _ _ (not_waiting c.args.s.phase c.in_default.keys2)).1
+
+pub returns : goal.returns
+returns c room =
+    awaited_in agreed_in _ _ _ _ c.in-Waiting.is (c.agreed.ensures room)

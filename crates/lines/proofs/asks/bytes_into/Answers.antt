@@ -1,0 +1,34 @@
+-- `lines::asks::bytes_into` meets its contract.
+use Rattle.lines.proofs.Laws.{hex_fits, hex_bytes, no_bytes, put_fits, put_front}
+use borrow.Author.Rules.{rules}
+use native.Mathlib.Omega.{arith}
+use Rattle.lines.proofs.asks.bytes_into.Goals as goal
+
+pub returns-in-Call : goal.returns-in-Call
+returns-in-Call c =
+    rw c.in-Call.is (
+      hex_fits c.word.result.now c.args.out.now c.hex_into.ensures.0 c.hex_into.ensures.1 c.hex_length.ensures,
+      λ room. rw c.word.ensures at
+          (hex_bytes c.word.result.now c.args.out.now c.hex_into.ensures.0 c.hex_into.ensures.1
+          c.hex_length.ensures room),
+    )
+
+pub returns-in-Reply : goal.returns-in-Reply
+returns-in-Reply c =
+    rw c.in-Reply.is (
+      put_fits c.reply.result c.args.out.now c.write_outgoing.ensures,
+      λ room. rw c.reply.ensures at (put_front c.reply.result c.args.out.now c.write_outgoing.ensures room),
+    )
+
+pub returns-in-Reconcile : goal.returns-in-Reconcile
+returns-in-Reconcile c =
+    rw c.in-Reconcile.is (
+      put_fits c.reconciliation.result c.args.out.now c.write_outgoing-in-Reconcile.ensures,
+      λ room. rw c.reconciliation.ensures at
+          (put_front c.reconciliation.result c.args.out.now
+          c.write_outgoing-in-Reconcile.ensures room),
+    )
+
+pub returns-in_default : goal.returns-in_default
+returns-in_default c =
+    (omega arith, λ room. no_bytes c.args.command c.args.s.now c.args.sent c.args.date c.args.batch c.in_default.keys4)

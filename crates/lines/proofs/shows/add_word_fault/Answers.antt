@@ -1,0 +1,12 @@
+-- `lines::shows::add_word_fault` meets its contract.
+use mathlib.Core.List.{[]}
+use Rattle.texts.proofs.Texts.{start}
+use Rattle.lines.proofs.Laws.{word_fault}
+use borrow.Author.Rules.{rules}
+use Rattle.lines.proofs.shows.add_word_fault.Goals as goal
+
+pub returns : goal.returns
+returns c =
+    word_fault c.args.number c.args.k (c.add.ensures _
+    (c.add_named-next.ensures _
+    (c.add_named-at.ensures [] (start _))))

@@ -1,0 +1,11 @@
+-- `message_vectors::cut_copies` meets its contract.
+use mathlib.Core.Path.{sym}
+use Prim.Native.Nat.{◌-◌, ◌≤◌}
+use native.Mathlib.Omega.{arith}
+use lib.ListN.{length}
+use lib.Seq.{length-take-le}
+use borrow.Author.Rules.{rules}
+use Rattle.message_vectors.proofs.cut_copies.Goals as goal
+
+pub slice_bounds-show_reading-end : goal.slice_bounds-show_reading-end
+slice_bounds-show_reading-end c = sym (length-take-le _ _ (omega arith))

@@ -1,0 +1,11 @@
+-- `message_vectors::largest_message` meets its contract.
+use Prim.Native.Nat.{◌-◌, ◌≤◌}
+use borrow.Author.Rules.{rules}
+use Rattle.field.specs.Table.{rows}
+use Rattle.message_vectors.proofs.largest_message.Given as goal
+
+abbrev pub invariant-loop-k : goal.invariant-loop-k
+invariant-loop-k l = l.k ≤ rows
+
+abbrev pub decreases-loop-k : goal.decreases-loop-k
+decreases-loop-k l = rows - l.k

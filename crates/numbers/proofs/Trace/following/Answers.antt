@@ -1,0 +1,5 @@
+use borrow.Author.Rules.{rules}
+use Rattle.numbers.proofs.Trace.following.Goals as goal
+
+pub returns : goal.returns
+returns c = rw c.after.ensures

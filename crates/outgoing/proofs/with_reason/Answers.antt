@@ -1,0 +1,7 @@
+-- `outgoing::with_reason` meets its contract.
+use borrow.Author.Rules.{rules}
+use Rattle.outgoing.proofs.with_reason.Goals as goal
+
+pub returns : goal.returns
+returns c =
+    rw (← c.reason_code-code.ensures) c.with_bytes.ensures

@@ -1,0 +1,6 @@
+-- `parts::part_of` meets its contract.
+use borrow.Author.Rules.{rules}
+use Rattle.parts.proofs.part_of.Goals as goal
+
+pub returns : goal.returns
+returns c = rw (← c.place_of-at.ensures) c.number_in.ensures

@@ -1,0 +1,6 @@
+-- `reading::is_judged` meets its contract.
+use borrow.Author.Rules.{rules}
+use Rattle.reading.proofs.is_judged.Goals as goal
+
+pub returns : goal.returns
+returns c = rw (c.named.ensures, c.named-2.ensures)

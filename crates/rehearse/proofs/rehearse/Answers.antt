@@ -1,0 +1,9 @@
+-- `rehearse::rehearse` meets its contract.
+use mathlib.Core.Path.{◌∙◌}
+use borrow.Author.Rules.{rules}
+use Rattle.rehearse.proofs.Scripts.{last_number}
+use Rattle.rehearse.proofs.rehearse.Goals as goal
+
+pub returns : goal.returns
+returns c =
+    (c.rehearse_lines.ensures.file_is ∙ c.new-2.ensures.0 ∙ search rules, last_number c.rehearse_lines.ensures c.new-2.ensures.1)

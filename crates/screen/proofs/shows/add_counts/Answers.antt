@@ -1,0 +1,11 @@
+-- `screen::shows::add_counts` meets its contract.
+use Rattle.state_rules.specs.StateRules.{waiting}
+use Rattle.templates.proofs.Templates.{adds-is}
+use Rattle.screen.proofs.Lines.{counts-filled}
+use borrow.Author.Rules.{rules}
+use Rattle.screen.proofs.shows.add_counts.Goals as goal
+
+pub returns : goal.returns
+returns c =
+    adds-is (counts-filled c.args.c (waiting c.args.phase)) (rw c.waiting_in.ensures.0 at
+    c.add_filled.ensures)

@@ -1,0 +1,17 @@
+-- `script::parse` meets its contract.
+use Rattle.script.specs.Script.{parsed}
+use borrow.Author.Rules.{rules}
+use Rattle.script.proofs.parse.Goals as goal
+
+pub returns : goal.returns
+unfolding parsed
+returns c =
+    rw (
+      c.desk_of.ensures,
+      c.settings_in.ensures,
+      c.judged_command.ensures,
+      c.line_fault-verdict.ensures,
+      c.name_at-name.ensures,
+      c.row_of-k.ensures,
+      c.word.ensures,
+    )

@@ -1,0 +1,6 @@
+-- `State::took` meets its contract.
+use Rattle.std.proofs.Common.{rules}
+use Rattle.state.proofs.State.took.Goals as goal
+
+pub returns : goal.returns
+returns c = rw c.following-next.ensures

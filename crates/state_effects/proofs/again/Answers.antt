@@ -1,0 +1,6 @@
+-- `state_effects::again` meets its contract.
+use Rattle.std.proofs.Common.{rules}
+use Rattle.state_effects.proofs.again.Goals as goal
+
+pub returns : goal.returns
+returns c room = rw (c.one_sending_more.ensures room)

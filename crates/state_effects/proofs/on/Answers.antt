@@ -1,0 +1,6 @@
+-- `state_effects::on` meets its contract.
+use Rattle.std.proofs.Common.{rules}
+use Rattle.state_effects.proofs.on.Goals as goal
+
+pub returns : goal.returns
+returns c = rw (c.signed.ensures, c.in_batch.ensures)

@@ -1,0 +1,6 @@
+-- `state_effects::settles` meets its contract.
+use Rattle.std.proofs.Common.{rules}
+use Rattle.state_effects.proofs.settles.Goals as goal
+
+pub returns : goal.returns
+returns c = rw (c.in_phase.ensures, c.took.ensures)

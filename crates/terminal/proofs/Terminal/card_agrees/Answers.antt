@@ -1,0 +1,7 @@
+-- `terminal::Terminal::card_agrees` meets its contract.
+use borrow.Author.Rules.{rules}
+use Rattle.terminal.proofs.Terminal.card_agrees.Goals as goal
+
+pub returns : goal.returns
+returns c =
+    rw c.step_of.ensures c.card_agrees.ensures

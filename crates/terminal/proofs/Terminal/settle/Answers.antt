@@ -1,0 +1,7 @@
+-- `terminal::Terminal::settle` meets its contract.
+use borrow.Author.Rules.{rules}
+use Rattle.terminal.proofs.Terminal.settle.Goals as goal
+
+pub returns : goal.returns
+returns c =
+    rw c.step_of.ensures c.settle.ensures

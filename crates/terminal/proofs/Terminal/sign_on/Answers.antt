@@ -1,0 +1,7 @@
+-- `terminal::Terminal::sign_on` meets its contract.
+use borrow.Author.Rules.{rules}
+use Rattle.terminal.proofs.Terminal.sign_on.Goals as goal
+
+pub returns : goal.returns
+returns c =
+    rw c.step_of.ensures c.sign_on.ensures

@@ -1,0 +1,9 @@
+-- `texts::add_six` meets its contract.
+use borrow.Author.Rules.{rules}
+use Rattle.texts.specs.Text.{six_digits}
+use Rattle.texts.proofs.add_six.Goals as goal
+
+pub returns : goal.returns
+unfolding six_digits
+returns c =
+    rw c.put_number.ensures at c.add_hex.ensures

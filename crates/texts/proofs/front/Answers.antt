@@ -1,0 +1,12 @@
+-- `texts::front` meets its contract.
+use mathlib.Core.Path.{sym}
+use borrow.Author.Rules.{rules}
+use native.Mathlib.Omega.{arith}
+use lib.Seq.{take_all, length-take-le}
+use Rattle.texts.proofs.front.Goals as goal
+
+pub returns-then-s-n : goal.returns-then-s-n
+returns-then-s-n c = sym (take_all c.args.n c.args.s.now (omega arith))
+
+pub slice_bounds-result-end : goal.slice_bounds-result-end
+slice_bounds-result-end c = sym (length-take-le _ _ c.if-s-n.false)

@@ -1,0 +1,7 @@
+-- `whistlaurel::plain` meets its contract.
+use borrow.Author.Rules.{rules}
+use Rattle.whistlaurel.proofs.plain.Goals as goal
+
+pub returns : goal.returns
+returns c =
+    rw c.nothing_keyed.ensures at c.make.ensures
