@@ -267,11 +267,11 @@ shaped q a h =
     }
 
 -- the entry of a request in form and such an approval is in form
-pub in_form : (q : Request) (a : Approval) → is_kind q.kind ≡ true → 1 ≤ q.trace.0 → q.trace.0 ≤ last_number
+pub in_form_lem : (q : Request) (a : Approval) → is_kind q.kind ≡ true → 1 ≤ q.trace.0 → q.trace.0 ≤ last_number
     → 1 ≤ a.amount → a.amount ≤ largest_amount → 13 ≤ q.card.length → q.card.length ≤ 19 → ApprovalHolds a
     → in_form (approved_entry q a) ≡ true
 unfolding approved_entry in_form within all_zero
-in_form q a kind t₁ t₂ a₁ a₂ c₁ c₂ h =
+in_form_lem q a kind t₁ t₂ a₁ a₂ c₁ c₂ h =
     rw (
       kind,
       le-leb 1 q.trace.0 t₁,

@@ -12,7 +12,7 @@ use Rattle.kinds.specs.Kinds.{takes_original, original_kind}
 use Rattle.entry.specs.Form.{in_form}
 use Rattle.entry.specs.Theorems.{Shaped}
 use Rattle.entry.specs.declared.Entry.{Entry}
-use Rattle.entry.proofs.Form.{InForm, in_form}
+use Rattle.entry.proofs.Form.{InForm, in_form_lem}
 use Rattle.journal.specs.Journal.{entries_of, every, is_original, original_for, nowhere}
 use Rattle.journal.specs.declared.Found.{Found}
 use Rattle.journal.specs.declared.Found.TheVariants.{At, Nowhere}
@@ -118,7 +118,7 @@ module _ (d : Desk) (b : List ℕ) (s : State) (lent : Lent) (terminal : length 
       let e = entry_of (original_of d es) es in
       let k = keyed d u.keyed in
       let x = u.fits.order.state.settings in
-      let f : takes_original d.kind ≡ true → InForm e = λ t. in_form e (entry-in_form d es u.fits.order.journal.form (original_of d es) refl (u.found t)) in
+      let f : takes_original d.kind ≡ true → InForm e = λ t. in_form_lem e (entry-in_form d es u.fits.order.journal.form (original_of d es) refl (u.found t)) in
       let l = card_length d e k f in
       record {
         card = record {

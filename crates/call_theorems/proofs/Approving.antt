@@ -26,11 +26,11 @@ use Rattle.state.specs.State.{in_phase}
 use Rattle.state.specs.Calls.{Lent, with_journal}
 use Rattle.rules.specs.Rules.{original_unvoided, request_kept}
 use Rattle.state_rules.specs.StateRules.{request_in_form, past}
-use Rattle.state_rules.proofs.Holds.{request-holds, MayApprove, no_chip_lem, no_sign_on, none_over_wait}
+use Rattle.state_rules.proofs.Holds.{request-holds, MayApprove, no_chip_lem, no_sign_on_lem, none_over_wait}
 use Rattle.state_rules.proofs.Tests.{past_less}
 use Rattle.rules.proofs.InOrder.{InOrder, Fit}
 use Rattle.approval.specs.Approval.{approved_entry}
-use Rattle.approval.proofs.Approval.{shaped, in_form}
+use Rattle.approval.proofs.Approval.{shaped, in_form_lem}
 use Rattle.effect_definitions.specs.JournalEffects.{original_voided, approved}
 use Rattle.effect_definitions.specs.StateEffects.{one_more}
 use Rattle.call_theorems.proofs.Growing.{Plain, KeepsPlain, original-kept, IsNew, plain-last, sums-last}
@@ -82,7 +82,7 @@ more-order q s es fs h l p d c kind amount t =
             sent_most = h.state.sent_most;
             phase_form = refl;
             chip = no_chip_lem Resting;
-            sign_on = no_sign_on Resting s.sign_on (none_over_wait (Waiting (awaited.Request q)) s.sign_on refl h.state.sign_on);
+            sign_on = no_sign_on_lem Resting s.sign_on (none_over_wait (Waiting (awaited.Request q)) s.sign_on refl h.state.sign_on);
             few = omega arith;
             balance = omega (arith, h.state.balance);
             approvals = omega (arith, h.state.approvals);
@@ -119,7 +119,7 @@ entry_of q a f h =
       new =
           record {
             in_form =
-                in_form q a w.kind_listed w.trace_least w.trace_most (h.1.least w.amount_least)
+                in_form_lem q a w.kind_listed w.trace_least w.trace_most (h.1.least w.amount_least)
                 (omega (arith, h.1.most, w.amount_most)) w.card_least w.card_most h.0;
             unvoided = refl;
             unmarked = refl;

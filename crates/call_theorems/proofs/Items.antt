@@ -23,7 +23,7 @@ use Rattle.state.specs.declared.State.{State}
 use Rattle.state.specs.State.{in_phase}
 use Rattle.state.specs.Calls.{Lent, with_journal}
 use Rattle.rules.specs.Rules.{due}
-use Rattle.state_rules.proofs.Holds.{chip_stays, no_sign_on, none_over_wait}
+use Rattle.state_rules.proofs.Holds.{chip_stays, no_sign_on_lem, none_over_wait}
 use Rattle.rules.proofs.InOrder.{InOrder, Fit}
 use Rattle.effect_definitions.specs.JournalEffects.{silent_mark, marked, on_item}
 use Rattle.answer_match.specs.Match.{approves}
@@ -81,7 +81,7 @@ marked-order s es i x h a b c =
             sent_most = h.state.sent_most;
             phase_form = refl;
             chip = chip_stays (Waiting (awaited.Item i)) Uploading s.chip refl refl h.state.chip;
-            sign_on = no_sign_on Uploading s.sign_on (none_over_wait (Waiting (awaited.Item i)) s.sign_on refl h.state.sign_on);
+            sign_on = no_sign_on_lem Uploading s.sign_on (none_over_wait (Waiting (awaited.Item i)) s.sign_on refl h.state.sign_on);
             few = h.state.few;
             balance = h.state.balance;
             approvals = h.state.approvals;

@@ -17,7 +17,7 @@ use Rattle.kinds.specs.Kinds.{indicator_of}
 use Rattle.entry.specs.Form.{in_form}
 use Rattle.entry.specs.Theorems.{Shaped}
 use Rattle.entry.specs.declared.Entry.{Entry}
-use Rattle.entry.proofs.Form.{in_form}
+use Rattle.entry.proofs.Form.{in_form_lem}
 use Rattle.journal.specs.Journal.{entries_of, entry_at, next_due}
 use Rattle.journal.specs.declared.Found.TheVariants.{At}
 use Rattle.kinds.specs.declared.Totals.{Totals}
@@ -106,7 +106,7 @@ settings-held x l h =
 
 entry-held : (e : Entry) → in_form e ≡ true → Shaped e → EntryHeld e
 entry-held e h l =
-    let f = in_form e h in
+    let f = in_form_lem e h in
     record {
       card_low = f.digits_least;
       card_high = f.digits_most;

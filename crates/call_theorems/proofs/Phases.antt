@@ -32,7 +32,7 @@ use Rattle.state.specs.State.{no_chip, has_chip, as_sent, approved_by, ended_in,
 use Rattle.state.specs.Calls.{Lent}
 use Rattle.rules.specs.Rules.{in_upload, awaited_item, phase_kept, due}
 use Rattle.state_rules.specs.StateRules.{request_in_form, reversal_in_form, phase_in_form, kind_in, request_awaited, sign_on_kept, waiting}
-use Rattle.state_rules.proofs.Holds.{request-holds, MayApprove, approval_back, answered_back, ChipHolds, no_chip_lem, chip-reversed, chip_stays, no_sign_on, none_over_wait}
+use Rattle.state_rules.proofs.Holds.{request-holds, MayApprove, approval_back, answered_back, ChipHolds, no_chip_lem, chip-reversed, chip_stays, no_sign_on_lem, none_over_wait}
 use Rattle.rules.proofs.InOrder.{JournalHolds, Fit}
 use Rattle.effect_definitions.specs.StateEffects.{ended, again, pending_or_unanswered, failed}
 use Rattle.numbers.proofs.Bounds.{within_yes}
@@ -71,7 +71,7 @@ moved p k c s lent f w =
                   sent_most = omega arith;
                   phase_form = w.phase_form;
                   chip = w.chip;
-                  sign_on = no_sign_on p s.sign_on w.alone;
+                  sign_on = no_sign_on_lem p s.sign_on w.alone;
                   few = h.few;
                   balance = w.balance;
                   approvals = w.approved_same ∙ h.approvals;
@@ -303,7 +303,7 @@ module _ (s : State) (lent : Lent) where
                     sent_most = omega arith;
                     phase_form = refl;
                     chip = chip_stays s.phase Resting s.chip k w h.order.state.chip;
-                    sign_on = no_sign_on Resting s.sign_on (none_over_wait s.phase s.sign_on u h.order.state.sign_on);
+                    sign_on = no_sign_on_lem Resting s.sign_on (none_over_wait s.phase s.sign_on u h.order.state.sign_on);
                     few = omega arith;
                     balance = refl;
                     approvals = refl;

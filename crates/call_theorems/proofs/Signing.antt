@@ -22,7 +22,7 @@ use Rattle.state.specs.Calls.{Lent}
 use Rattle.checks.specs.Checks.{first_broken}
 use Rattle.checks.proofs.Choices.{passed}
 use Rattle.state_rules.specs.StateRules.{sign_on_kept}
-use Rattle.state_rules.proofs.Holds.{no_sign_on}
+use Rattle.state_rules.proofs.Holds.{no_sign_on_lem}
 use Rattle.rules.proofs.InOrder.{Fit}
 use Rattle.answer_match.specs.Match.{repeats, approves, batch_in, sign_on_holds, is_sign_on_answer}
 use Rattle.outgoing.specs.Outgoing.{reversal_message}
@@ -55,7 +55,7 @@ sign_on-fits s lent h =
 
 -- a sign-on ends
 pub ended_fit : (s : State) (lent : Lent) → Fit s lent → Fit (sign_on_ended s) lent
-ended_fit s lent h = sign_on_fit s lent no_sign_on (no_sign_on s.phase no_sign_on refl) h
+ended_fit s lent h = sign_on_fit s lent no_sign_on (no_sign_on_lem s.phase no_sign_on refl) h
 
 -- a batch number in its range, adopted or not
 on_fit : (b : Bool) (batch : Batch) (s : State) (lent : Lent) → Fit s lent → within 1 batch.0 last_number ≡ true

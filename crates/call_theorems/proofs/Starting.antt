@@ -13,7 +13,7 @@ use Rattle.writing.specs.Writing.{message_bytes}
 use Rattle.kinds.specs.Kinds.{is_kind, takes_original, original_kind, sends_chip}
 use Rattle.entry.specs.Form.{in_form}
 use Rattle.entry.specs.declared.Entry.{Entry}
-use Rattle.entry.proofs.Form.{in_form}
+use Rattle.entry.proofs.Form.{in_form_lem}
 use Rattle.numbers.proofs.Bounds.{within-bounds, within_yes}
 use Rattle.journal.specs.Journal.{entries_of, entry_at, every, has_trace, is_original, totals_of, absent, taken, nowhere}
 use Rattle.journal.specs.declared.Found.{Found}
@@ -34,7 +34,7 @@ use Rattle.checks.proofs.Choices.{passed}
 use Rattle.rules.specs.Rules.{unvoided_at, original_unvoided, request_kept}
 use Rattle.state_rules.specs.StateRules.{is_card, request_in_form, past}
 use Rattle.rules.proofs.InOrder.{Fit}
-use Rattle.state_rules.proofs.Holds.{RequestHolds, card-holds, request_back, ChipHolds, no_chip_lem, no_sign_on}
+use Rattle.state_rules.proofs.Holds.{RequestHolds, card-holds, request_back, ChipHolds, no_chip_lem, no_sign_on_lem}
 use Rattle.outgoing.specs.Outgoing.{request_message}
 use Rattle.call_definitions.proofs.Refusals.{unbroken}
 use Rattle.call_definitions.proofs.Held.{found_for, entry-in_form}
@@ -69,7 +69,7 @@ requested_fit c q s lent z f r y k l =
                   sent_most = omega arith;
                   phase_form = r;
                   chip = y;
-                  sign_on = no_sign_on (Waiting (awaited.Request q)) s.sign_on z;
+                  sign_on = no_sign_on_lem (Waiting (awaited.Request q)) s.sign_on z;
                   few = h.few;
                   balance = omega (arith, h.balance);
                   approvals = h.approvals;
@@ -133,7 +133,7 @@ module _ (d : Desk) (es : List Entry) (e : Entry) (n : ℕ) (least : 1 ≤ n) (m
   -- a void has its original's card and amount
   void_holds : takes_original d.kind ≡ true → IsOriginal d es e → RequestHolds (request_of d e n)
   void_holds t o =
-      let f = in_form e o.is_form in
+      let f = in_form_lem e o.is_form in
       let x = o.trace in
       rw t
       (record {

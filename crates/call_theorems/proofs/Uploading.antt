@@ -31,7 +31,7 @@ use Rattle.state.specs.Calls.{Lent, with_journal}
 use Rattle.checks.specs.Checks.{first_broken}
 use Rattle.checks.proofs.Choices.{passed}
 use Rattle.rules.specs.Rules.{due}
-use Rattle.state_rules.proofs.Holds.{chip_stays, no_sign_on}
+use Rattle.state_rules.proofs.Holds.{chip_stays, no_sign_on_lem}
 use Rattle.rules.proofs.InOrder.{InOrder, Fit}
 use Rattle.call_definitions.specs.SendNextUpload.{sends_next, upload_from, send_next_upload_rules, send_next_upload}
 use Rattle.batch_messages.specs.BatchMessages.{item_message, end_message}
@@ -146,7 +146,7 @@ module _ (s : State) (lent : Lent) (i : ℕ) (z : s.sign_on.0 ≡ 0) (h : Fit (i
               sent_most = o.state.sent_most;
               phase_form = refl;
               chip = chip_stays Uploading (Waiting (awaited.Item i)) s.chip refl refl o.state.chip;
-              sign_on = no_sign_on (Waiting (awaited.Item i)) s.sign_on z;
+              sign_on = no_sign_on_lem (Waiting (awaited.Item i)) s.sign_on z;
               few = o.state.few;
               balance = o.state.balance;
               approvals = o.state.approvals;

@@ -14,7 +14,7 @@ use Rattle.writing.specs.Writing.{write_message}
 use Rattle.numbers.specs.declared.Trace.{Trace}
 use Rattle.entry.specs.Form.{in_form, keeps_resends}
 use Rattle.entry.specs.declared.Entry.{Entry}
-use Rattle.entry.proofs.Form.{in_form}
+use Rattle.entry.proofs.Form.{in_form_lem}
 use Rattle.journal.specs.Journal.{entries_of, entry_at, next_due, taken}
 use Rattle.journal.specs.declared.Found.{Found}
 use Rattle.journal.specs.declared.Found.TheVariants.{At, Nowhere}
@@ -102,7 +102,7 @@ module _ (s : State) (lent : Lent) (z : first_broken (idle_rules s lent) ≡ 0) 
         held =
             let es = entries_of s.entries lent.journal in
             let x = next-at es i (sym f ∙ a) in
-            let w = in_form (entry_at es i) (every-at (λ i e. in_form e) 0 es fits.order.journal.form i x.below) in
+            let w = in_form_lem (entry_at es i) (every-at (λ i e. in_form e) 0 es fits.order.journal.form i x.below) in
             let h = entry-shaped s.entries i lent.journal in
             record {
               card_low = w.digits_least;

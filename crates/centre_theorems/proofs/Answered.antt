@@ -67,7 +67,7 @@ pub record InForm (m : Message) : Type 0 where
   pub codes_repeated : (codes_sent m).field ≡ field_of m 60
 
 module _ (b : List ℕ) (h : HasLeft b) where
-  pub in_form : InForm (message_in b)
+  pub in_form_lem : InForm (message_in b)
   in_form =
       let m = message_in b in
       let keeps = read_keeps_formats b h.reads in
@@ -124,7 +124,7 @@ module _ (b : List ℕ) (left : HasLeft b) (s : List ℕ) {i : ℕ} {xs : List I
   pub batch_repeated : Holds xs 60 (codes_sent (message_in b)).field → BatchMatches b s
   batch_repeated h =
       let m = message_in b in
-      let f = in_form b left in
+      let f = in_form_lem b left in
       let w = f.codes_bounds in
       let p : Holds xs 60 (field_of m 60) = (h.0, h.1 ∙ f.codes_repeated) in
       let n : number_in (message_in s) 60 2 6 ≡ number_in m 60 2 6 =
@@ -138,7 +138,7 @@ module _ (b : List ℕ) (left : HasLeft b) (s : List ℕ) {i : ℕ} {xs : List I
   unfolding matches_message
   repeated e t q =
       let m = message_in b in
-      let f = in_form b left in
+      let f = in_form_lem b left in
       let field = field_repeated s r m in
       rw (
         eq-eqb (message_in s).indicator (m.indicator + 0x10) (r.indicator ∙ e),

@@ -47,7 +47,7 @@ use Rattle.centre_theorems.specs.Theorems.{HoldsIts, HasLeft, IsCode, SentHasLef
 use Rattle.centre_theorems.proofs.Kept.{copies-all, digits_sent_lem, part-below}
 use Rattle.centre_theorems.proofs.Figures.{figures_length, figures_printable}
 use Rattle.centre_theorems.proofs.Types.{is_request, Leaves, leaves, request_type}
-use Rattle.centre_theorems.proofs.Answered.{in_form, amount_in-form, field_repeated, code_read, batch_repeated, reads_back, answers}
+use Rattle.centre_theorems.proofs.Answered.{in_form_lem, amount_in-form, field_repeated, code_read, batch_repeated, reads_back, answers}
 use Rattle.centre_theorems.proofs.Left.{call-sends}
 
 -- the fields of an answer may be held
@@ -81,7 +81,7 @@ keys-held = bytes-held 62 (replicate 24 0) refl
 own_held : (b : List ℕ) → HasLeft b → all_held (own_fields (message_in b)) ≡ true
 own_held b left =
     let m = message_in b in
-    let f = in_form b left in
+    let f = in_form_lem b left in
     rw (
       copies-all m 41 left.terminal 8 f.terminal,
       copies-all m 42 left.merchant 15 f.merchant,

@@ -43,11 +43,11 @@ part-copied at k s z h l e = e ∙ copied (part at k s) z (length_part at k s h 
 -- the values that are read or copied one by one
 pub decode-copied : (s : List ℕ) {t : Trace} {a : ℕ} {card date authorisation reference reserved : List ℕ} → length s ≡ entry_size
     → t ≡ record { 0 = packed_number 6 (part 4 3 s) } → a ≡ packed_number (2 * length (part 7 6 s)) (part 7 6 s)
-    → card ≡ take (length (part 14 10 s)) (part 14 10 s) ++ drop (length (part 14 10 s)) (replicate 10 0)
-    → date ≡ take (length (part 24 2 s)) (part 24 2 s) ++ drop (length (part 24 2 s)) (replicate 2 0)
-    → authorisation ≡ take (length (part 26 6 s)) (part 26 6 s) ++ drop (length (part 26 6 s)) (replicate 6 0)
-    → reference ≡ take (length (part 32 12 s)) (part 32 12 s) ++ drop (length (part 32 12 s)) (replicate 12 0)
-    → reserved ≡ take (length (part 44 4 s)) (part 44 4 s) ++ drop (length (part 44 4 s)) (replicate 4 0)
+    → card ≡ part 14 10 s
+    → date ≡ part 24 2 s
+    → authorisation ≡ part 26 6 s
+    → reference ≡ part 32 12 s
+    → reserved ≡ part 44 4 s
     → ◌≡◌ {A = Entry}
     (record {
       kind = get_or s 0 0;
@@ -70,21 +70,20 @@ decode-copied s l p q r u v w x =
       p,
       q,
       amount-number s l,
-      part-copied 14 10 s (replicate 10 0) (omega arith) refl r,
-      part-copied 24 2 s (replicate 2 0) (omega arith) refl u,
-      part-copied 26 6 s (replicate 6 0) (omega arith) refl v,
-      part-copied 32 12 s (replicate 12 0) (omega arith) refl w,
-      part-copied 44 4 s (replicate 4 0) (omega arith) refl x,
+      r,
+      u,
+      v,
+      w,
+      x,
     )
 
 -- a part written into a buffer
 pub put_is : (at : ℕ) (s out : List ℕ) {e : List ℕ} → at + length s ≤ length out
-    → e ≡ take (length s) s ++ drop (length s) (take (at + length s - at) (drop at out))
+    → e ≡ s
     → take at out ++ (e ++ drop (at + length s - at) (drop at out)) ≡ take at out ++ (s ++ drop (at + length s) out)
 put_is at s out h q =
     let n : at + length s - at ≡ length s = omega arith in
-    let l : length s ≡ length (take (length s) (drop at out)) = sym (length-take-le (length s) (drop at out) (rw length-drop (omega arith))) in
-    rw (q, n, copied s (take (length s) (drop at out)) l, drop-drop)
+    rw (q, n, drop-drop)
 
 -- the bytes before at are written: what writing part after part keeps
 pub record Begun (done : List ℕ) (at : ℕ) (b : List ℕ) : Type 0 where

@@ -41,9 +41,9 @@ pub record InForm (e : Entry) : Type 0 where
   pub reference_printable : all_printable e.reference ≡ true
   pub reserved_zero : all_zero e.reserved ≡ true
 
-pub in_form : (e : Entry) → in_form e ≡ true → InForm e
+pub in_form_lem : (e : Entry) → in_form e ≡ true → InForm e
 unfolding in_form
-in_form e h =
+in_form_lem e h =
     let t = simp and-eq-true_iff at h in
     let n = within-bounds 1 e.trace.0 last_number t.0.0.0.0.0.0.1 in
     let a = within-bounds 1 e.amount largest_amount t.0.0.0.0.0.1 in

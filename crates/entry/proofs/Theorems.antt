@@ -13,7 +13,7 @@ use Rattle.entry.specs.declared.Entry.{Entry}
 use Rattle.entry.specs.Entry.{part, decode, encode, entry_size}
 use Rattle.entry.specs.Theorems.{Shaped, WrittenReadsBack, ReadWritesBack}
 use Rattle.entry.proofs.Bytes.{length_part, amount_small, trace-small}
-use Rattle.entry.proofs.Form.{in_form}
+use Rattle.entry.proofs.Form.{in_form_lem}
 
 -- parts past the first list, and the first list itself
 part-skip : (p q : List ℕ) (m at k : ℕ) → length p ≡ m → part (m + at) k (p ++ q) ≡ part at k q
@@ -115,7 +115,7 @@ encoded_decodes e h l m =
     (packed_number_lem 6 e.trace.0 (omega arith) l) (packed_number_lem 12 e.amount (omega arith) m)
 
 pub written-reads_back : WrittenReadsBack
-written-reads_back e h f = let r = in_form e f in encoded_decodes e h (omega arith) (omega arith)
+written-reads_back e h f = let r = in_form_lem e f in encoded_decodes e h (omega arith) (omega arith)
 
 pub length-encode : (e : Entry) → Shaped e → length (encode e) ≡ entry_size
 unfolding encode
@@ -150,7 +150,7 @@ parts_join b l =
 pub read-writes_back : ReadWritesBack
 unfolding encode decode
 read-writes_back b l s f =
-    let r = in_form (decode b) f in
+    let r = in_form_lem (decode b) f in
     let t = number_packs 6 (part 4 3 b) (omega arith) (number-form 3 (part 4 3 b) (length_part 4 3 b (omega arith)) (λ z. omega arith)) in
     let a = number_packs 12 (part 7 6 b) (omega arith) (number-form 6 (part 7 6 b) (length_part 7 6 b (omega arith)) (λ z. omega arith)) in
     rw (t, a) (parts_join b l)

@@ -27,7 +27,7 @@ use Rattle.state_rules.specs.StateRules.{request_in_form}
 use Rattle.rules.proofs.InOrder.{Fit}
 use Rattle.state_rules.proofs.Holds.{MayApprove, request-holds}
 use Rattle.approval.specs.Approval.{approved_entry}
-use Rattle.approval.proofs.Approval.{shaped, in_form}
+use Rattle.approval.proofs.Approval.{shaped, in_form_lem}
 use Rattle.effect_definitions.specs.JournalEffects.{voided_at, original_voided, approved}
 
 -- the journal in which an original is voided is as long
@@ -49,7 +49,7 @@ place-left limit n es q h = let t = simp and-eq-true_iff at h in ltb-true n limi
 entry-in_form : (q : Request) (v : Approval) → request_in_form q ≡ true → MayApprove q v → in_form (approved_entry q v) ≡ true
 entry-in_form q v f h =
     let w = request-holds q f in
-    in_form q v w.kind_listed w.trace_least w.trace_most (h.1.least w.amount_least) (omega (arith, h.1.most, w.amount_most)) w.card_least
+    in_form_lem q v w.kind_listed w.trace_least w.trace_most (h.1.least w.amount_least) (omega (arith, h.1.most, w.amount_most)) w.card_least
     w.card_most h.0
 
 -- the entries with that of an approval

@@ -33,7 +33,7 @@ use Rattle.state.specs.declared.State.{State}
 use Rattle.rules.specs.Rules.{rules12, due}
 use Rattle.state_rules.specs.StateRules.{settings_in_form}
 use Rattle.rules.proofs.InOrder.{Fit}
-use Rattle.state_rules.proofs.Holds.{settings_hold, no_chip_lem, no_sign_on}
+use Rattle.state_rules.proofs.Holds.{settings_hold, no_chip_lem, no_sign_on_lem}
 use Rattle.call_definitions.specs.SignOn.{sign_on_rules, sign_on}
 use Rattle.call_definitions.specs.Start.{original_of, entry_of, start_rules, start}
 use Rattle.call_definitions.specs.SendReversal.{send_reversal_rules, send_from, send_reversal}
@@ -179,7 +179,7 @@ fresh-fits x lent f r l =
                   sent_most = omega arith;
                   phase_form = refl;
                   chip = no_chip_lem Resting;
-                  sign_on = no_sign_on Resting no_sign_on refl;
+                  sign_on = no_sign_on_lem Resting no_sign_on refl;
                   few = omega arith;
                   balance = refl;
                   approvals = refl;

@@ -10,7 +10,7 @@ use Rattle.writing.specs.Writing.{message_bytes}
 use Rattle.numbers.specs.declared.Trace.{Trace}
 use Rattle.numbers.specs.declared.Batch.{Batch}
 use Rattle.entry.specs.Form.{in_form}
-use Rattle.entry.proofs.Form.{InForm, in_form}
+use Rattle.entry.proofs.Form.{InForm, in_form_lem}
 use Rattle.journal.specs.Journal.{entries_of, entry_at, next_due, taken}
 use Rattle.journal.specs.declared.Found.{Found}
 use Rattle.journal.specs.declared.Found.TheVariants.{At, Nowhere}
@@ -163,7 +163,7 @@ module _ (l : ℕ) (s : State) (lent : Lent) (a : Account) (h : Tied l (in_phase
       let es = entries_of s.entries lent.journal in
       let x = entry_at es i in
       let k = next-at es i e in
-      let g = in_form x (every-at (λ i e. in_form e) 0 es f.order.journal.form i k.below) in
+      let g = in_form_lem x (every-at (λ i e. in_form e) 0 es f.order.journal.form i k.below) in
       let said = item-says s.settings s.batch lent.message f.message_room f.order.state.batch_most x held (entry-held s.entries i lent.journal g)
       g.kind_listed in
       let b = handed_out (message_bytes (item_message s.settings s.batch x)) lent.message in

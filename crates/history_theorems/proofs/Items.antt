@@ -19,7 +19,7 @@ use Rattle.reading.specs.declared.ReadOutcome.TheVariants.{Read, Refused}
 use Rattle.writing.specs.Writing.{message_bytes}
 use Rattle.entry.specs.Form.{in_form, keeps_resends, keeps_silent}
 use Rattle.entry.specs.declared.Entry.{Entry}
-use Rattle.entry.proofs.Form.{in_form}
+use Rattle.entry.proofs.Form.{in_form_lem}
 use Rattle.journal.specs.Journal.{entries_of, entry_at, set_byte, is_at, next_due, taken, with_resends}
 use Rattle.journal.specs.declared.Found.{Found}
 use Rattle.journal.specs.declared.Found.TheVariants.{At as Found_at, Nowhere}
@@ -212,7 +212,7 @@ module _ (l : ℕ) (y : Standing) (xs : List Approval) (u : Upload) where
     item_uploaded i e =
         let x = entry_at es i in
         let k = (next-at es i e).below in
-        let g = in_form x (every-at (λ i e. in_form e) 0 es f.order.journal.form i k) in
+        let g = in_form_lem x (every-at (λ i e. in_form e) 0 es f.order.journal.form i k) in
         let r = item-reads t.settings t.batch lent.message x f.message_room (settings-held l (in_phase Uploading t) lent a tied f)
         (entry-held t.entries i lent.journal g) in
         let b = handed_out (message_bytes (item_message t.settings t.batch x)) lent.message in

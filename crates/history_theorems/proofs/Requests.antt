@@ -22,7 +22,7 @@ use Rattle.numbers.specs.declared.Batch.{Batch}
 use Rattle.kinds.specs.Kinds as kinds
 use Rattle.kinds.specs.Kinds.{takes_original, keys_authorisation, keys_date, is_kind, indicator_of, original_kind}
 use Rattle.entry.specs.declared.Entry.{Entry}
-use Rattle.entry.proofs.Form.{InForm, in_form}
+use Rattle.entry.proofs.Form.{InForm, in_form_lem}
 use Rattle.state.specs.declared.Request.{Request}
 use Rattle.state.specs.declared.Settings.{Settings}
 use Rattle.outgoing.specs.Outgoing.{field61, chip_fields, plain_fields, original_fields, request_fields, request_message}
@@ -282,7 +282,7 @@ module _ (l : ℕ) (s : State) (lent : Lent) (a : Account) (y : Standing) (vs : 
         (read_message b)
 
     original_form : takes_original d.kind ≡ true → InForm o
-    original_form t = in_form o (entry-in_form d es f.order.journal.form (original_of d es) refl ((unbroken d chip s o lent u).found t))
+    original_form t = in_form_lem o (entry-in_form d es f.order.journal.form (original_of d es) refl ((unbroken d chip s o lent u).found t))
 
     void_says : (v : Approval) (later : List Approval) → takes_original d.kind ≡ true → IsEntry o v later → is_original (original_kind d.kind) d.original.0 o ≡ true
         → Copied o v → Voids v

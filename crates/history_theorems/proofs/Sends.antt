@@ -23,7 +23,7 @@ use Rattle.reading.specs.declared.Reading.{Reading}
 use Rattle.writing.specs.Writing.{message_bytes}
 use Rattle.entry.specs.Form.{in_form}
 use Rattle.entry.specs.declared.Entry.{Entry}
-use Rattle.entry.proofs.Form.{in_form}
+use Rattle.entry.proofs.Form.{in_form_lem}
 use Rattle.journal.specs.Journal.{entries_of, entry_at, next_due, set_byte, taken, with_resends}
 use Rattle.journal.specs.declared.Found.{Found}
 use Rattle.journal.specs.declared.Found.TheVariants.{At as Place, Nowhere}
@@ -261,7 +261,7 @@ module _ (l : ℕ) (t : State) (lent : Lent) (a : Account) (y : Standing) (n : �
   item_goes i tied h f e =
       let es = entries_of t.entries lent.journal in
       let x = entry_at es i in
-      let g = in_form x (every-at (λ i e. in_form e) 0 es f.order.journal.form i (next-at es i e).below) in
+      let g = in_form_lem x (every-at (λ i e. in_form e) 0 es f.order.journal.form i (next-at es i e).below) in
       let b = handed_out (message_bytes (item_message t.settings t.batch x)) lent.message in
       let said = item-says t.settings t.batch lent.message f.message_room f.order.state.batch_most x
       (settings-held l (in_phase Uploading t) lent a tied f) (entry-held t.entries i lent.journal g) g.kind_listed in

@@ -7,16 +7,12 @@ use native.Mathlib.Omega.{arith}
 use borrow.Author.Tests.{lt-ltb, le-ltb, ltb-true}
 use lib.Dec.{ltb}
 use lib.ListN.{length, take, length-take}
-use Rattle.words.specs.Bytes.{index_of, slice}
+use Rattle.words.specs.Bytes.{index_of}
 use Rattle.texts.specs.Text.{Adds}
-use Rattle.words.proofs.Words.{found}
 use Rattle.line_ends.specs.Lines.{before_feed, has_feed, used}
 
 -- what a line takes of s, where the search for a line feed in s gave r
-module _ (r : ℕ) (s : List ℕ) (e : r ≡ 0 + index_of 0x0A (slice 0 (length s) s)) where
-  at-feed : r ≡ index_of 0x0A s
-  at-feed = found 0x0A r s e
-
+module _ (r : ℕ) (s : List ℕ) (at-feed : r ≡ index_of 0x0A s) where
   before_feed_lem : take r s ≡ before_feed s
   unfolding before_feed
   before_feed_lem = rw at-feed

@@ -17,7 +17,7 @@ pub struct Taken {
 pub fn take_in(s: &[u8], len: usize, line: &mut [u8]) -> Taken
     ensures { Adds (before_feed s.now) len line.old result.len line.new × (result.used ≡ used s.now) × (result.whole ≡ has_feed s.now) }
 {
-    let end = words::scan::find(s, 0, s.len(), b'\n');
+    let end = words::scan::find(s, b'\n');
     let kept = texts::add(&s[..end], len, line);
     if end < s.len() {
         return Taken {

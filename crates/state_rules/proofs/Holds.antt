@@ -324,9 +324,9 @@ state-holds s t e =
     }
 
 -- where no sign-on is awaited its clause holds in every phase; over a wait none is awaited
-pub no_sign_on : (p : Phase) (x : Trace) → x.0 ≡ 0 → sign_on_kept p x ≡ true
+pub no_sign_on_lem : (p : Phase) (x : Trace) → x.0 ≡ 0 → sign_on_kept p x ≡ true
 unfolding sign_on_kept
-no_sign_on p x e = rw (eq-eqb x.0 0 e)
+no_sign_on_lem p x e = rw (eq-eqb x.0 0 e)
 
 pub none_over_wait : (p : Phase) (x : Trace) → waits p ≡ true → sign_on_kept p x ≡ true → x.0 ≡ 0
 unfolding sign_on_kept

@@ -60,11 +60,10 @@ module _ (x o : List ℕ) (n k : ℕ) (h : n ≤ length o) (q : k ≡ min (lengt
       rw (z, length-take-le k x (omega arith)) (length-take-le k (drop n o) (rw length-drop (omega arith)))
 
   -- x, copied there
-  pub adds-copied : (e : List ℕ) → e ≡ take (length (take k x)) (take k x) ++ drop (length (take k x)) (take (n + k - n) (drop n o))
+  pub adds-copied : (e : List ℕ) → e ≡ take k x
       → Adds x n o (n + k) (put_mid n (n + k - n) o e)
   adds-copied e s w t =
-      let c = copied (take k x) (take (n + k - n) (drop n o)) e part_length s in
-      grows x t q (rw (c, Post-is n (n + k) o (omega arith)) (sym (append_assoc (take n o) (take k x) (drop (n + k) o))))
+      grows x t q (rw (s, Post-is n (n + k) o (omega arith)) (sym (append_assoc (take n o) (take k x) (drop (n + k) o))))
 
 module _ (s : List ℕ) (b : ℕ) where
   hex_in : (i : ℕ) → i < 2 * length s → hex_at (s ++ (b ∷ [])) i ≡ hex_at s i

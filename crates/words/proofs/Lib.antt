@@ -1,3 +1,4 @@
+pub mod Places
 -- Laws of words, for the proofs of this crate.
 pub mod Lines
 pub mod Tables

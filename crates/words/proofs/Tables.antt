@@ -7,27 +7,26 @@ use native.Mathlib.Omega.{arith}
 use native.Mathlib.Nat.{not-suc-le-zero}
 use native.Mathlib.Numerals.{add-one}
 use lib.ListN.{length, take, drop, drop_of_length-le}
-use Rattle.words.specs.Bytes.{index_of, slice}
+use Rattle.words.specs.Bytes.{index_of}
 use Rattle.digits.proofs.Lists.{tail_part}
 use Rattle.words.specs.Words.{word_at}
 use Rattle.digits.specs.Lists.{same_bytes}
 use Rattle.words.specs.Rows.{first_row, other_rows, rows_after, row, row_named}
-use Rattle.words.proofs.Words.{found}
 
 -- where a search for a line feed in t gave r
-module _ (r : ℕ) (t : List ℕ) (e : r ≡ 0 + index_of 0x0A (slice 0 (length t) t)) where
+module _ (r : ℕ) (t : List ℕ) (e : r ≡ index_of 0x0A t) where
   pub first_row-part : take r t ≡ first_row t
   unfolding first_row
-  first_row-part = rw (found 0x0A r t e)
+  first_row-part = rw e
 
   pub other_rows-part : take (length t - (r + 1)) (drop (r + 1) t) ≡ other_rows t
   unfolding other_rows
-  other_rows-part = tail_part (r + 1) t ∙ rw (add-one, found 0x0A r t e)
+  other_rows-part = tail_part (r + 1) t ∙ rw (add-one, e)
 
   pub no_rows-part : length t ≤ r → take (length t - r) (drop r t) ≡ other_rows t
   unfolding other_rows
   no_rows-part h =
-      let l : length t ≤ suc (index_of 0x0A t) = omega (arith, found 0x0A r t e) in
+      let l : length t ≤ suc (index_of 0x0A t) = omega arith in
       tail_part r t ∙ rw (drop_of_length-le t {i = r} h, drop_of_length-le t {i = suc (index_of 0x0A t)} l)
 
 -- what follows k rows, where there is one to pass

@@ -4,23 +4,17 @@ use mathlib.Core.List.{List}
 use Prim.Native.Nat.{ℕ, zero, suc, ◌+◌, ◌-◌}
 use native.Mathlib.Omega.{arith}
 use lib.ListN.{length, take, drop}
-use lib.Seq.{take-length}
-use Rattle.words.specs.Bytes.{index_of, slice}
+use Rattle.words.specs.Bytes.{index_of}
 use Rattle.digits.proofs.Lists.{tail_part}
 use Rattle.words.specs.Words.{past_word, first_word, rest, after}
 
--- a search of the whole line
-pub found : (b r : ℕ) (s : List ℕ) → r ≡ 0 + index_of b (slice 0 (length s) s) → r ≡ index_of b s
-unfolding slice
-found b r s e = let q : r ≡ index_of b (take (length s) s) = omega arith in rw take-length at q
-
-pub past-part : (r : ℕ) (s : List ℕ) → r ≡ 0 + index_of 0x20 (slice 0 (length s) s) → take (length s - r) (drop r s) ≡ past_word s
+pub past-part : (r : ℕ) (s : List ℕ) → r ≡ index_of 0x20 s → take (length s - r) (drop r s) ≡ past_word s
 unfolding past_word
-past-part r s e = tail_part r s ∙ rw (found 0x20 r s e)
+past-part r s e = tail_part r s ∙ rw e
 
-pub first_part : (r : ℕ) (s : List ℕ) → r ≡ 0 + index_of 0x20 (slice 0 (length s) s) → take r s ≡ first_word s
+pub first_part : (r : ℕ) (s : List ℕ) → r ≡ index_of 0x20 s → take r s ≡ first_word s
 unfolding first_word
-first_part r s e = rw (found 0x20 r s e)
+first_part r s e = rw e
 
 -- what follows k words, where there is one to pass
 pub after_one : (k : ℕ) (s : List ℕ) → (k ≡ 0 → ⊥) → after (k - 1) (rest s) ≡ after k s

@@ -48,14 +48,14 @@ pub fn is_skipped(s: &[u8]) -> bool
 fn past_word(s: &[u8]) -> &[u8]
     ensures { result.now ≡ past_word s.now }
 {
-    let end = scan::find(s, 0, s.len(), b' ');
+    let end = scan::find(s, b' ');
     &s[end..]
 }
 
 fn first_word(s: &[u8]) -> &[u8]
     ensures { result.now ≡ first_word s.now }
 {
-    let end = scan::find(s, 0, s.len(), b' ');
+    let end = scan::find(s, b' ');
     &s[..end]
 }
 

@@ -38,14 +38,14 @@ fn rows_after(t: &[u8], k: usize) -> &[u8]
 fn first_row(t: &[u8]) -> &[u8]
     ensures { result.now ≡ first_row t.now }
 {
-    let end = scan::find(t, 0, t.len(), b'\n');
+    let end = scan::find(t, b'\n');
     &t[..end]
 }
 
 fn other_rows(t: &[u8]) -> &[u8]
     ensures { result.now ≡ other_rows t.now }
 {
-    let end = scan::find(t, 0, t.len(), b'\n');
+    let end = scan::find(t, b'\n');
     if end < t.len() {
         return &t[end + 1..];
     }

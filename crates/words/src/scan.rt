@@ -1,18 +1,17 @@
 // A byte looked for in a slice.
-ghost use Rattle.std.specs.Prelude.{◌≡◌, ◌+◌, ◌≤◌, length};
-ghost use Rattle.words.specs.Bytes.{index_of, slice};
+ghost use Rattle.std.specs.Prelude.{◌≡◌, ◌≤◌, length};
+ghost use Rattle.words.specs.Bytes.{index_of};
 
-// The first place of b in s from one place up to another, which is the end where it has none there.
-pub fn find(s: &[u8], from: usize, to: usize, b: u8) -> usize
-    requires { (from ≤ to) × (to ≤ length s.now) }
-    ensures { (result ≡ from + index_of b (slice from to s.now)) × (result ≤ to) }
+// The place of the first b in s; the length of s where it has none.
+pub fn find(s: &[u8], b: u8) -> usize
+    ensures { (result ≡ index_of b s.now) × (result ≤ length s.now) }
 {
-    let mut i = from;
-    while i < to {
+    let mut i = 0;
+    while i < s.len() {
         if s[i] == b {
             return i;
         }
         i += 1;
     }
-    to
+    s.len()
 }

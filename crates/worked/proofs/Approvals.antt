@@ -32,7 +32,7 @@ use Rattle.outgoing_theorems.specs.Theorems.{Reads}
 use Rattle.outgoing_theorems.proofs.Theorems.{sent-reads_back}
 use Rattle.answer_match.specs.Match.{is_value, repeats, matches_sent, approves, approves_request, amount_holds, approval_holds, is_answer, good_mac}
 use Rattle.approval.specs.Approval.{approval_of, approved_entry}
-use Rattle.approval.proofs.Approval.{answer-holds, in_form}
+use Rattle.approval.proofs.Approval.{answer-holds, in_form_lem}
 use Rattle.state_rules.proofs.Holds.{ApprovalHolds}
 use Rattle.worked.specs.Desk.{settings}
 
@@ -161,5 +161,5 @@ approval_holds_lem trace =
 pub entry-form : (trace : ℕ) → 1 ≤ trace → trace ≤ 999999
     → in_form (approved_entry (asked 9999999999 trace) (approval_of (answered trace))) ≡ true
 entry-form trace least most =
-    in_form (asked 9999999999 trace) (approval_of (answered trace)) sale-listed least most (rw (amount_is trace) (omega arith))
+    in_form_lem (asked 9999999999 trace) (approval_of (answered trace)) sale-listed least most (rw (amount_is trace) (omega arith))
     (rw (amount_is trace) (omega arith)) (omega arith) (omega arith) (approval_holds_lem trace)

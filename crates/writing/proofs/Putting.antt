@@ -190,22 +190,21 @@ module _ (fs o : List ℕ) (h : 10 + length fs ≤ length o) where
 
 -- a message's type and bitmap
 pub put_head : (a b : ℕ) (bm o : List ℕ) {y : List ℕ} → length bm ≡ 8 → 10 ≤ length o
-    → y ≡ take (length bm) bm ++ drop (length bm) (take 8 (drop 2 (set (set o 0 a) 1 b)))
+    → y ≡ bm
     → take 2 (set (set o 0 a) 1 b) ++ (y ++ drop 8 (drop 2 (set (set o 0 a) 1 b))) ≡ (a ∷ b ∷ bm) ++ drop 10 o
 put_head a b bm o {y} l h e =
     let s : set (set o 0 a) 1 b ≡ a ∷ b ∷ drop 2 o = set-two o a b (omega arith) in
-    let c : y ≡ bm = (rw s at e) ∙ copied bm (take 8 (drop 2 o)) (length-take-le 8 (drop 2 o) (rw length-drop (omega arith)) ∙ sym l) in
-    rw (s, c, drop-drop 8 2 o)
+    rw (s, e, drop-drop 8 2 o)
 
 -- fs, copied behind the first p bytes, which are h
 pub put_after : (p : ℕ) (h fs o : List ℕ) {b y : List ℕ} → length h ≡ p → p + length fs ≤ length o → b ≡ h ++ drop p o
-    → y ≡ take (length fs) fs ++ drop (length fs) (take (length b - p) (drop p b))
-    → take p b ++ (y ++ drop (length b - p) (drop p b)) ≡ (h ++ fs) ++ drop (p + length fs) o
+    → y ≡ fs
+    → take p b ++ (y ++ drop (p + length fs - p) (drop p b)) ≡ (h ++ fs) ++ drop (p + length fs) o
 put_after p h fs o {b} {y} l f q e =
     let t : take p b ≡ h = rw q (take_at h (drop p o) p l) in
     let d : drop p b ≡ drop p o = rw q (drop_at h (drop p o) p l) in
-    let w : y ≡ fs ++ drop (p + length fs) o = e ∙ rw (tail_part, d, drop-drop, take-length) in
-    put_tail p b y ∙ rw (t, w) (sym (append_assoc h fs (drop (p + length fs) o)))
+    let n : p + length fs - p ≡ length fs = omega arith in
+    rw (t, e, n, d, drop-drop) (sym (append_assoc h fs (drop (p + length fs) o)))
 
 -- a message of a listed type that names listed fields
 module _ (m : Message) {p : Placed} {o : List ℕ} (i : among m.indicator indicators ≡ true) (l : listed m.bitmap ≡ true)

@@ -99,5 +99,6 @@ fn put_message(m: Message, fields: &[u8], buf: &mut [u8])
     buf[0] = (m.indicator / 256) as u8;
     buf[1] = (m.indicator % 256) as u8;
     buf[2..10].copy_from_slice(&bitmap);
-    buf[10..].copy_from_slice(fields);
+    let end = 10 + fields.len();
+    buf[10..end].copy_from_slice(fields);
 }

@@ -9,13 +9,13 @@ slice_bounds-unpack_into-end-2 c =
 
 pub slice_bounds-ds-end-2 : goal.slice_bounds-ds-end-2
 slice_bounds-ds-end-2 c =
-    front_there c.args.e.digits c.unpack_into.new.1.0 (search rules) c.unpack_into.auto.1.0
+    front_there c.args.e.digits c.unpack_into.new.out (search rules) c.unpack_into.auto.out
 
 pub slice_bounds-number_of-end : goal.slice_bounds-number_of-end
 slice_bounds-number_of-end c =
-    front-taken c.args.e.digits c.unpack_into.new.1.0 (search rules) c.unpack_into.auto.1.0
+    front-taken c.args.e.digits c.unpack_into.new.out (search rules) c.unpack_into.auto.out
 
 pub returns : goal.returns
 returns c =
-    card_is c.args.e c.unpack_into.new.1.0 c.number_of.result _ (search rules) c.unpack_into.auto.1.0
+    card_is c.args.e c.unpack_into.new.out c.number_of.result _ (search rules) c.unpack_into.auto.out
     c.unpack_into.ensures c.number_of.ensures c.numeral.ensures

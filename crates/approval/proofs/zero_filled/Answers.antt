@@ -11,11 +11,11 @@ slice_bounds-digits_into-end c = sym (length-take-le _ _ (omega arith))
 
 pub slice_bounds-ds-end-2 : goal.slice_bounds-ds-end-2
 slice_bounds-ds-end-2 c =
-    front_there c.args.card.length c.digits_into.new.1.0 c.digits_into.auto.1.0 (search rules)
+    front_there c.args.card.length c.digits_into.new.out c.digits_into.auto.out (search rules)
 
 pub slice_bounds-pack_into-end : goal.slice_bounds-pack_into-end
 slice_bounds-pack_into-end c =
-    front-taken c.args.card.length c.digits_into.new.1.0 c.digits_into.auto.1.0 (search rules)
+    front-taken c.args.card.length c.digits_into.new.out c.digits_into.auto.out (search rules)
 
 pub returns : goal.returns
 returns c =

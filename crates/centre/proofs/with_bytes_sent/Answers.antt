@@ -13,15 +13,15 @@ slice_bounds-field_into-end c = sym (length-take-le _ _ (omega arith))
 
 pub slice_bounds-b-end-2 : goal.slice_bounds-b-end-2
 slice_bounds-b-end-2 c =
-    front_there _ spaces c.field_into.new.1.1.1.0 c.field_into.auto.1.1.1.0 (omega arith)
+    front_there _ spaces c.field_into.new.out c.field_into.auto.out (omega arith)
 
 pub slice_bounds-with_bytes-end : goal.slice_bounds-with_bytes-end
 slice_bounds-with_bytes-end c =
-    sym (length-take-le _ _ (front_there _ spaces c.field_into.new.1.1.1.0
-    c.field_into.auto.1.1.1.0 (omega arith)))
+    sym (length-take-le _ _ (front_there _ spaces c.field_into.new.out
+    c.field_into.auto.out (omega arith)))
 
 pub returns : goal.returns
 returns c =
     bytes_put (whole c.args.h c.args.contents.now) c.args.n c.args.t4 c.args.count c.requires
-    c.field_into.auto.1.1.1.0 (rw c.head_of.ensures at
+    c.field_into.auto.out (rw c.head_of.ensures at
     c.field_into.ensures.1) c.with_bytes.ensures

@@ -36,11 +36,11 @@ pub returns-in_default : goal.returns-in_default
 unfolding left_as
 returns-in_default c =
     rw (
-      ne_eqb 0x0100 c.args.indicator (λ e. c.in_default.rest.0.0.0.0.0.0.1 (sym e)),
-      ne_eqb 0x0200 c.args.indicator (λ e. c.in_default.rest.0.0.0.0.0.1 (sym e)),
-      ne_eqb 0x0220 c.args.indicator (λ e. c.in_default.rest.0.0.0.0.1 (sym e)),
-      ne_eqb c.args.indicator 0x0400 c.in_default.rest.0.0.0.1,
-      ne_eqb c.args.indicator 0x0500 c.in_default.rest.0.0.1,
-      ne_eqb c.args.indicator 0x0320 c.in_default.rest.0.1,
-      ne_eqb c.args.indicator 0x0800 c.in_default.rest.1,
+      ne_eqb 0x0100 c.args.indicator (λ e. c.in_default.in_default-own.rest.0.0.0.0.0.0.1 (sym e)),
+      ne_eqb 0x0200 c.args.indicator (λ e. c.in_default.in_default-own.rest.0.0.0.0.0.1 (sym e)),
+      ne_eqb 0x0220 c.args.indicator (λ e. c.in_default.in_default-own.rest.0.0.0.0.1 (sym e)),
+      ne_eqb c.args.indicator 0x0400 c.in_default.in_default-own.rest.0.0.0.1,
+      ne_eqb c.args.indicator 0x0500 c.in_default.in_default-own.rest.0.0.1,
+      ne_eqb c.args.indicator 0x0320 c.in_default.in_default-own.rest.0.1,
+      ne_eqb c.args.indicator 0x0800 c.in_default.in_default-own.rest.1,
     )

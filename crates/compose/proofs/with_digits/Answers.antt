@@ -18,11 +18,11 @@ slice_bounds-pack_into-end c = sym (length-take-le _ _ (search rules))
 
 pub slice_bounds-packed-end-then-pack_into : goal.slice_bounds-packed-end-then-pack_into
 slice_bounds-packed-end-then-pack_into c =
-    front_there _ (replicate {A = ℕ} 128 0) c.pack_into.new.1.0 c.pack_into.auto.1.0 (omega arith)
+    front_there _ (replicate {A = ℕ} 128 0) c.pack_into.new.out c.pack_into.auto.out (omega arith)
 
 pub slice_bounds-with_item-end : goal.slice_bounds-with_item-end
 slice_bounds-with_item-end c =
-    sym (length-take-le _ _ (front_there _ (replicate {A = ℕ} 128 0) c.pack_into.new.1.0 c.pack_into.auto.1.0 (omega arith)))
+    sym (length-take-le _ _ (front_there _ (replicate {A = ℕ} 128 0) c.pack_into.new.out c.pack_into.auto.out (omega arith)))
 
 pub returns-then-pack_into : goal.returns-then-pack_into
 returns-then-pack_into c =

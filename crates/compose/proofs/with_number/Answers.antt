@@ -14,11 +14,11 @@ slice_bounds-digits_into-end c = sym (length-take-le _ _ (omega arith))
 
 pub slice_bounds-ds-end-2 : goal.slice_bounds-ds-end-2
 slice_bounds-ds-end-2 c =
-    front_there _ (replicate {A = ℕ} 255 0) c.digits_into.new.1.0 c.digits_into.auto.1.0 (omega arith)
+    front_there _ (replicate {A = ℕ} 255 0) c.digits_into.new.out c.digits_into.auto.out (omega arith)
 
 pub slice_bounds-with_digits-end : goal.slice_bounds-with_digits-end
 slice_bounds-with_digits-end c =
-    sym (length-take-le _ _ (front_there _ (replicate {A = ℕ} 255 0) c.digits_into.new.1.0 c.digits_into.auto.1.0 (omega arith)))
+    sym (length-take-le _ _ (front_there _ (replicate {A = ℕ} 255 0) c.digits_into.new.out c.digits_into.auto.out (omega arith)))
 
 pub returns : goal.returns
 returns c =

@@ -8,8 +8,8 @@ use Rattle.decode.proofs.answer.Goals as goal
 
 pub slice_bounds-bytes-end : goal.slice_bounds-bytes-end
 slice_bounds-bytes-end c =
-    omega (arith, outcome_fits _ _ (sym c.hex_into-h.ensures.0 ∙ c.in-Bytes.is), c.hex_into-h.auto.1.0)
+    omega (arith, outcome_fits _ _ (sym c.hex_into-h.ensures.0 ∙ c.in-Bytes.is), c.hex_into-h.auto.out)
 
 pub slice_bounds-show-end : goal.slice_bounds-show-end
 slice_bounds-show-end c =
-    sym (length-take-le _ _ (omega (arith, outcome_fits _ _ (sym c.hex_into-h.ensures.0 ∙ c.in-Bytes.is), c.hex_into-h.auto.1.0)))
+    sym (length-take-le _ _ (omega (arith, outcome_fits _ _ (sym c.hex_into-h.ensures.0 ∙ c.in-Bytes.is), c.hex_into-h.auto.out)))

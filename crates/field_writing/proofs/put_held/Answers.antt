@@ -45,14 +45,5 @@ slice_bounds-take-end c = sym (length-take-le _ _ c.if-bs-size.false)
 
 pub returns : goal.returns
 returns c =
-    placed c.put_count.new.1.1.0
-    c.args.out.now c.skip_of-skip.result
-    c.size_of-size.result
-    c.put_count.auto.1.1.0
-    c.if-out-end.false
-    c.args.f
-    c.args.n
-    c.args.bs.now c.skip_of-skip.ensures
-    c.size_of-size.ensures
-    c.if-bs-size.false
-    c.put_count.ensures c.take-e.ensures
+    placed c.put_count.new.out c.args.out.now c.skip_of-skip.result c.size_of-size.result c.put_count.auto.out c.if-out-end.false c.args.f c.args.n
+    c.args.bs.now c.skip_of-skip.ensures c.size_of-size.ensures c.if-bs-size.false c.put_count.ensures c.take-e.ensures

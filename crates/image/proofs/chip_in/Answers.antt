@@ -5,5 +5,5 @@ use Rattle.image.proofs.chip_in.Goals as goal
 
 pub returns : goal.returns
 returns c =
-    chip-copied c.args.v.now c.args.region.now c.requires.1 c.low8.ensures c.copy_from_slice.ensures.after.1
-    c.copy_from_slice-2.ensures.after.1 c.copy_from_slice-3.ensures.after.1 c.copy_from_slice-4.ensures.after.1
+    chip-copied c.args.v.now c.args.region.now c.requires.1 c.low8.ensures c.copy_from_slice.ensures.after
+    c.copy_from_slice-2.ensures.after c.copy_from_slice-3.ensures.after c.copy_from_slice-4.ensures.after

@@ -9,5 +9,5 @@ returns-then-left-chunk c = search left_stays
 
 pub returns : goal.returns
 returns c =
-    let w : Within (record { from = 0; end = c.count.result }) c.read-got.new.1.0 = search rules in
+    let w : Within (record { from = 0; end = c.count.result }) c.read-got.new.buf = search rules in
     search left-read

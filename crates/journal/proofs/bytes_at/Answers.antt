@@ -9,4 +9,4 @@ use Rattle.journal.proofs.bytes_at.Goals as goal
 
 pub returns : goal.returns
 returns c =
-    here_copied c.args.journal.now (replicate entry_size 0) _ c.args.at (omega arith) refl c.copy_from_slice.ensures.after.1
+    here_copied c.args.journal.now (replicate entry_size 0) _ c.args.at (omega arith) refl c.copy_from_slice.ensures.after

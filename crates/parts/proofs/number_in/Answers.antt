@@ -30,7 +30,7 @@ slice_bounds-unpack_into-end-then-named c =
 
 pub slice_bounds-number_of-end : goal.slice_bounds-number_of-end
 slice_bounds-number_of-end c =
-    front_there _ c.unpack_into.new.1.0 c.unpack_into.auto.1.0 (omega (arith, c.bounds_of-at.ensures.count_small))
+    front_there _ c.unpack_into.new.out c.unpack_into.auto.out (omega (arith, c.bounds_of-at.ensures.count_small))
 
 pub returns-then-named : goal.returns-then-named
 returns-then-named c =

@@ -1,6 +1,6 @@
 -- `reading::read_fields` meets its contract.
 use mathlib.Core.Path.{◌∙◌}
-use mathlib.Core.Logic.{⊎_elim}
+use Rattle.reading.proofs.read_fields.Goals.{then-is_set+in-Held, else-is_set}
 use Prim.Native.Nat.{◌-◌}
 use borrow.Author.Rules.{rules}
 use native.Mathlib.Omega.{arith}
@@ -99,18 +99,6 @@ overflow_add-at-in-Held c =
           (at_place c.table-table.ensures c.loop-k-test.true) _ c.read_field-t.ensures c.in-Held.is,
     )
 
-pub loop-k-preserved : goal.loop-k-preserved
-loop-k-preserved c =
-    let a = at_place c.table-table.ensures c.loop-k-test.true in
-    let named = row_named _ c.requires.bytes c.table-table.ensures c.bits-bits.ensures
-    no_format c.loop-k-test.true c.word_of-word.ensures c.is_set.ensures in
-    ⊎_elim
-    (λ w. rw (w.10, w.11, w.12) (read_next c.loop-k.invariant a _ w.4.ensures (named ∙ w.0.taken)
-    (place-start c.places-places.ensures c.loop-k-test.true)
-    w.8.given.1))
-    (λ w. rw (w.1, w.2, w.3) (read_past c.loop-k.invariant a (named ∙ w.0.left)))
-    c.if-is_set.branch
-
 pub returns-then-at-s : goal.returns-then-at-s
 returns-then-at-s c =
     read-long c.loop-k.invariant c.loop-k-test.false c.if-at-s.true
@@ -118,3 +106,14 @@ returns-then-at-s c =
 pub returns : goal.returns
 returns c =
     read_done c.loop-k.invariant c.loop-k-test.false c.if-at-s.false
+
+pub loop-k-preserved : goal.loop-k-preserved
+loop-k-preserved c =
+    let a = at_place c.table-table.ensures c.loop-k-test.true in
+    let named = row_named _ c.requires.bytes c.table-table.ensures c.bits-bits.ensures
+    no_format c.loop-k-test.true c.word_of-word.ensures c.is_set.ensures in
+    elim c.if-is_set.branch [
+      then-is_set+in-Held w ↦ rw (w.counts-is, w.contents-is, w.at-is) (read_next c.loop-k.invariant a _ w.read_field-t.ensures (named ∙ w.if-is_set.true)
+      (place-start c.places-places.ensures c.loop-k-test.true) w.in-Held.is)
+    | else-is_set w ↦ rw (w.counts-is, w.contents-is, w.at-is) (read_past c.loop-k.invariant a (named ∙ w.if-is_set.false))
+    ]

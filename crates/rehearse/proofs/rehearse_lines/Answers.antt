@@ -22,7 +22,7 @@ slice_bounds-write_all-end c = sym (length-take-le _ _ (within c.answer-acted.en
 
 pub loop-turns-preserved : goal.loop-turns-preserved
 loop-turns-preserved c =
-    let k : length c.next-at.new.1.1.0 ≡ 4098 = search rules in (
+    let k : length c.next-at.new.line ≡ 4098 = search rules in (
       goes_on c.loop-turns.invariant.0 c.next-at.ensures k c.answer-acted.ensures c.if-at.false c.loop-turns-test.true,
       λ h. c.if-at.false,
       k,
@@ -38,5 +38,5 @@ returns-after-loop-turns c =
 
 pub returns-then-at : goal.returns-then-at
 returns-then-at c =
-    let k : length c.next-at.new.1.1.0 ≡ 4098 = search rules in
+    let k : length c.next-at.new.line ≡ 4098 = search rules in
     ends c.loop-turns.invariant.0 c.next-at.ensures k c.answer-acted.ensures c.if-at.true

@@ -1,9 +1,8 @@
 -- `texts::add_decimal` meets its contract.
-use borrow.Author.Rules.{rules}
 use native.Mathlib.Omega.{arith}
 use Rattle.texts.proofs.Decimal.{decimal-is}
 use Rattle.texts.proofs.add_decimal.Goals as goal
 
 pub returns : goal.returns
 returns c =
-    rw (← decimal-is c.decimal-k.result c.args.x (omega arith) c.decimal-k.ensures.1.0, ← c.decimal-k.ensures.1.1) c.add.ensures
+    rw (← decimal-is c.decimal-k.result c.args.x (omega arith) c.decimal-k.ensures.len, ← c.decimal-k.ensures.digits) c.add.ensures

@@ -1,6 +1,6 @@
 -- `writing::put_fields` meets its contract: the fields passed have no fault, and those named are written.
 use mathlib.Core.Path.{sym}
-use mathlib.Core.Logic.{⊎_elim}
+use Rattle.writing.proofs.put_fields.Goals.{then-is_set+else-p-ne0, else-is_set}
 use Prim.Native.Nat.{◌-◌}
 use borrow.Author.Rules.{rules}
 use native.Mathlib.Omega.{arith}
@@ -75,7 +75,7 @@ overflow_add-at c =
     let r = putting_more c.loop-k.invariant a (sym (row_named _ c.requires.1
     c.table-table.ensures c.bits-bits.ensures no_format c.loop-k-test.true c.word_of-word.ensures
     c.is_set.ensures))
-    c.if-is_set.true st c.put_field-p.ensures c.if-p-ne0.false c.put_field-p.auto.1.1.1.0 in
+    c.if-is_set.true st c.put_field-p.ensures c.if-p-ne0.false c.put_field-p.auto.out in
     omega (arith, r.fits)
 
 pub overflow_add-k : goal.overflow_add-k
@@ -86,21 +86,21 @@ pub loop-k-smaller : goal.loop-k-smaller
 loop-k-smaller c =
     row_less c.loop-k-test.true
 
+pub shape_of-out : goal.shape_of-out
+shape_of-out c = c.loop-k.invariant.len
+
+pub returns : goal.returns
+returns c = putting_done c.loop-k.invariant c.loop-k-test.false
+
 pub loop-k-preserved : goal.loop-k-preserved
 loop-k-preserved c =
     let a = at_place c.table-table.ensures c.loop-k-test.true in
     let n = sym (row_named _ c.requires.1
     c.table-table.ensures c.bits-bits.ensures no_format c.loop-k-test.true
     c.word_of-word.ensures c.is_set.ensures) in
-    ⊎_elim
-    (λ w.
-    let st = place_of c.places-places.ensures w.2.ensures c.loop-k-test.true c.loop-k.invariant.place.len in
-    rw (w.12, w.13) (putting_more c.loop-k.invariant a n w.0.taken st w.6.ensures w.10.left w.6.kept.1.1.1.0))
-    (λ w. rw (w.1, w.2) (putting_skip c.loop-k.invariant a n w.0.left))
-    c.if-is_set.branch
-
-pub shape_of-out : goal.shape_of-out
-shape_of-out c = c.loop-k.invariant.len
-
-pub returns : goal.returns
-returns c = putting_done c.loop-k.invariant c.loop-k-test.false
+    elim c.if-is_set.branch [
+      then-is_set+else-p-ne0 w ↦
+        let st = place_of c.places-places.ensures w.wide-from.ensures c.loop-k-test.true c.loop-k.invariant.place.len in
+        rw (w.out-is, w.at-is) (putting_more c.loop-k.invariant a n w.if-is_set.true st w.put_field-p.ensures w.if-p-ne0.false w.put_field-p.auto.out)
+    | else-is_set w ↦ rw (w.out-is, w.at-is) (putting_skip c.loop-k.invariant a n w.if-is_set.false)
+    ]

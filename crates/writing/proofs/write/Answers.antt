@@ -16,12 +16,12 @@ returns-then-buf-lt-LARGEST c = rw (lt-ltb _ _ c.if-buf-lt-LARGEST.true)
 pub slice_bounds-fields-end : goal.slice_bounds-fields-end
 slice_bounds-fields-end c =
     let fit = contents_fit c.args.m c.put_contents-p.ensures c.if-p-eq0.true in
-    omega (arith, c.put_contents-p.auto.1.0)
+    omega (arith, c.put_contents-p.auto.out)
 
 pub slice_bounds-put_message-end : goal.slice_bounds-put_message-end
 slice_bounds-put_message-end c =
     let fit = contents_fit c.args.m c.put_contents-p.ensures c.if-p-eq0.true in
-    sym (length-take-le _ _ (omega (arith, c.put_contents-p.auto.1.0)))
+    sym (length-take-le _ _ (omega (arith, c.put_contents-p.auto.out)))
 
 pub put_message-requires : goal.put_message-requires
 put_message-requires c =
@@ -36,7 +36,7 @@ overflow_add-result c =
 pub returns-then-p-eq0 : goal.returns-then-p-eq0
 returns-then-p-eq0 c =
     let l : length c.args.m.bitmap ≡ 8 = search rules in
-    message-written c.args.m c.args.buf.now c.put_contents-p.new.1.0 l c.if-buf-lt-LARGEST.false c.put_contents-p.ensures
+    message-written c.args.m c.args.buf.now c.put_contents-p.new.out l c.if-buf-lt-LARGEST.false c.put_contents-p.ensures
     c.if-p-eq0.true c.put_message.ensures
 
 pub returns : goal.returns
