@@ -32,14 +32,6 @@ trace-small s = number-below 6 (part 4 3 s)
 pub amount_small : (s : List ℕ) → packed_number 12 (part 7 6 s) < 1000000000000
 amount_small s = number-below 12 (part 7 6 s)
 
--- a copy that fills its place is what was copied
-copied : (s z : List ℕ) → length s ≡ length z → take (length s) s ++ drop (length s) z ≡ s
-copied s z e = rw (take-length, drop_of_length-le z {i = length s} (omega arith), append-nil)
-
-pub part-copied : (at k : ℕ) (s z : List ℕ) {x : List ℕ} → at + k ≤ length s → length z ≡ k
-    → x ≡ take (length (part at k s)) (part at k s) ++ drop (length (part at k s)) z → x ≡ part at k s
-part-copied at k s z h l e = e ∙ copied (part at k s) z (length_part at k s h ∙ sym l)
-
 -- the values that are read or copied one by one
 pub decode-copied : (s : List ℕ) {t : Trace} {a : ℕ} {card date authorisation reference reserved : List ℕ} → length s ≡ entry_size
     → t ≡ record { 0 = packed_number 6 (part 4 3 s) } → a ≡ packed_number (2 * length (part 7 6 s)) (part 7 6 s)

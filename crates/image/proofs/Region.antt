@@ -9,7 +9,7 @@ use lib.Seq.{length-take-le, take_at}
 use Rattle.state.specs.declared.Chip.{Chip}
 use Rattle.state.specs.declared.State.{State}
 use Rattle.entry.specs.Entry.{part}
-use Rattle.entry.proofs.Bytes.{part-copied, Begun, begun_more, begun-done}
+use Rattle.entry.proofs.Bytes.{Begun, begun_more, begun-done}
 use Rattle.image_definitions.specs.Layout.{region_offset, size, first_of}
 use Rattle.image_definitions.specs.Image.{bits_of, row_bytes, region_of, image, chip_in}
 use Rattle.image_definitions.proofs.Region.{first-take, region_is}
@@ -29,13 +29,13 @@ region_put c b f d a r l e₁ e₂ e₃ e₄ k =
     let r₄ = begun_more 12 c.reference (begun_more 6 c.authorisation r₂ a e₃) r e₄ in
     begun-done r₄ (omega arith) ∙ rw (region_is c f d a r) (simp append_assoc)
 
--- a part of the region, copied over zeros
+-- a part of the region, copied
 abbrev Copied : ℕ → ℕ → List ℕ → List ℕ → Type 0
-Copied at k r x = x ≡ take (length (part at k r)) (part at k r) ++ drop (length (part at k r)) (replicate k 0)
+Copied at k r x = x ≡ part at k r
 
 copied-first : (at k : ℕ) (r : List ℕ) {x : List ℕ} → at + k ≤ length r → Copied at k r x → x ≡ first_of k (drop at r)
 copied-first at k r h e =
-    part-copied at k r (replicate k 0) h (length-replicate k 0) e ∙ sym (first-take k (drop at r) (rw length-drop (omega arith)))
+    e ∙ sym (first-take k (drop at r) (rw length-drop (omega arith)))
 
 pub chip-copied : (v r : List ℕ) {n : ℕ} {f d a x : List ℕ} → length r + region_offset ≡ size → n ≡ bits_of 8 v 0
     → Copied 0 255 r f → Copied 255 2 r d → Copied 257 6 r a → Copied 263 12 r x

@@ -9,19 +9,10 @@ use lib.Seq.{drop-drop, take-take, get_or-take, get_or-drop, length-take-le}
 use Rattle.digits.specs.Packed.{packed_number}
 use Rattle.entry.specs.Entry.{entry_size, mark_offset, trace_offset, amount_offset, part, decode}
 use Rattle.entry.specs.declared.Entry.{Entry}
-use Rattle.entry.proofs.Bytes.{part-copied}
 use Rattle.entry.proofs.Theorems.{decode-trace}
 
 abbrev pub here : List ℕ → ℕ → Entry
 here j at = decode (take entry_size (drop at j))
-
-pub here_copied : (j z x : List ℕ) (at : ℕ) → at + entry_size ≤ length j → length z ≡ entry_size
-    → x ≡ take (length (part at (at + entry_size - at) j)) (part at (at + entry_size - at) j)
-    ++ drop (length (part at (at + entry_size - at) j)) z
-    → x ≡ part at entry_size j
-here_copied j z x at h l e =
-    let k : at + entry_size - at ≡ entry_size = omega arith in
-    rw k at (part-copied at (at + entry_size - at) j z (omega arith) (omega arith) e)
 
 -- a part of a front
 part-front : (m a k : ℕ) (b : List ℕ) → a + m ≤ k → take m (drop a (take k b)) ≡ take m (drop a b)

@@ -32,7 +32,7 @@ use Rattle.message_theorems.specs.Keys.{type_numbers, with_length, keys_alone, c
 use Rattle.message_theorems.proofs.Fields.{in_place}
 use Rattle.message_theorems.proofs.Messages.{message_from, after_head, head_read, keys-allowed, keys_kept_alike}
 use Rattle.message_theorems.proofs.Readable.{read_keeps_formats}
-use Rattle.message_theorems.proofs.WriteOrder.{length_back, outcome_of, as_read, fault-each, first-fault}
+use Rattle.message_theorems.proofs.WriteOrder.{length_back, outcome_of, as_read_lem, fault-each, first-fault}
 
 -- a length of four digits
 length_bytes : (n : ℕ) → n ≤ 9999 → pack (digits_of 4 n) ≡ (n / 1000 * 16 + n / 100 % 10) ∷ (n / 10 % 10 * 16 + n % 10) ∷ []
@@ -145,7 +145,7 @@ unfolding message_fault fields_fault field_fault formats names bit listed listed
 fault-alone m t b = rw (late_is m, type_listed m.indicator t, b, or-true)
 
 pub write_keys-of-every-length : WriteKeysOfEveryLength
-write_keys-of-every-length m o l t b = rw (as_read m o l, fault-alone m t b) (go (among (field_of m 62).count key_lengths))
+write_keys-of-every-length m o l t b = rw (as_read_lem m o l, fault-alone m t b) (go (among (field_of m 62).count key_lengths))
   where
     go : (t : Bool) → outcome_of (cond t 0 24) ≡ cond t Read (Refused 24)
     go true = refl

@@ -157,9 +157,9 @@ module _ (m : Message) (o : List ℕ) (l : largest ≤ length o) where
   unfolding write_message
   fault-refuses n e h = rw (le-ltb (length o) largest l, e, ne_eqb n 0 h)
 
-  pub as_read : as_read (write_message m o).outcome ≡ outcome_of (message_fault m)
+  pub as_read_lem : as_read (write_message m o).outcome ≡ outcome_of (message_fault m)
   unfolding write_message
-  as_read = rw (le-ltb (length o) largest l) (go (eqb (message_fault m) 0))
+  as_read_lem = rw (le-ltb (length o) largest l) (go (eqb (message_fault m) 0))
     where
       go : (b : Bool) → as_read (cond b (written (Written (length (message_bytes m))) (message_bytes m ++ drop (length (message_bytes m)) o))
           (written (Refused (message_fault m)) o)).outcome ≡ cond b Read (Unread (message_fault m))
@@ -216,7 +216,7 @@ module _ (m : Message) (s : Shaped m) where
 
 pub write_judges_as_read : WriteJudgesAsRead
 write_judges_as_read m o s l h =
-    rw (as_read m o l) (bytes-judged m s (λ e. h (fault-refuses m o l 7 e (λ q. omega (arith, q)))))
+    rw (as_read_lem m o l) (bytes-judged m s (λ e. h (fault-refuses m o l 7 e (λ q. omega (arith, q)))))
 
 late-judged_by : (m : Message) → is_fault (late_fault m) ≡ true
 late-judged_by m = go (ℕ_discrete (late_fault m) 0)

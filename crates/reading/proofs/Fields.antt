@@ -184,13 +184,6 @@ pub read_done : {bm s : List ℕ} {k at to : ℕ} {cs bs : List ℕ} → ReadTo 
     → read_fields formats bm s ≡ good cs bs
 read_done {s = s} {at = at} {cs = cs} {bs = bs} r h l = at-end r h ∙ rw (eq-eqb (length (drop at s)) 0 (omega (arith, length-drop at s)), append-nil cs, append-nil bs)
 
--- the bitmap, copied into an array of its own
-pub bitmap-copied : (s e : List ℕ) → 10 ≤ length s
-    → e ≡ take (length (bitmap_of s)) (bitmap_of s) ++ drop (length (bitmap_of s)) (replicate 8 0) → e ≡ bitmap_of s
-bitmap-copied s e h q =
-    let l : length (bitmap_of s) ≡ 8 = length-take-le 8 (drop 2 s) (rw length-drop (omega arith)) in
-    q ∙ rw (l, take_all 8 (bitmap_of s) (omega arith)) (append-nil (bitmap_of s))
-
 pub bitmap_there : (s : List ℕ) {bm : List ℕ} → 10 ≤ length s → bm ≡ bitmap_in s → bm ≡ bitmap_of s
 bitmap_there s h e = e ∙ rw (le-ltb _ _ h)
 

@@ -11,5 +11,5 @@ index_of b [] = zero
 index_of b (x ∷ xs) = index_after (eqb x b) (index_of b xs)
 
 -- the bytes from place i up to place j
-abbrev pub slice : ℕ → ℕ → List ℕ → List ℕ
+unfoldable pub slice : ℕ → ℕ → List ℕ → List ℕ
 slice i j s = drop i (take j s)

@@ -17,6 +17,6 @@ returns c =
       c.with_number-h3.ensures,
       c.processing_of.ensures,
       c.with_number-h2.ensures,
-      c.type_inv.ensures,
+      c.typed-h.ensures,
       c.card_of-card.ensures,
     )

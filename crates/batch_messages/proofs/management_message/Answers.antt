@@ -10,5 +10,5 @@ returns c =
       c.with_bytes-h42.ensures,
       c.with_bytes-h41.ensures,
       c.with_number-h11.ensures,
-      c.type_inv.ensures,
+      c.typed-h.ensures,
     )

@@ -9,6 +9,6 @@ unfolding reconciliation
 returns c =
     c.joined.ensures ∙ c.with_sent_fields-all.ensures ∙ rw (
       c.with_field48-h48.ensures,
-      c.type_inv.ensures,
+      c.typed-h.ensures,
       c.answer_type.ensures,
     )

@@ -13,5 +13,5 @@ returns c =
       c.with_number-h60.ensures,
       c.brought_number-number.ensures,
       c.with_own_fields-own.ensures,
-      c.type_inv.ensures,
+      c.typed.ensures,
     )

@@ -11,7 +11,7 @@ returns c =
       c.with_also-all.ensures,
       c.with_bytes-h39.ensures,
       c.with_sent_fields-as_sent.ensures,
-      c.type_inv.ensures,
+      c.typed-h.ensures,
       c.answer_type.ensures,
       c.left_as-left.ensures,
     )

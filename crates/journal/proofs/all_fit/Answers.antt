@@ -20,12 +20,12 @@ bytes_at-b-requires c = omega arith
 
 pub returns-then-not-fits : goal.returns-then-not-fits
 returns-then-not-fits c =
-    let e = rw (c.bytes_at-b.ensures, c.is_at.ensures) at c.fits2.ensures in
+    let e = rw (c.bytes_at-b.ensures, c.is_at.ensures) at c.fits.ensures in
     testing_fails c.loop-i.invariant c.loop-i-test.true (omega arith) (sym e ∙ c.if-not-fits.true)
 
 pub loop-i-preserved : goal.loop-i-preserved
 loop-i-preserved c =
-    let e = rw (c.bytes_at-b.ensures, c.is_at.ensures) at c.fits2.ensures in
+    let e = rw (c.bytes_at-b.ensures, c.is_at.ensures) at c.fits.ensures in
     testing_more c.loop-i.invariant c.loop-i-test.true (omega arith) (sym e ∙ c.if-not-fits.false)
 
 pub returns : goal.returns

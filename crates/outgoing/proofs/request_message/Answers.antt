@@ -12,7 +12,7 @@ pub returns : goal.returns
 returns c =
     c.joined.ensures ∙ c.with_original_fields-all.ensures ∙ rw (
       c.with_card_fields-card.ensures,
-      c.type_inv.ensures,
+      c.typed-h.ensures,
       c.indicator_of.ensures,
     )
     (sym (all_append (card_fields c.args.x c.args.batch c.args.chip c.args.q)

@@ -10,5 +10,5 @@ use Rattle.outgoing.proofs.reversal_message.Goals as goal
 pub returns : goal.returns
 returns c =
     let xs = card_fields c.args.x c.args.batch c.args.chip c.args.v.request in
-    c.joined.ensures ∙ c.with_reason-all.ensures ∙ rw (c.with_card_fields-card.ensures, c.type_inv.ensures)
+    c.joined.ensures ∙ c.with_reason-all.ensures ∙ rw (c.with_card_fields-card.ensures, c.typed.ensures)
     (sym (all_append xs (bytes 39 (reason_code c.args.v.reason) ∷ []) (message_of 0x0400 [])))
