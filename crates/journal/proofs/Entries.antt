@@ -183,14 +183,11 @@ put_appends n e j s f h = put_last n e j (length-encode e s) h ∙ rw (written-r
 -- an entry's bytes, copied to their place
 pub put_copied : (i w : ℕ) (e : Entry) (j b x : List ℕ) → w ≡ i → entry_size * w + entry_size ≤ length j
     → length b ≡ entry_size → b ≡ encode e
-    → x ≡ take (length b) b ++ drop (length b) (take (entry_size * w + entry_size - entry_size * w) (drop (entry_size * w) j))
+    → x ≡ b
     → take (entry_size * w) j ++ (x ++ drop (entry_size * w + entry_size - entry_size * w) (drop (entry_size * w) j)) ≡ put_entry i e j
 put_copied i w e j b x q h l r m =
     let k : entry_size * w + entry_size - entry_size * w ≡ entry_size = omega arith in
-    let s = drop (entry_size * w) j in
-    let t : length (take entry_size s) ≡ entry_size = length-take-le entry_size s (rw length-drop (omega arith)) in
-    let z : drop (length b) (take entry_size s) ≡ [] = drop_of_length-le _ {i = length b} (omega arith) in
-    let y : x ≡ encode e = m ∙ rw (k, z, append-nil, take-length) r in
+    let y : x ≡ encode e = m ∙ r in
     rw (y, k, drop-drop, q) (sym (put_there i e j (rw q at h)))
 
 pub length-set_byte : (i k x : ℕ) (j : List ℕ) → length (set_byte i k x j) ≡ length j

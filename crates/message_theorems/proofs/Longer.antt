@@ -106,7 +106,7 @@ fields_stand (f ∷ fs) bm s t e h q = go (λ r. fields_stand fs bm r t e h) (sp
   where
     go : ((r : List ℕ) → read_fields fs bm r ≡ bad e → read_fields fs bm (r ++ t) ≡ bad e)
         → (g : Span) → span f bm s ≡ g → after_span f s (read_fields fs bm) g ≡ bad e → read_fields (f ∷ fs) bm (s ++ t) ≡ bad e
-    go ih (Held n p z) k q = next-bad f fs bm s t k e (ih (drop (p + z) s) (prepend-bad n (padded (room f) (take z (drop p s))) (read_fields fs bm (drop (p + z) s)) e q))
+    go ih (Held n p z) k q = next-bad f fs bm s t k e (ih (drop (p + z) s) (prepend-bad (n ∷ []) (padded (room f) (take z (drop p s))) (read_fields fs bm (drop (p + z) s)) e q))
     go ih (Refused x) k q =
         let y : x ≡ e = cc in
         let i : span f bm s ≡ Refused e = k ∙ ap Refused y in

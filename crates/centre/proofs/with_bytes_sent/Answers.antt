@@ -22,6 +22,6 @@ slice_bounds-with_bytes-end c =
 
 pub returns : goal.returns
 returns c =
-    bytes_put (whole c.args.h c.args.contents.now) c.args.n c.args.t4 c.args.count c.requires
+    bytes_put (whole c.args.h c.args.contents.now) c.args.n c.args.sent c.args.count c.requires
     c.field_into.auto.out (rw c.head_of.ensures at
     c.field_into.ensures.1) c.with_bytes.ensures

@@ -6,7 +6,7 @@ use Rattle.dump.proofs.add_named.Goals as goal
 
 pub returns-then-named : goal.returns-then-named
 returns-then-named c =
-    named-adds c.args.f c.args.t2 c.args.n c.args.bs.now
+    named-adds c.args.f c.args.bitmap c.args.n c.args.bs.now
     (sym c.named.ensures ∙
     c.if-named.true) (rw
     (c.front.ensures, c.size_of.ensures) at
@@ -14,4 +14,4 @@ returns-then-named c =
 
 pub returns : goal.returns
 returns c =
-    unnamed_adds c.args.f c.args.t2 c.args.n c.args.bs.now (sym c.named.ensures ∙ c.if-named.false)
+    unnamed_adds c.args.f c.args.bitmap c.args.n c.args.bs.now (sym c.named.ensures ∙ c.if-named.false)
