@@ -146,7 +146,8 @@ fn chip_of(b: &[u8]) -> Chip
         return Chip::none();
     }
     let mut bytes = [0u8; 255];
-    bytes.copy_from_slice(b);
+    let n = b.len();
+    bytes[..n].copy_from_slice(b);
     Chip {
         length: b.len() as u8,
         bytes: bytes,

@@ -7,6 +7,3 @@ use Rattle.desk.proofs.chip_of.Goals as goal
 
 pub returns-then-b-gt255 : goal.returns-then-b-gt255
 returns-then-b-gt255 c = λ h. absurd (omega arith)
-
-pub returns : goal.returns
-returns c = λ h. rw (c.copy_from_slice.ensures.after, take_all (length c.args.b.now) c.args.b.now (omega arith))

@@ -2,7 +2,7 @@
 use mathlib.Core.Path.{ap, ◌∙◌}
 use borrow.Author.Rules.{rules}
 use native.Mathlib.Omega.{arith}
-use mathlib.Core.Logic.{⊎_elim}
+use Rattle.traces.proofs.pass.Goals.{then-t-next, else-t-next}
 use Prim.Native.Nat.{ℕ, ◌-◌, ◌<◌}
 use lib.ListN.{length}
 use Rattle.journal.specs.Journal.{entries_of, taken_from}
@@ -26,14 +26,14 @@ pub overflow_sub-rest : goal.overflow_sub-rest
 overflow_sub-rest c =
     some_left c.trace_at-t.result c.loop-i.next.0 c.loop-i.rest c.if-t-next.true
 
+pub returns : goal.returns
+returns c = passing_done c.loop-i.invariant (omega arith)
+
 pub loop-i-preserved : goal.loop-i-preserved
 loop-i-preserved c =
     let h : c.loop-i.i < length (entries_of c.args.n c.args.journal.now) = omega arith in
     let q = trace_is c.args.n c.loop-i.i c.args.journal.now h c.trace_at-t.ensures in
-    ⊎_elim
-    (λ w. passing_met c.loop-i.invariant h q w.0.taken (ap number (w.2 ∙ w.1.ensures)) w.3)
-    (λ w. passing_other c.loop-i.invariant h q w.0.left (ap number w.1) w.2)
-    c.if-t-next.branch
-
-pub returns : goal.returns
-returns c = passing_done c.loop-i.invariant (omega arith)
+    elim c.if-t-next.branch [
+      then-t-next w ↦ passing_met c.loop-i.invariant h q w.if-t-next.true (ap number (w.next-is ∙ w.following-next.ensures)) w.rest-is
+    | else-t-next w ↦ passing_other c.loop-i.invariant h q w.if-t-next.false (ap number w.next-is) w.rest-is
+    ]
