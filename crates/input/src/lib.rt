@@ -128,10 +128,9 @@ fn refilled(left: Left, file: i32, chunk: &mut [u8]) -> Left
     if (left.from < left.end) & (left.end <= chunk.len()) {
         return left;
     }
-    let end = read_some(file, chunk);
     Left {
         from: 0,
-        end: end,
+        end: read_some(file, chunk),
     }
 }
 
