@@ -1,9 +1,0 @@
--- `rehearse::run_arguments` meets its contract.
-use Rattle.std.proofs.Common.{◌-◌, rules, arith}
-use Rattle.rehearse.proofs.run_arguments.Given as goal
-
-abbrev pub invariant-loop-i : goal.invariant-loop-i
-invariant-loop-i l = Unit {0}
-
-abbrev pub decreases-loop-i : goal.decreases-loop-i
-decreases-loop-i l = l.count - l.i
