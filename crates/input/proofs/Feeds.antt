@@ -72,6 +72,7 @@ feed-some w e = omega (arith, ltb-true (index_of 0x0A w) (length w) e)
 
 -- the bytes of c from f to e
 part-is : (f e : ℕ) (c : List ℕ) → f ≤ e → take (e - f) (drop f c) ≡ slice f e c
+unfolding slice
 part-is zero e c h = let z : e - 0 ≡ e = omega arith in rw z
 part-is (suc f) zero c h = absurd (omega arith)
 part-is (suc f) (suc e) [] h = rw take-nil
@@ -83,6 +84,7 @@ unfolding left_in
 left-within l c w = rw (le-leb _ _ w.ends)
 
 left-none : (l : Left) (c : List ℕ) → Within l c → l.from ≡ l.end → left_in l c ≡ []
+unfolding slice
 left-none l c w e = left-within l c w ∙ rw e (slice_empty l.end c)
 
 -- the test that something is left of a chunk
@@ -97,7 +99,7 @@ left_stays l c e =
     }
 
 left-empty : (l : Left) (c : List ℕ) → ltb l.from l.end && leb l.end (length c) ≡ false → left_in l c ≡ []
-unfolding left_in
+unfolding left_in slice
 left-empty l c e = go (ltb l.from l.end) (leb l.end (length c)) refl e
   where
     go : (a b : Bool) → ltb l.from l.end ≡ a → a && b ≡ false → cond b (drop l.from (take l.end c)) [] ≡ []
@@ -152,6 +154,7 @@ module _ {l m : Left} {c c2 : List ℕ} (q : Refills l c m c2) where
 
   pub takes_piece : {n : ℕ} {line grown : List ℕ} (r : Input) → Adds (before_feed piece) n line r.len grown → r.whole ≡ has_feed piece
       → r.left.from ≡ m.from + used piece → r.left.end ≡ m.end → Takes l c n line r c2 grown
+  unfolding slice
   takes_piece r a w f e =
       let v : Within r.left c2 = record { ordered = rw (f, e) piece_within; ends = rw e q.within.ends } in
       record {

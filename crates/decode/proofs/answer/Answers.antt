@@ -1,5 +1,5 @@
 -- `decode::answer` meets its contract.
-use Rattle.std.proofs.Common.{sym, ◌∙◌, rules, arith, length-take-le}
+use Rattle.std.proofs.Common.{sym, ◌∙◌, arith, length-take-le}
 use Rattle.hexadecimal.proofs.Hexadecimal.{outcome_fits}
 use Rattle.decode.proofs.answer.Goals as goal
 

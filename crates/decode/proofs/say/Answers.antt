@@ -1,5 +1,5 @@
 -- `decode::say` meets its contract.
-use Rattle.std.proofs.Common.{sym, rules, arith, length-take-le}
+use Rattle.std.proofs.Common.{sym, arith, length-take-le}
 use Rattle.texts.proofs.Texts.{start, within}
 use Rattle.decode.proofs.say.Goals as goal
 

@@ -1,5 +1,5 @@
 -- `decode::show` meets its contract.
-use Rattle.std.proofs.Common.{rules, sym, arith, length-take-le}
+use Rattle.std.proofs.Common.{sym, arith, length-take-le}
 use Rattle.texts.proofs.Texts.{start, within}
 use Rattle.decode.proofs.show.Goals as goal
 
