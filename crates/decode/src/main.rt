@@ -3,8 +3,12 @@
 
 use hexadecimal::Hex;
 use input::Input;
-use libc::{STDIN_FILENO, STDOUT_FILENO};
 use reading::ReadOutcome;
+
+// The descriptors of standard input and output.
+const STDIN: i32 = 0;
+
+const STDOUT: i32 = 1;
 
 fn main() {
     let mut chunk = io::buffer();
@@ -15,7 +19,7 @@ fn main() {
 // Answers each line before the next is read, until the input ends. A proved loop has to end, and nothing says that the
 // input does, so the loop counts its turns down.
 fn answer_all(chunk: &mut [u8], line: &mut [u8]) {
-    let mut at = Input::new(STDIN_FILENO);
+    let mut at = Input::new(STDIN);
     let mut turns = u64::MAX;
     while turns > 0 {
         at = input::next(at, chunk, line);
@@ -67,7 +71,7 @@ fn show(s: &[u8]) {
         ReadOutcome::Read => {
             let mut text = io::large_buffer();
             let n = dump::add_message(r.message, s.len() as u64, 0, &mut text);
-            io::write_all(STDOUT_FILENO, &text[..n]);
+            io::write_all(STDOUT, &text[..n]);
         }
     }
 }
@@ -86,5 +90,5 @@ fn say(before: &[u8], number: u64, after: &[u8]) {
     let mut n = texts::add(before, 0, &mut text);
     n = texts::add_decimal(number, n, &mut text);
     n = texts::add(after, n, &mut text);
-    io::write_all(STDOUT_FILENO, &text[..n]);
+    io::write_all(STDOUT, &text[..n]);
 }

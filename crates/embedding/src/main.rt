@@ -2,10 +2,12 @@
 #![tactic(auto)]
 
 use desk::Desk;
-use libc::STDOUT_FILENO;
 use numbers::Trace;
 use state::{Card, Settings};
 use terminal::{Step, Terminal};
+
+// The descriptor of standard output.
+const STDOUT: i32 = 1;
 
 // The entry limit, and the bytes of a journal for it.
 const LIMIT: u32 = 10;
@@ -89,7 +91,7 @@ fn told(name: &[u8], step: Step, message: &[u8]) -> Terminal {
     let outcome = step.outcome;
     let n = texts::add(name, 0, &mut text);
     let end = screen::add_outcome(outcome, message, n, &mut text);
-    io::write_all(STDOUT_FILENO, texts::front(&text, end));
+    io::write_all(STDOUT, texts::front(&text, end));
     step.terminal
 }
 

@@ -1,7 +1,7 @@
 // The lines of a file or of standard input, and the words of the line in hand.
 #![tactic(auto)]
 
-ghost use Rattle.std.specs.Prelude.{◌≡◌, true, false, length, nat_lt};
+ghost use Rattle.std.specs.Prelude.{◌≡◌, ◌≤◌, true, false, length, nat_lt};
 ghost use Rattle.words.specs.Lines.{trimmed};
 ghost use Rattle.input.specs.Input.{in_hand, words_in, Refills, Takes, NextLine};
 
@@ -128,11 +128,19 @@ fn refilled(left: Left, file: i32, chunk: &mut [u8]) -> Left
     if (left.from < left.end) & (left.end <= chunk.len()) {
         return left;
     }
-    let got = libc::read(file, chunk);
     Left {
         from: 0,
-        end: io::count(got, chunk),
+        end: read_some(file, chunk),
     }
+}
+
+// What the file brings next, at the front of the chunk, and how many bytes that is: one, or none where nothing more comes. A read
+// that is to fill more than one byte waits until it has, and so for a line that has not come, before the line in hand is answered.
+fn read_some(file: i32, chunk: &mut [u8]) -> usize
+    ensures { result ≤ length chunk.new }
+{
+    let n = if chunk.len() == 0 { 0 } else { 1 };
+    io::read_full(file, &mut chunk[..n])
 }
 
 // Takes what is left of the chunk, or what a read brings, into the line, up to a line feed.

@@ -2,10 +2,12 @@
 #![tactic(auto)]
 
 use field::Class;
-use libc::STDOUT_FILENO;
 use message::{Contents, Located, Message};
 use reading::ReadOutcome;
 use writing::Writing;
+
+// The descriptor of standard output.
+const STDOUT: i32 = 1;
 
 // A sale of 12,000 fen, trace 1, batch 1.
 const SALE: [u8; 77] = [
@@ -62,7 +64,7 @@ const NEAR_KEYS: [u8; 15] = [23, 24, 25, 39, 40, 41, 55, 56, 57, 59, 60, 61, 83,
 const ALL_FIELDS: [u8; 8] = [0x70, 0x3E, 0x04, 0x81, 0x0E, 0xD1, 0x86, 0x1F];
 
 fn say(text: &[u8]) {
-    io::write_all(STDOUT_FILENO, text);
+    io::write_all(STDOUT, text);
 }
 
 fn wide(x: u8) -> u64 {
@@ -71,7 +73,7 @@ fn wide(x: u8) -> u64 {
 
 fn show_number(x: u64) {
     say(b" ");
-    io::print_decimal(STDOUT_FILENO, x);
+    io::print_decimal(STDOUT, x);
 }
 
 // 0 where a message was read, else the refusal number.
@@ -86,7 +88,7 @@ fn show_reading(s: &[u8]) {
 
 fn show_refusal(e: u8) {
     say(b" r");
-    io::print_decimal(STDOUT_FILENO, wide(e));
+    io::print_decimal(STDOUT, wide(e));
 }
 
 // The length of what was written, or the refusal number after an r.
@@ -115,7 +117,7 @@ fn show_damaged(s: &[u8], i: usize, b: u8) {
     if n <= 80 {
         if i < n {
             let mut copy = [0u8; 80];
-            copy.copy_from_slice(s);
+            copy[..n].copy_from_slice(s);
             copy[i] = b;
             show_reading(&copy[..n]);
         }
@@ -139,7 +141,7 @@ fn long_copy(s: &[u8]) {
     let n = s.len();
     if n < 80 {
         let mut longer = [0u8; 80];
-        longer.copy_from_slice(s);
+        longer[..n].copy_from_slice(s);
         let more = n + 1;
         show_reading(&longer[..more]);
         show_reading(&longer);
@@ -194,7 +196,7 @@ fn round_trip(m: Message) {
             let back = r.message;
             let mut second = [0xEEu8; 620];
             show_writing(writing::write(back, &mut second));
-            if check::same(&first, &second) {
+            if digits::same(&first, &second) {
                 say(b" same");
             }
         }

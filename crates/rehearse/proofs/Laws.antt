@@ -1,9 +1,5 @@
 -- Laws of what a line of a script does.
-use mathlib.Core.Path.{◌≡◌, refl, sym, ap, subst, ◌∙◌}
-use mathlib.Core.List.{List}
-use mathlib.Core.Bool.{Bool, true, false, cond}
-use Prim.Native.Nat.{ℕ}
-use lib.Dec.{eqb}
+use Rattle.std.proofs.Common.{◌≡◌, refl, sym, ap, subst, ◌∙◌, List, Bool, true, false, cond, ℕ, eqb}
 use Rattle.message.specs.declared.Message.{Message}
 use Rattle.state.specs.Calls.{Lent, Result}
 use Rattle.calls.specs.declared.Call.{Call}

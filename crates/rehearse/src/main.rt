@@ -12,9 +12,17 @@ ghost use Rattle.rehearse.specs.Scripts.{echoed, answered, Rehearses};
 
 use commands::Acted;
 use input::Input;
-use libc::{STDIN_FILENO, STDOUT_FILENO};
 use stage::Rehearsal;
+use std::env;
+use std::env::Args;
+use std::fs::File;
+use std::os::fd::AsRawFd;
 use terminal::Terminal;
+
+// The descriptors of standard input and output.
+const STDIN: i32 = 0;
+
+const STDOUT: i32 = 1;
 
 // Room for 1,000 entries, so that a limit above 300 is judged by rule 2 up to there, and by rule 1 beyond.
 const JOURNAL: usize = 1000 * Terminal::ENTRY;
@@ -26,42 +34,37 @@ struct Stopped {
     rehearsal: Rehearsal,
 }
 
-fn main() {
-    if os::arg_count() < 2 {
-        rehearse(STDIN_FILENO);
-        return;
+fn main(rt: HostRuntime) -> std::io::Result<()> {
+    let arguments = env::args(&rt)?;
+    if arguments.len() < 2 {
+        rehearse(STDIN);
+        return Ok(());
     }
-    run_arguments();
+    run_arguments(&rt, arguments);
+    Ok(())
 }
 
-// Runs each script that an argument names.
-fn run_arguments() {
-    let count = os::arg_count();
-    let mut i = 1;
-    while i < count {
-        run_argument(i);
-        i += 1;
+// Runs each script that an argument names; the first argument is the program.
+fn run_arguments(rt: &HostRuntime, arguments: Args) {
+    for path in arguments.skip(1) {
+        run(rt, &path);
     }
 }
 
-fn run_argument(i: usize) {
-    let mut path = io::buffer();
-    let length = os::arg(i, &mut path);
-    run(&path[..length]);
-}
-
-// Runs the script in a file, or says why it cannot.
-fn run(path: &[u8]) {
-    let file = os::open_read(path);
-    if file < 0 {
-        os::fail(path);
-        return;
+// Runs the script in a file, or says why it cannot. The file is open until it has been rehearsed.
+fn run(rt: &HostRuntime, path: &str) {
+    match File::open(rt, path) {
+        Ok(file) => {
+            io::write_all(STDOUT, b"# ");
+            io::write_all(STDOUT, path.as_bytes());
+            io::write_all(STDOUT, b"\n");
+            rehearse(file.as_raw_fd());
+        }
+        // Where that cannot be written either, the next script goes on.
+        Err(error) => {
+            let _ = eprintln!(rt; "{path}: {error}");
+        }
     }
-    io::write_all(STDOUT_FILENO, b"# ");
-    io::write_all(STDOUT_FILENO, path);
-    io::write_all(STDOUT_FILENO, b"\n");
-    rehearse(file);
-    libc::close(file);
 }
 
 // Rehearses the script in an open file.
@@ -89,7 +92,7 @@ fn rehearse_lines(r: Rehearsal, input: Input, chunk: &mut [u8]) -> Stopped
         write_echo(rehearsal, at, &line);
         let acted = answer(rehearsal, at, &line, &mut journal, &mut message, &mut text);
         let n = acted.written;
-        io::write_all(STDOUT_FILENO, &text[..n]);
+        io::write_all(STDOUT, &text[..n]);
         rehearsal = acted.rehearsal;
         if at.ended {
             break;
@@ -106,7 +109,7 @@ fn rehearse_lines(r: Rehearsal, input: Input, chunk: &mut [u8]) -> Stopped
 fn write_echo(r: Rehearsal, at: Input, line: &[u8]) {
     let mut text = [0u8; 4099];
     let n = echoed(r, at, line, &mut text);
-    io::write_all(STDOUT_FILENO, &text[..n]);
+    io::write_all(STDOUT, &text[..n]);
 }
 
 // Echoes the line in hand where echo is on; what is to be written stands at the front of text.

@@ -6,8 +6,12 @@ mod integers;
 
 use hexadecimal::Hex;
 use input::Input;
-use libc::{STDIN_FILENO, STDOUT_FILENO};
 use state::Outcome;
+
+// The descriptors of standard input and output.
+const STDIN: i32 = 0;
+
+const STDOUT: i32 = 1;
 
 // Adds a name and a number to a text of n bytes in out, and gives the new number of bytes.
 fn add_named(name: &[u8], x: u64, n: usize, out: &mut [u8]) -> usize {
@@ -25,7 +29,7 @@ fn add_outcome(o: Outcome, n: usize, out: &mut [u8]) -> usize {
 
 // Adds what a call left of these bytes: `same`, or the bytes in hexadecimal.
 fn add_bytes(before: &[u8], after: &[u8], n: usize, out: &mut [u8]) -> usize {
-    if check::same(before, after) {
+    if digits::same(before, after) {
         return texts::add(b" same", n, out);
     }
     let next = texts::add(b" ", n, out);
@@ -40,7 +44,7 @@ fn say(s: &[u8], outcome: Outcome, state: &[u8], blank: &[u8], journal: &[u8], m
     n = add_bytes(cases::journal_of(s), journal, n, &mut text);
     n = add_bytes(blank, message, n, &mut text);
     n = texts::add(b"\n", n, &mut text);
-    io::write_all(STDOUT_FILENO, texts::front(&text, n));
+    io::write_all(STDOUT, texts::front(&text, n));
 }
 
 fn show(s: &[u8], blank: &[u8], journal: &mut [u8], message: &mut [u8]) {
@@ -77,7 +81,7 @@ fn complain(number: u64, reason: &[u8]) {
     let mut text = [0u8; 64];
     let mut n = add_named(b"error line ", number, 0, &mut text);
     n = texts::add(reason, n, &mut text);
-    io::write_all(STDOUT_FILENO, texts::front(&text, n));
+    io::write_all(STDOUT, texts::front(&text, n));
 }
 
 fn complain_of_length(number: u64) {
@@ -118,7 +122,7 @@ fn answer_line(at: Input, line: &[u8]) {
 // Answers each line before the next is read, until the input ends. A proved loop has to end, and nothing says that the
 // input does, so the loop counts its turns down.
 fn answer_all(chunk: &mut [u8], line: &mut [u8]) {
-    let mut at = Input::new(STDIN_FILENO);
+    let mut at = Input::new(STDIN);
     let mut turns = u64::MAX;
     while turns > 0 {
         at = input::next(at, chunk, line);

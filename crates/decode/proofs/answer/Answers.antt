@@ -1,9 +1,6 @@
 -- `decode::answer` meets its contract.
-use mathlib.Core.Path.{sym, ◌∙◌}
-use borrow.Author.Rules.{rules}
-use native.Mathlib.Omega.{arith}
+use Rattle.std.proofs.Common.{sym, ◌∙◌, arith, length-take-le}
 use Rattle.hexadecimal.proofs.Hexadecimal.{outcome_fits}
-use lib.Seq.{length-take-le}
 use Rattle.decode.proofs.answer.Goals as goal
 
 pub slice_bounds-bytes-end : goal.slice_bounds-bytes-end

@@ -1,9 +1,6 @@
 -- `decode::say` meets its contract.
-use mathlib.Core.Path.{sym}
-use borrow.Author.Rules.{rules}
-use native.Mathlib.Omega.{arith}
+use Rattle.std.proofs.Common.{sym, arith, length-take-le}
 use Rattle.texts.proofs.Texts.{start, within}
-use lib.Seq.{length-take-le}
 use Rattle.decode.proofs.say.Goals as goal
 
 pub slice_bounds-text-end : goal.slice_bounds-text-end

@@ -1,8 +1,5 @@
 -- `decode::show` meets its contract.
-use borrow.Author.Rules.{rules}
-use mathlib.Core.Path.{sym}
-use native.Mathlib.Omega.{arith}
-use lib.Seq.{length-take-le}
+use Rattle.std.proofs.Common.{sym, arith, length-take-le}
 use Rattle.texts.proofs.Texts.{start, within}
 use Rattle.decode.proofs.show.Goals as goal
 

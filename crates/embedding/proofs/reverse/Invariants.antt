@@ -1,7 +1,5 @@
 -- `embedding::reverse` meets its contract.
-use mathlib.Core.Path.{◌≡◌, refl}
-use lib.ListN.{length}
-use borrow.Author.Rules.{rules}
+use Rattle.std.proofs.Common.{◌≡◌, refl, length, rules}
 use Rattle.embedding.proofs.reverse.Given as goal
 
 abbrev pub invariant-loop-left : goal.invariant-loop-left

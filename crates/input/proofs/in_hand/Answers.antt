@@ -1,6 +1,5 @@
 -- `input::in_hand` meets its contract.
 use Rattle.input.specs.Input.{in_hand}
-use Rattle.std.proofs.Common.{rules}
 use Rattle.input.proofs.in_hand.Goals as goal
 
 pub returns : goal.returns

@@ -1,5 +1,4 @@
 -- `input::is_too_long` meets its contract.
-use Rattle.std.proofs.Common.{rules}
 use Rattle.input.proofs.is_too_long.Goals as goal
 
 pub returns : goal.returns

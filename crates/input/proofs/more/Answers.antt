@@ -10,10 +10,13 @@ returns-then-from-end c =
     c.at_end.ensures.2 c.at_end.ensures.3 c.at_end.ensures.5 c.at_end.ensures.6 in
     (c.at_end.ensures.0, c.at_end.ensures.1, λ e. c.at_end.ensures.3, taken)
 
+pub overflow_add-result : goal.overflow_add-result
+overflow_add-result c = omega (arith, piece_within c.refilled-left.ensures)
+
 pub returns : goal.returns
 returns c = (
-      search rules,
-      refl,
-      λ e. absurd (true≢false (sym e)),
-      takes_piece c.refilled-left.ensures _ c.take_in-taken.ensures.0 c.take_in-taken.ensures.2 (rw c.take_in-taken.ensures.1) refl,
-    )
+  search rules,
+  refl,
+  λ e. absurd (true≢false (sym e)),
+  takes_piece c.refilled-left.ensures _ c.take_in-taken.ensures.0 c.take_in-taken.ensures.2 (rw c.take_in-taken.ensures.1) refl,
+)

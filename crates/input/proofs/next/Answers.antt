@@ -1,7 +1,5 @@
 -- `input::next` meets its contract.
-use Rattle.std.proofs.Common.{◌≡◌, ℕ, ◌<◌, List, [], length, refl, ◌∙◌, arith, rules}
-use Rattle.input.specs.declared.Input.{Input}
-use Rattle.input.specs.Input.{left_in, Takes}
+use Rattle.std.proofs.Common.{refl, ◌∙◌, arith, rules}
 use Rattle.input.proofs.Feeds.{takes_none, takes_all, takes-again, neither, one_of}
 use Rattle.input.proofs.next.Goals as goal
 
@@ -11,7 +9,7 @@ loop-turns-init c = (refl, refl, λ h. absurd (omega (arith, h)), λ r c l t. t,
 pub returns-then-at : goal.returns-then-at
 returns-then-at c =
     record {
-      number_is = c.more-at.ensures.1 ∙ c.loop-turns.invariant.1 ∙ c.wrapping_add_u64.ensures;
+      number_is = c.more-at.ensures.1 ∙ c.loop-turns.invariant.1 ∙ c.wrapping_add_u64.ensures.value;
       file_is = c.more-at.ensures.0 ∙ c.loop-turns.invariant.0 ∙ search rules;
       ended_is = one_of c.more-at.result.whole c.more-at.result.ended c.if-at.true c.more-at.ensures.2;
       takes = c.loop-turns.invariant.3 _ _ _ c.more-at.ensures.3;
@@ -31,7 +29,7 @@ loop-turns-preserved c =
 pub returns : goal.returns
 returns c =
     record {
-      number_is = c.at_end.ensures.1 ∙ c.loop-turns.invariant.1 ∙ c.wrapping_add_u64.ensures;
+      number_is = c.at_end.ensures.1 ∙ c.loop-turns.invariant.1 ∙ c.wrapping_add_u64.ensures.value;
       file_is = c.at_end.ensures.0 ∙ c.loop-turns.invariant.0 ∙ search rules;
       ended_is = rw (c.at_end.ensures.4, c.at_end.ensures.3);
       takes =

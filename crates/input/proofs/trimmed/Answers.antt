@@ -1,5 +1,4 @@
 -- `input::trimmed` meets its contract.
-use Rattle.std.proofs.Common.{rules}
 use Rattle.input.proofs.trimmed.Goals as goal
 
 pub returns : goal.returns

@@ -1,6 +1,5 @@
 -- `input::words_of` meets its contract.
 use Rattle.input.specs.Input.{words_in}
-use Rattle.std.proofs.Common.{rules}
 use Rattle.input.proofs.words_of.Goals as goal
 
 pub returns-then-is_skipped : goal.returns-then-is_skipped

@@ -1,6 +1,5 @@
 -- `message_vectors::largest_message` meets its contract.
-use Prim.Native.Nat.{◌-◌, ◌≤◌}
-use borrow.Author.Rules.{rules}
+use Rattle.std.proofs.Common.{◌-◌, ◌≤◌}
 use Rattle.field.specs.Table.{rows}
 use Rattle.message_vectors.proofs.largest_message.Given as goal
 

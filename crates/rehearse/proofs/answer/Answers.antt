@@ -1,9 +1,6 @@
 -- `rehearse::answer` meets its contract.
-use mathlib.Core.Path.{sym, ap, ◌∙◌}
-use mathlib.Core.List.{[]}
-use lib.ListN.{length}
+use Rattle.std.proofs.Common.{sym, ap, ◌∙◌, [], length, rules}
 use Rattle.texts.proofs.Texts.{start}
-use borrow.Author.Rules.{rules}
 use Rattle.rehearse.proofs.Scripts.{answered-long, answered-none, answered_words}
 use Rattle.rehearse.proofs.answer.Goals as goal
 

@@ -1,7 +1,6 @@
 -- `rehearse::echoed` meets its contract.
-use mathlib.Core.List.{[]}
+use Rattle.std.proofs.Common.{[], rules}
 use Rattle.texts.proofs.Texts.{start}
-use borrow.Author.Rules.{rules}
 use Rattle.rehearse.proofs.Scripts.{echoed-none, echoed_line}
 use Rattle.rehearse.proofs.echoed.Goals as goal
 

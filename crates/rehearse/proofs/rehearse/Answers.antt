@@ -1,6 +1,5 @@
 -- `rehearse::rehearse` meets its contract.
-use mathlib.Core.Path.{◌∙◌}
-use borrow.Author.Rules.{rules}
+use Rattle.std.proofs.Common.{◌∙◌, rules}
 use Rattle.rehearse.proofs.Scripts.{last_number}
 use Rattle.rehearse.proofs.rehearse.Goals as goal
 

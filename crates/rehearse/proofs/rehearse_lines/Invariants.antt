@@ -1,11 +1,5 @@
 -- `rehearse::rehearse_lines` meets its contract.
-use mathlib.Core.Path.{◌≡◌, refl, sym}
-use mathlib.Core.Bool.{false}
-use Prim.Native.Nat.{◌<◌}
-use lib.ListN.{length}
-use lib.Seq.{length-take-le}
-use borrow.Author.Rules.{rules}
-use native.Mathlib.Omega.{arith}
+use Rattle.std.proofs.Common.{◌≡◌, refl, sym, false, ◌<◌, length, length-take-le, rules, arith}
 use Rattle.texts.proofs.Texts.{within}
 use Rattle.state.specs.Calls.{lend}
 use Rattle.rehearse.proofs.Scripts.{Going, going, goes_on, ends, turned}

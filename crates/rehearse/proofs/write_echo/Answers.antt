@@ -1,7 +1,5 @@
 -- `rehearse::write_echo` meets its contract.
-use mathlib.Core.Path.{sym}
-use lib.Seq.{length-take-le}
-use borrow.Author.Rules.{rules}
+use Rattle.std.proofs.Common.{sym, length-take-le, rules}
 use Rattle.texts.proofs.Texts.{within}
 use Rattle.rehearse.proofs.write_echo.Goals as goal
 

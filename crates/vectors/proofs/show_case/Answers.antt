@@ -1,8 +1,5 @@
 -- `vectors::show_case` meets its contract.
-use mathlib.Core.Path.{sym}
-use borrow.Author.Rules.{rules}
-use lib.Seq.{length-take-le}
-use native.Mathlib.Omega.{arith}
+use Rattle.std.proofs.Common.{sym, rules, length-take-le, arith}
 use Rattle.vectors.proofs.show_case.Goals as goal
 
 pub slice_bounds-show-end : goal.slice_bounds-show-end

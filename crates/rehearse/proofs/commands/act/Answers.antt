@@ -1,8 +1,6 @@
 -- `rehearse::commands::act` meets its contract.
-use mathlib.Core.Path.{refl, sym}
-use lib.Seq.{length-take-le}
+use Rattle.std.proofs.Common.{refl, sym, length-take-le, rules}
 use Rattle.rehearse.proofs.Laws.{did, call-done, no_call-done}
-use borrow.Author.Rules.{rules}
 use Rattle.state.specs.Calls.{lend}
 use Rattle.rehearse.proofs.commands.act.Goals as goal
 

@@ -1,7 +1,6 @@
 -- `rehearse::commands::told` meets its contract.
-use mathlib.Core.List.{[]}
+use Rattle.std.proofs.Common.{[], rules}
 use Rattle.texts.proofs.Texts.{start}
-use borrow.Author.Rules.{rules}
 use Rattle.rehearse.proofs.commands.told.Goals as goal
 
 pub returns : goal.returns
