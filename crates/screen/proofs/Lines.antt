@@ -35,7 +35,7 @@ unfolding filled meant taken error_line
 error_filled n x = parts (text "error line ") (decimal n ∷ space ∷ x ∷ feed ∷ [])
 
 pub counts-filled : (c : Counts) (undecided : ℕ)
-    → filled (text "counts sent # approved # declined # reversed # given_up # unanswered # waiting #\n") (counted c undecided) []
+    → filled (text "counts sent # approved # declined # reversed # given-up # unanswered # waiting #\n") (counted c undecided) []
     ≡ counts_line c undecided
 unfolding filled meant taken counts_line value_text row first_row other_rows index_of index_after
 counts-filled c undecided =
@@ -44,7 +44,7 @@ counts-filled c undecided =
     ∷ value_text (text "approved") c.approved
     ∷ value_text (text "declined") c.declined
     ∷ value_text (text "reversed") c.reversed
-    ∷ value_text (text "given_up") c.given_up
+    ∷ value_text (text "given-up") c.given_up
     ∷ value_text (text "unanswered") c.unanswered
     ∷ value_text (text "waiting") undecided
     ∷ feed
