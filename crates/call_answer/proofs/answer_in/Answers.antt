@@ -14,7 +14,7 @@ returns-then-signs_on c =
 pub returns-in_default : goal.returns-in_default
 returns-in_default c =
     answer_unawaited _ _ c.args.s _ _ c.if-chip.false _ c.signs_on.ensures c.if-signs_on.false
-    (not_waiting c.args.s.phase c.in_default.keys2) c.refused-in_default.ensures
+    (not_waiting c.args.s.phase c.in_default.in_default-own.keys2) c.refused-in_default.ensures
 
 pub returns-then-is_answer : goal.returns-then-is_answer
 returns-then-is_answer c =

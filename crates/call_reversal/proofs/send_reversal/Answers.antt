@@ -13,7 +13,7 @@ returns-then-number-ne0 c =
 pub returns-in_default : goal.returns-in_default
 returns-in_default c =
     nothing-pending c.args.s _ _ c.idle_refusal-number.ensures _ c.if-number-ne0.false
-    (not_pending c.args.s.phase c.in_default.keys2)
+    (not_pending c.args.s.phase c.in_default.in_default-own.keys2)
     c.refused-in_default.ensures
 
 pub send-requires : goal.send-requires

@@ -11,7 +11,7 @@ returns-then-number-ne0 c =
 
 pub returns-in_default : goal.returns-in_default
 returns-in_default c =
-    no_upload c.args.s _ _ c.idle_refusal-number.ensures _ c.if-number-ne0.false (not_uploading c.args.s.phase c.in_default.keys2)
+    no_upload c.args.s _ _ c.idle_refusal-number.ensures _ c.if-number-ne0.false (not_uploading c.args.s.phase c.in_default.in_default-own.keys2)
     c.refused-in_default.ensures
 
 pub send_next-requires : goal.send_next-requires

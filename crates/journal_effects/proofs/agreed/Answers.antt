@@ -7,7 +7,7 @@ use Rattle.journal_effects.proofs.agreed.Goals as goal
 
 pub returns-in_default : goal.returns-in_default
 returns-in_default c room =
-    sym (no_request-agreed c.args.a _ _ c.in_default.keys2)
+    sym (no_request-agreed c.args.a _ _ c.in_default.in_default-own.keys2)
 
 pub returns : goal.returns
 unfolding agreed

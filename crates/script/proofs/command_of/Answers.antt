@@ -40,4 +40,4 @@ returns-in-Unknown c = rw c.in-Unknown.is
 
 pub returns-in_default : goal.returns-in_default
 returns-in_default c =
-    starting c.args.name c.args.s.now c.in_default.keys12
+    starting c.args.name c.args.s.now c.in_default.in_default-own.keys12

@@ -31,4 +31,4 @@ returns-in-Reconcile c =
 
 pub returns-in_default : goal.returns-in_default
 returns-in_default c =
-    (omega arith, λ room. no_bytes c.args.command c.args.s.now c.args.sent c.args.date c.args.batch c.in_default.keys4)
+    (omega arith, λ room. no_bytes c.args.command c.args.s.now c.args.sent c.args.date c.args.batch c.in_default.in_default-own.keys4)

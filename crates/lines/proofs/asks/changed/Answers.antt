@@ -42,4 +42,4 @@ pub returns-in_default : goal.returns-in_default
 unfolding changed_after
 returns-in_default c =
     rw (eq-eqb c.args.error 0 c.if-error-ne0.false)
-    (changes_nothing c.args.command c.args.settings c.args.r c.in_default.keys5)
+    (changes_nothing c.args.command c.args.settings c.args.r c.in_default.in_default-own.keys5)

@@ -21,4 +21,4 @@ returns-in-Refund c = rw c.in-Refund.is c.refunded.ensures
 
 pub returns-in_default : goal.returns-in_default
 returns-in_default c =
-    c.given.ensures ∙ given_as_start c.args.name c.args.s.now c.in_default.keys5
+    c.given.ensures ∙ given_as_start c.args.name c.args.s.now c.in_default.in_default-own.keys5
