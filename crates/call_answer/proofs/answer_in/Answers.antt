@@ -1,4 +1,5 @@
 -- `call_answer::answer_in` meets its contract.
+use borrow.Enum.Refused.{opened}
 use borrow.Author.Rules.{rules}
 use Rattle.state.proofs.Phases.{not_waiting}
 use Rattle.call_answer.proofs.Steps.{answer_to_card, answer-to_sign_on, answer_unawaited, answer_changes, answer_unmatched}
@@ -14,7 +15,7 @@ returns-then-signs_on c =
 pub returns-in_default : goal.returns-in_default
 returns-in_default c =
     answer_unawaited _ _ c.args.s _ _ c.if-chip.false _ c.signs_on.ensures c.if-signs_on.false
-    (not_waiting c.args.s.phase c.in_default.in_default-own.keys2) c.refused-in_default.ensures
+    (not_waiting c.args.s.phase (opened c.in_default.in_default-own.keys2)) c.refused-in_default.ensures
 
 pub returns-then-is_answer : goal.returns-then-is_answer
 returns-then-is_answer c =

@@ -1,4 +1,5 @@
 -- `call_reversal::send_reversal` meets its contract.
+use borrow.Enum.Refused.{opened}
 use mathlib.Core.Path.{◌≡◌}
 use borrow.Author.Rules.{rules}
 use lib.ListN.{length}
@@ -13,7 +14,7 @@ returns-then-number-ne0 c =
 pub returns-in_default : goal.returns-in_default
 returns-in_default c =
     nothing-pending c.args.s _ _ c.idle_refusal-number.ensures _ c.if-number-ne0.false
-    (not_pending c.args.s.phase c.in_default.in_default-own.keys2)
+    (not_pending c.args.s.phase (opened c.in_default.in_default-own.keys2))
     c.refused-in_default.ensures
 
 pub send-requires : goal.send-requires

@@ -1,4 +1,5 @@
 -- `call_upload::send_next_upload` meets its contract.
+use borrow.Enum.Refused.{opened}
 use mathlib.Core.Path.{sym, ◌∙◌}
 use borrow.Author.Rules.{rules}
 use Rattle.state.proofs.Phases.{not_uploading}
@@ -11,7 +12,7 @@ returns-then-number-ne0 c =
 
 pub returns-in_default : goal.returns-in_default
 returns-in_default c =
-    no_upload c.args.s _ _ c.idle_refusal-number.ensures _ c.if-number-ne0.false (not_uploading c.args.s.phase c.in_default.in_default-own.keys2)
+    no_upload c.args.s _ _ c.idle_refusal-number.ensures _ c.if-number-ne0.false (not_uploading c.args.s.phase (opened c.in_default.in_default-own.keys2))
     c.refused-in_default.ensures
 
 pub send_next-requires : goal.send_next-requires

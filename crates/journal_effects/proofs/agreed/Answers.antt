@@ -1,4 +1,5 @@
 -- `journal_effects::agreed` meets its contract.
+use borrow.Enum.Refused.{opened}
 use Rattle.std.proofs.Common.{sym, rules}
 use Rattle.effect_definitions.specs.JournalEffects.{agreed}
 use Rattle.journal_effects.proofs.Phases.{no_request-agreed}
@@ -7,7 +8,7 @@ use Rattle.journal_effects.proofs.agreed.Goals as goal
 
 pub returns-in_default : goal.returns-in_default
 returns-in_default c room =
-    sym (no_request-agreed c.args.a _ _ c.in_default.in_default-own.keys2)
+    sym (no_request-agreed c.args.a _ _ (opened c.in_default.in_default-own.keys2))
 
 pub returns : goal.returns
 unfolding agreed

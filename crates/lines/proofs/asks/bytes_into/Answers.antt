@@ -1,4 +1,5 @@
 -- `lines::asks::bytes_into` meets its contract.
+use borrow.Enum.Refused.{opened}
 use Rattle.lines.proofs.Laws.{hex_fits, hex_bytes, no_bytes, put_fits, put_front}
 use borrow.Author.Rules.{rules}
 use native.Mathlib.Omega.{arith}
@@ -31,4 +32,4 @@ returns-in-Reconcile c =
 
 pub returns-in_default : goal.returns-in_default
 returns-in_default c =
-    (omega arith, λ room. no_bytes c.args.command c.args.s.now c.args.sent c.args.date c.args.batch c.in_default.in_default-own.keys4)
+    (omega arith, λ room. no_bytes c.args.command c.args.s.now c.args.sent c.args.date c.args.batch (opened c.in_default.in_default-own.keys4))

@@ -1,4 +1,5 @@
 -- `lines::asks::changed` meets its contract.
+use borrow.Enum.Refused.{opened}
 use Rattle.lines.specs.Asks.{changed_after}
 use Rattle.lines.proofs.Laws.{changes_nothing}
 use borrow.Author.Rules.{rules}
@@ -42,4 +43,4 @@ pub returns-in_default : goal.returns-in_default
 unfolding changed_after
 returns-in_default c =
     rw (eq-eqb c.args.error 0 c.if-error-ne0.false)
-    (changes_nothing c.args.command c.args.settings c.args.r c.in_default.in_default-own.keys5)
+    (changes_nothing c.args.command c.args.settings c.args.r (opened c.in_default.in_default-own.keys5))

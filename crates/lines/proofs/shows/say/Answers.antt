@@ -1,4 +1,5 @@
 -- `lines::shows::say` meets its contract.
+use borrow.Enum.Refused.{opened}
 use mathlib.Core.List.{[]}
 use Rattle.texts.proofs.Texts.{start}
 use Rattle.lines.proofs.Laws.{says_error, says, keeps_silent}
@@ -25,4 +26,4 @@ returns-in-Wrong c =
 pub returns-in_default : goal.returns-in_default
 returns-in_default c =
     keeps_silent c.args.error c.args.number c.args.command c.args.r (lend c.args.journal.now c.args.message.now)
-    c.args.out.now c.if-error-ne0.false c.in_default.in_default-own.keys3
+    c.args.out.now c.if-error-ne0.false (opened c.in_default.in_default-own.keys3)

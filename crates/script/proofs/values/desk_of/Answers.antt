@@ -1,4 +1,5 @@
 -- `script::values::desk_of` meets its contract.
+use borrow.Enum.Refused.{opened}
 use mathlib.Core.Path.{◌∙◌}
 use Rattle.script.proofs.Starts.{given_as_start}
 use borrow.Author.Rules.{rules}
@@ -21,4 +22,4 @@ returns-in-Refund c = rw c.in-Refund.is c.refunded.ensures
 
 pub returns-in_default : goal.returns-in_default
 returns-in_default c =
-    c.given.ensures ∙ given_as_start c.args.name c.args.s.now c.in_default.in_default-own.keys5
+    c.given.ensures ∙ given_as_start c.args.name c.args.s.now (opened c.in_default.in_default-own.keys5)
