@@ -1,3 +1,2 @@
 // What is proved of the totals on a screen; no code.
 #![tactic(auto)]
-

@@ -2,8 +2,7 @@
 ghost use Rattle.std.specs.Prelude.{◌≡◌};
 ghost use Rattle.words.specs.Rows.{first_row, other_rows, rows_after, row, row_named};
 
-use crate::scan;
-use crate::word;
+use crate::{scan, word};
 
 // Row k of a table, the first being 0; empty where there are fewer.
 pub fn row(t: &[u8], k: usize) -> &[u8]

@@ -35,10 +35,10 @@ returns-then-x-gt9 c =
 
 pub loop-i-preserved : goal.loop-i-preserved
 loop-i-preserved c = (
-      search rules,
-      byte_passes c.args.n c.args.b.now c.loop-i.i c.loop-i.invariant.1 (search rules) c.if-x-gt159.false c.if-x-gt9.false,
-      filled_more c.loop-i.invariant.2 (search rules) refl,
-    )
+  search rules,
+  byte_passes c.args.n c.args.b.now c.loop-i.i c.loop-i.invariant.1 (search rules) c.if-x-gt159.false c.if-x-gt9.false,
+  filled_more c.loop-i.invariant.2 (search rules) refl,
+)
 
 pub shape_of-out-then-count-eq0 : goal.shape_of-out-then-count-eq0
 shape_of-out-then-count-eq0 c =
@@ -46,9 +46,9 @@ shape_of-out-then-count-eq0 c =
 
 pub returns-then-count-eq0 : goal.returns-then-count-eq0
 returns-then-count-eq0 c = (
-      sym (whole_even c.args.n c.args.b.now c.loop-i.i c.loop-i.invariant.1 (search rules) (search rules) c.if-count-eq0.true),
-      λ e. copied_all c.loop-i.invariant.2 (search rules) c.requires,
-    )
+  sym (whole_even c.args.n c.args.b.now c.loop-i.i c.loop-i.invariant.1 (search rules) (search rules) c.if-count-eq0.true),
+  λ e. copied_all c.loop-i.invariant.2 (search rules) c.requires,
+)
 
 pub shape_of-out : goal.shape_of-out
 shape_of-out c =
@@ -56,6 +56,6 @@ shape_of-out c =
 
 pub returns : goal.returns
 returns c = (
-      sym (whole_odd c.args.n c.args.b.now c.loop-i.i c.loop-i.invariant.1 (search rules) (search rules) c.if-count-eq0.false),
-      λ e. copied_all c.loop-i.invariant.2 (search rules) c.requires,
-    )
+  sym (whole_odd c.args.n c.args.b.now c.loop-i.i c.loop-i.invariant.1 (search rules) (search rules) c.if-count-eq0.false),
+  λ e. copied_all c.loop-i.invariant.2 (search rules) c.requires,
+)

@@ -113,7 +113,7 @@ loop-k-preserved c =
     let named = row_named _ c.requires.bytes c.table-table.ensures c.bits-bits.ensures
     no_format c.loop-k-test.true c.word_of-word.ensures c.is_set.ensures in
     elim c.if-is_set.branch [
-      then-is_set+in-Held w ↦ rw (w.counts-is, w.contents-is, w.at-is) (read_next c.loop-k.invariant a _ w.read_field-t.ensures (named ∙ w.if-is_set.true)
-      (place-start c.places-places.ensures c.loop-k-test.true) w.in-Held.is)
-    | else-is_set w ↦ rw (w.counts-is, w.contents-is, w.at-is) (read_past c.loop-k.invariant a (named ∙ w.if-is_set.false))
+      | then-is_set+in-Held w ↦ rw (w.counts-is, w.contents-is, w.at-is) (read_next c.loop-k.invariant a _ w.read_field-t.ensures (named ∙ w.if-is_set.true)
+          (place-start c.places-places.ensures c.loop-k-test.true) w.in-Held.is)
+      | else-is_set w ↦ rw (w.counts-is, w.contents-is, w.at-is) (read_past c.loop-k.invariant a (named ∙ w.if-is_set.false))
     ]

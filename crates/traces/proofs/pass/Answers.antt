@@ -34,6 +34,6 @@ loop-i-preserved c =
     let h : c.loop-i.i < length (entries_of c.args.n c.args.journal.now) = omega arith in
     let q = trace_is c.args.n c.loop-i.i c.args.journal.now h c.trace_at-t.ensures in
     elim c.if-t-next.branch [
-      then-t-next w ↦ passing_met c.loop-i.invariant h q w.if-t-next.true (ap number (w.next-is ∙ w.following-next.ensures)) w.rest-is
-    | else-t-next w ↦ passing_other c.loop-i.invariant h q w.if-t-next.false (ap number w.next-is) w.rest-is
+      | then-t-next w ↦ passing_met c.loop-i.invariant h q w.if-t-next.true (ap number (w.next-is ∙ w.following-next.ensures)) w.rest-is
+      | else-t-next w ↦ passing_other c.loop-i.invariant h q w.if-t-next.false (ap number w.next-is) w.rest-is
     ]

@@ -99,8 +99,8 @@ loop-k-preserved c =
     c.table-table.ensures c.bits-bits.ensures no_format c.loop-k-test.true
     c.word_of-word.ensures c.is_set.ensures) in
     elim c.if-is_set.branch [
-      then-is_set+else-p-ne0 w ↦
-        let st = place_of c.places-places.ensures w.wide-from.ensures c.loop-k-test.true c.loop-k.invariant.place.len in
-        rw (w.out-is, w.at-is) (putting_more c.loop-k.invariant a n w.if-is_set.true st w.put_field-p.ensures w.if-p-ne0.false w.put_field-p.auto.out)
-    | else-is_set w ↦ rw (w.out-is, w.at-is) (putting_skip c.loop-k.invariant a n w.if-is_set.false)
+      | then-is_set+else-p-ne0 w ↦
+          let st = place_of c.places-places.ensures w.wide-from.ensures c.loop-k-test.true c.loop-k.invariant.place.len in
+          rw (w.out-is, w.at-is) (putting_more c.loop-k.invariant a n w.if-is_set.true st w.put_field-p.ensures w.if-p-ne0.false w.put_field-p.auto.out)
+      | else-is_set w ↦ rw (w.out-is, w.at-is) (putting_skip c.loop-k.invariant a n w.if-is_set.false)
     ]
