@@ -1,6 +1,5 @@
 -- `call_answer::answer` meets its contract.
 use mathlib.Core.List.{[]}
-use borrow.Author.Rules.{rules}
 use Rattle.approval.proofs.Approval.{answered-small}
 use Rattle.call_definitions.proofs.Quietly.{roomy}
 use Rattle.call_answer.proofs.Steps.{answer-first-refusal, answer-unread, answer-read}

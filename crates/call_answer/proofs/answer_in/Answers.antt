@@ -1,6 +1,5 @@
 -- `call_answer::answer_in` meets its contract.
 use borrow.Enum.Refused.{opened}
-use borrow.Author.Rules.{rules}
 use Rattle.state.proofs.Phases.{not_waiting}
 use Rattle.call_answer.proofs.Steps.{answer_to_card, answer-to_sign_on, answer_unawaited, answer_changes, answer_unmatched}
 use Rattle.call_answer.proofs.answer_in.Goals as goal

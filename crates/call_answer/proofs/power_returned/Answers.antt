@@ -1,7 +1,6 @@
 -- `call_answer::power_returned` meets its contract.
 use mathlib.Core.List.{[]}
 use native.Mathlib.Omega.{arith}
-use borrow.Author.Rules.{rules}
 use Rattle.call_definitions.proofs.Quietly.{roomy}
 use Rattle.call_answer.proofs.Steps.{power_first-refusal, power_changes}
 use Rattle.call_answer.proofs.power_returned.Goals as goal

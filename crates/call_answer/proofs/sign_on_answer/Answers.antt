@@ -1,5 +1,4 @@
 -- `call_answer::sign_on_answer` meets its contract.
-use borrow.Author.Rules.{rules}
 use Rattle.call_answer.proofs.Steps.{sign_on_quiet, sign_on-refused}
 use Rattle.call_answer.proofs.sign_on_answer.Goals as goal
 

@@ -1,5 +1,4 @@
 -- `call_answer::trace_sent` meets its contract.
-use borrow.Author.Rules.{rules}
 use Rattle.call_answer.proofs.trace_sent.Goals as goal
 
 pub returns-in-Item : goal.returns-in-Item

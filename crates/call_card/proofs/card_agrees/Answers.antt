@@ -1,5 +1,4 @@
 -- `call_card::card_agrees` meets its contract.
-use borrow.Author.Rules.{rules}
 use Rattle.call_definitions.specs.Answer.{card_agrees}
 use Rattle.call_card.proofs.Steps.{word_refused, word_taken}
 use Rattle.call_card.proofs.card_agrees.Goals as goal

@@ -1,5 +1,4 @@
 -- `call_card::card_declines` meets its contract.
-use borrow.Author.Rules.{rules}
 use Rattle.call_definitions.specs.Answer.{card_declines}
 use Rattle.call_card.proofs.Steps.{word_refused, word_taken}
 use Rattle.call_card.proofs.card_declines.Goals as goal

@@ -1,6 +1,5 @@
 -- `call_card::refusal` meets its contract.
 use mathlib.Core.Path.{refl}
-use borrow.Author.Rules.{rules}
 use Rattle.checks.proofs.Choices.{first_stops, last-broken, last-kept}
 use Rattle.rules.specs.Rules.{rules12}
 use Rattle.call_card.proofs.refusal.Goals as goal

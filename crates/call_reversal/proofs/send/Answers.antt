@@ -1,5 +1,4 @@
 -- `call_reversal::send` meets its contract.
-use borrow.Author.Rules.{rules}
 use Rattle.call_reversal.proofs.Sending.{left}
 use Rattle.call_reversal.proofs.send.Goals as goal
 

@@ -1,5 +1,4 @@
 -- `call_settle::refusal` meets its contract.
-use borrow.Author.Rules.{rules}
 use Rattle.call_settle.proofs.Refusals.{stops, pends, uploads, none}
 use Rattle.call_settle.proofs.refusal.Goals as goal
 

@@ -1,5 +1,4 @@
 -- `call_sign_on::refusal` meets its contract.
-use borrow.Author.Rules.{rules}
 use Rattle.call_sign_on.proofs.Refusals.{stops, waits, none}
 use Rattle.call_sign_on.proofs.refusal.Goals as goal
 

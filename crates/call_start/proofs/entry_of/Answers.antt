@@ -1,5 +1,4 @@
 -- `call_start::entry_of` meets its contract: a place has its entry, and nowhere the blank one.
-use borrow.Author.Rules.{rules}
 use Rattle.call_start.proofs.entry_of.Goals as goal
 
 pub returns-in-At : goal.returns-in-At

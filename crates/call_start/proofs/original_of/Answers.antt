@@ -1,5 +1,4 @@
 -- `call_start::original_of` meets its contract.
-use borrow.Author.Rules.{rules}
 use Rattle.call_definitions.specs.Start.{original_of}
 use Rattle.call_start.proofs.original_of.Goals as goal
 

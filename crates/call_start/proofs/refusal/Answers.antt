@@ -1,6 +1,5 @@
 -- `call_start::refusal` meets its contract: the rules in five parts, one after another.
 use mathlib.Core.Path.{sym, ◌∙◌}
-use borrow.Author.Rules.{rules}
 use Rattle.journal.specs.Journal.{entries_of}
 use Rattle.state.specs.Calls.{lend}
 use Rattle.rules.proofs.InOrder.{fit}

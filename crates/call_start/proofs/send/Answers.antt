@@ -1,5 +1,4 @@
 -- `call_start::send` meets its contract: the message is the request's, and is written.
-use borrow.Author.Rules.{rules}
 use Rattle.call_start.proofs.Results.{leaves}
 use Rattle.call_start.proofs.send.Goals as goal
 

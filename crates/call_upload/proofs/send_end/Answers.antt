@@ -1,5 +1,4 @@
 -- `call_upload::leave_end` meets its contract.
-use borrow.Author.Rules.{rules}
 use Rattle.call_upload.proofs.Sending.{end_left}
 use Rattle.call_upload.proofs.send_end.Goals as goal
 

@@ -1,5 +1,4 @@
 -- `call_upload::send_item` meets its contract.
-use borrow.Author.Rules.{rules}
 use Rattle.call_upload.proofs.Sending.{item-left}
 use Rattle.call_upload.proofs.send_item.Goals as goal
 

@@ -1,7 +1,6 @@
 -- `call_upload::send_next_upload` meets its contract.
 use borrow.Enum.Refused.{opened}
 use mathlib.Core.Path.{sym, ◌∙◌}
-use borrow.Author.Rules.{rules}
 use Rattle.state.proofs.Phases.{not_uploading}
 use Rattle.call_upload.proofs.Sending.{turned_down, no_upload, goes_out}
 use Rattle.call_upload.proofs.send_next_upload.Goals as goal

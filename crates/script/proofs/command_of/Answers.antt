@@ -1,7 +1,5 @@
 -- `script::command_of` meets its contract.
-use borrow.Enum.Refused.{opened}
 use Rattle.script.proofs.Starts.{starting}
-use borrow.Author.Rules.{rules}
 use Rattle.script.proofs.command_of.Goals as goal
 
 pub returns-in-Request : goal.returns-in-Request
@@ -41,4 +39,4 @@ returns-in-Unknown c = rw c.in-Unknown.is
 
 pub returns-in_default : goal.returns-in_default
 returns-in_default c =
-    starting c.args.name c.args.s.now (opened c.in_default.in_default-own.keys12)
+    starting c.args.name c.args.s.now c.in_default.in_default-own.keys12

@@ -1,5 +1,4 @@
 -- `script::judged_command` meets its contract.
-use borrow.Author.Rules.{rules}
 use Rattle.script.proofs.judged_command.Goals as goal
 
 pub returns-in-Fine : goal.returns-in-Fine

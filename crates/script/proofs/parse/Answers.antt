@@ -1,6 +1,5 @@
 -- `script::parse` meets its contract.
 use Rattle.script.specs.Script.{parsed}
-use borrow.Author.Rules.{rules}
 use Rattle.script.proofs.parse.Goals as goal
 
 pub returns : goal.returns

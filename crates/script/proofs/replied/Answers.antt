@@ -1,5 +1,4 @@
 -- `script::replied` meets its contract.
-use borrow.Author.Rules.{rules}
 use Rattle.script.specs.Script.{replied_by}
 use Rattle.script.proofs.replied.Goals as goal
 

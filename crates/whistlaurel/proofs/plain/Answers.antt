@@ -1,5 +1,4 @@
 -- `whistlaurel::plain` meets its contract.
-use borrow.Author.Rules.{rules}
 use Rattle.whistlaurel.proofs.plain.Goals as goal
 
 pub returns : goal.returns

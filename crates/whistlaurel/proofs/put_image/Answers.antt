@@ -1,5 +1,4 @@
 -- `whistlaurel::put_image` meets its contract.
-use borrow.Author.Rules.{rules}
 use Rattle.interface_definitions.proofs.Leaves.{image-copied}
 use Rattle.whistlaurel.proofs.put_image.Goals as goal
 

@@ -1,5 +1,4 @@
 -- `whistlaurel::whistlaurel_field` meets its contract.
-use borrow.Author.Rules.{rules}
 use Rattle.interface_definitions.proofs.Leaves.{not_read, field-taken}
 use Rattle.whistlaurel.proofs.whistlaurel_field.Goals as goal
 

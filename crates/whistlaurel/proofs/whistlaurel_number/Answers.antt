@@ -1,6 +1,4 @@
 -- `whistlaurel::whistlaurel_number` meets its contract.
-use borrow.Author.Rules.{rules}
-use borrow.Author.Tests.{not-true, not-false}
 use Rattle.interface_definitions.proofs.Leaves.{no_row, no_number, number_read}
 use Rattle.whistlaurel.proofs.whistlaurel_number.Goals as goal
 

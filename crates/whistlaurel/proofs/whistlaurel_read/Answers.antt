@@ -1,5 +1,4 @@
 -- `whistlaurel::whistlaurel_read` meets its contract.
-use borrow.Author.Rules.{rules}
 use Rattle.whistlaurel.proofs.whistlaurel_read.Goals as goal
 
 pub returns-in-Read : goal.returns-in-Read

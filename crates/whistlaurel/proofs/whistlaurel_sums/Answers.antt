@@ -1,6 +1,4 @@
 -- `whistlaurel::whistlaurel_sums` meets its contract.
-use borrow.Author.Rules.{rules}
-use borrow.Author.Tests.{not-true, not-false}
 use Rattle.interface_definitions.proofs.Leaves.{no_sums, sums-refused, sums-read}
 use Rattle.whistlaurel.proofs.whistlaurel_sums.Goals as goal
 

@@ -1,6 +1,4 @@
 -- `whistlaurel::whistlaurel_totals` meets its contract.
-use borrow.Author.Rules.{rules}
-use borrow.Author.Tests.{not-true, not-false}
 use Rattle.interface_definitions.proofs.Leaves.{no_totals, totals-read}
 use Rattle.whistlaurel.proofs.whistlaurel_totals.Goals as goal
 

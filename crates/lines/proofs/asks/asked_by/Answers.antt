@@ -1,5 +1,4 @@
 -- `lines::asks::asked_by` meets its contract.
-use borrow.Author.Rules.{rules}
 use Rattle.lines.proofs.asks.asked_by.Goals as goal
 
 pub returns-in-Call : goal.returns-in-Call

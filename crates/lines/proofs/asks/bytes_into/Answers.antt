@@ -1,7 +1,6 @@
 -- `lines::asks::bytes_into` meets its contract.
 use borrow.Enum.Refused.{opened}
 use Rattle.lines.proofs.Laws.{hex_fits, hex_bytes, no_bytes, put_fits, put_front}
-use borrow.Author.Rules.{rules}
 use native.Mathlib.Omega.{arith}
 use Rattle.lines.proofs.asks.bytes_into.Goals as goal
 

@@ -2,7 +2,6 @@
 use borrow.Enum.Refused.{opened}
 use Rattle.lines.specs.Asks.{changed_after}
 use Rattle.lines.proofs.Laws.{changes_nothing}
-use borrow.Author.Rules.{rules}
 use borrow.Author.Tests.{eq-eqb, ne_eqb}
 use Rattle.lines.proofs.asks.changed.Goals as goal
 

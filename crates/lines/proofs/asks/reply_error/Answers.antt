@@ -1,5 +1,4 @@
 -- `lines::asks::reply_error` meets its contract.
-use borrow.Author.Rules.{rules}
 use Rattle.lines.specs.Asks.{reply_error}
 use Rattle.lines.proofs.asks.reply_error.Goals as goal
 

@@ -1,7 +1,6 @@
 -- `lines::shows::add_fault` meets its contract.
 use mathlib.Core.List.{[]}
 use Rattle.texts.proofs.Texts.{start}
-use borrow.Author.Rules.{rules}
 use Rattle.lines.proofs.shows.add_fault.Goals as goal
 
 pub returns-in-Unknown : goal.returns-in-Unknown

@@ -2,7 +2,6 @@
 use mathlib.Core.List.{[]}
 use Rattle.texts.proofs.Texts.{start}
 use Rattle.lines.proofs.Laws.{word_fault}
-use borrow.Author.Rules.{rules}
 use Rattle.lines.proofs.shows.add_word_fault.Goals as goal
 
 pub returns : goal.returns

@@ -1,5 +1,4 @@
 -- `lines::shows::last_message` meets its contract.
-use borrow.Author.Rules.{rules}
 use Rattle.lines.proofs.shows.last_message.Goals as goal
 
 pub returns : goal.returns

@@ -2,7 +2,6 @@
 use Rattle.lines.proofs.Laws.{no_fields, some-fields}
 use mathlib.Core.List.{[]}
 use Rattle.texts.proofs.Texts.{start}
-use borrow.Author.Rules.{rules}
 use Rattle.lines.proofs.shows.put_fields.Goals as goal
 
 pub returns-then-b-eq0 : goal.returns-then-b-eq0

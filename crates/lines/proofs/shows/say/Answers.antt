@@ -3,7 +3,6 @@ use borrow.Enum.Refused.{opened}
 use mathlib.Core.List.{[]}
 use Rattle.texts.proofs.Texts.{start}
 use Rattle.lines.proofs.Laws.{says_error, says, keeps_silent}
-use borrow.Author.Rules.{rules}
 use Rattle.state.specs.Calls.{lend}
 use Rattle.lines.proofs.shows.say.Goals as goal
 

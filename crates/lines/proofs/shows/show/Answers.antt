@@ -2,7 +2,6 @@
 use Rattle.lines.proofs.Laws.{shows}
 use mathlib.Core.List.{[]}
 use Rattle.texts.proofs.Texts.{start}
-use borrow.Author.Rules.{rules}
 use Rattle.state.specs.Calls.{lend}
 use Rattle.lines.proofs.shows.show.Goals as goal
 

@@ -2,7 +2,6 @@
 use Rattle.grammar.proofs.Tables.{entry_at, past-entries}
 use Rattle.script.specs.Names.{names}
 use Rattle.script.specs.declared.Name.TheVariants.{Unknown}
-use borrow.Author.Rules.{rules}
 use native.Mathlib.Omega.{arith}
 use Rattle.script.proofs.names.name_at.Goals as goal
 

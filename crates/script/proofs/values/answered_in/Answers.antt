@@ -1,6 +1,5 @@
 -- `script::values::answered_in` meets its contract.
 use mathlib.Core.Path.{sym, ap, ◌∙◌}
-use borrow.Author.Rules.{rules}
 use Rattle.script.specs.Script.{answered_of, answered_in}
 use Rattle.script.proofs.values.answered_in.Goals as goal
 

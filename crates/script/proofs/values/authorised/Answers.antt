@@ -1,5 +1,4 @@
 -- `script::values::authorised` meets its contract.
-use borrow.Author.Rules.{rules}
 use Rattle.script.proofs.values.authorised.Goals as goal
 
 pub returns : goal.returns

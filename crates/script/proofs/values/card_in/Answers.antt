@@ -1,6 +1,5 @@
 -- `script::values::card_in` meets its contract.
 use mathlib.Core.Path.{sym, ◌∙◌}
-use borrow.Author.Rules.{rules}
 use native.Mathlib.Omega.{arith}
 use Rattle.script.specs.Script.{card_in}
 use Rattle.script.proofs.Says.{number-length}

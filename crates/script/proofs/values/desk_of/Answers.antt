@@ -2,7 +2,6 @@
 use borrow.Enum.Refused.{opened}
 use mathlib.Core.Path.{◌∙◌}
 use Rattle.script.proofs.Starts.{given_as_start}
-use borrow.Author.Rules.{rules}
 use Rattle.script.proofs.values.desk_of.Goals as goal
 
 pub returns-in-Request : goal.returns-in-Request

@@ -1,6 +1,5 @@
 -- `script::values::given` meets its contract.
 use Rattle.script.specs.Script.{given}
-use borrow.Author.Rules.{rules}
 use Rattle.script.proofs.values.given.Goals as goal
 
 pub returns : goal.returns

@@ -1,5 +1,4 @@
 -- `script::values::keyed` meets its contract.
-use borrow.Author.Rules.{rules}
 use Rattle.script.specs.Script.{keyed}
 use Rattle.script.proofs.Says.{written}
 use Rattle.script.proofs.values.keyed.Goals as goal

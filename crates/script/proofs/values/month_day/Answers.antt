@@ -1,6 +1,5 @@
 -- `script::values::month_day` meets its contract.
 use Prim.Native.Nat.{◌<◌}
-use borrow.Author.Rules.{rules}
 use native.Mathlib.Omega.{arith}
 use Rattle.script.specs.Script.{month_day}
 use Rattle.script.proofs.Says.{number-below}

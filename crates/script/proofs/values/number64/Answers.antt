@@ -1,5 +1,4 @@
 -- `script::values::number64` meets its contract.
-use borrow.Author.Rules.{rules}
 use Rattle.script.specs.Script.{number64}
 use Rattle.script.proofs.values.number64.Goals as goal
 

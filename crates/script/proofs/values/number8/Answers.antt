@@ -1,6 +1,5 @@
 -- `script::values::number8` meets its contract.
 use Prim.Native.Nat.{◌≤◌}
-use borrow.Author.Rules.{rules}
 use native.Mathlib.Omega.{arith}
 use Rattle.script.specs.Script.{number8}
 use Rattle.script.proofs.Says.{up_to-most}

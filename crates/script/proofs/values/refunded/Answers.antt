@@ -1,5 +1,4 @@
 -- `script::values::refunded` meets its contract.
-use borrow.Author.Rules.{rules}
 use Rattle.script.proofs.values.refunded.Goals as goal
 
 pub returns : goal.returns

@@ -1,5 +1,4 @@
 -- `script::values::requested` meets its contract.
-use borrow.Author.Rules.{rules}
 use Rattle.script.proofs.values.requested.Goals as goal
 
 pub returns : goal.returns

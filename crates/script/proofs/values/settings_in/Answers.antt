@@ -1,5 +1,4 @@
 -- `script::values::settings_in` meets its contract.
-use borrow.Author.Rules.{rules}
 use Rattle.script.specs.Script.{settings_in}
 use Rattle.script.proofs.Says.{written}
 use Rattle.script.proofs.values.settings_in.Goals as goal

@@ -1,5 +1,4 @@
 -- `script::values::voiding` meets its contract.
-use borrow.Author.Rules.{rules}
 use Rattle.script.proofs.values.voiding.Goals as goal
 
 pub returns : goal.returns

@@ -1,5 +1,4 @@
 -- `terminal::Terminal::answer` meets its contract.
-use borrow.Author.Rules.{rules}
 use Rattle.terminal.proofs.Terminal.answer.Goals as goal
 
 pub returns : goal.returns

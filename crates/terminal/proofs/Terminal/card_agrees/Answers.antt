@@ -1,5 +1,4 @@
 -- `terminal::Terminal::card_agrees` meets its contract.
-use borrow.Author.Rules.{rules}
 use Rattle.terminal.proofs.Terminal.card_agrees.Goals as goal
 
 pub returns : goal.returns

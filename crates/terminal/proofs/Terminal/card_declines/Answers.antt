@@ -1,5 +1,4 @@
 -- `terminal::Terminal::card_declines` meets its contract.
-use borrow.Author.Rules.{rules}
 use Rattle.terminal.proofs.Terminal.card_declines.Goals as goal
 
 pub returns : goal.returns

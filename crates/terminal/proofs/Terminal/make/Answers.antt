@@ -1,5 +1,4 @@
 -- `terminal::Terminal::make` meets its contract.
-use borrow.Author.Rules.{rules}
 use Rattle.terminal.proofs.Terminal.make.Goals as goal
 
 pub returns-in-SignOn : goal.returns-in-SignOn

@@ -1,5 +1,4 @@
 -- `terminal::Terminal::no_answer` meets its contract.
-use borrow.Author.Rules.{rules}
 use Rattle.terminal.proofs.Terminal.no_answer.Goals as goal
 
 pub returns : goal.returns

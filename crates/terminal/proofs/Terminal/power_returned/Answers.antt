@@ -1,5 +1,4 @@
 -- `terminal::Terminal::power_returned` meets its contract.
-use borrow.Author.Rules.{rules}
 use Rattle.terminal.proofs.Terminal.power_returned.Goals as goal
 
 pub returns : goal.returns

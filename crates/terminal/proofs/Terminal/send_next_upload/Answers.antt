@@ -1,5 +1,4 @@
 -- `terminal::Terminal::send_next_upload` meets its contract.
-use borrow.Author.Rules.{rules}
 use Rattle.terminal.proofs.Terminal.send_next_upload.Goals as goal
 
 pub returns : goal.returns

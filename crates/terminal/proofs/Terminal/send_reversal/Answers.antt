@@ -1,5 +1,4 @@
 -- `terminal::Terminal::send_reversal` meets its contract.
-use borrow.Author.Rules.{rules}
 use Rattle.terminal.proofs.Terminal.send_reversal.Goals as goal
 
 pub returns : goal.returns

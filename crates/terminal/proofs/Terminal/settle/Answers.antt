@@ -1,5 +1,4 @@
 -- `terminal::Terminal::settle` meets its contract.
-use borrow.Author.Rules.{rules}
 use Rattle.terminal.proofs.Terminal.settle.Goals as goal
 
 pub returns : goal.returns

@@ -1,5 +1,4 @@
 -- `terminal::Terminal::sign_on` meets its contract.
-use borrow.Author.Rules.{rules}
 use Rattle.terminal.proofs.Terminal.sign_on.Goals as goal
 
 pub returns : goal.returns

@@ -1,5 +1,4 @@
 -- `terminal::Terminal::start` meets its contract.
-use borrow.Author.Rules.{rules}
 use Rattle.terminal.proofs.Terminal.start.Goals as goal
 
 pub returns : goal.returns
