@@ -18,7 +18,7 @@ returns-in_default c =
 
 pub returns-then-is_answer : goal.returns-then-is_answer
 returns-then-is_answer c =
-    answer_changes _ _ _ _ _ c.if-chip.left _ c.signs_on.ensures c.if-signs_on.false _ c.in-Waiting.is _
+    answer_changes _ _ _ _ _ c.if-chip.false _ c.signs_on.ensures c.if-signs_on.false _ c.in-Waiting.is _
     (rw (c.batch_sent.ensures, c.trace_sent-trace.ensures) at c.is_answer.ensures) _ _ c.if-is_answer.true
     (c.answered.ensures c.requires) c.quiet.ensures
 

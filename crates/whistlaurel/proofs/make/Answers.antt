@@ -22,4 +22,4 @@ returns c =
     rw (c.number_of.ensures, c.length_of.ensures, c.put_image.ensures)
     (called c.args.image.now c.read-held.ensures (event_of c.args.call c.args.desk c.args.bytes.now)
     (lend c.args.journal.now c.args.message.now)
-    (not-false _ c.if-not-held.left) c.make-step.ensures)
+    (not-false _ c.if-not-held.false) c.make-step.ensures)
