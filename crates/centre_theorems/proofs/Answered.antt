@@ -68,7 +68,7 @@ pub record InForm (m : Message) : Type 0 where
 
 module _ (b : List ℕ) (h : HasLeft b) where
   pub in_form_lem : InForm (message_in b)
-  in_form =
+  in_form_lem =
       let m = message_in b in
       let keeps = read_keeps_formats b h.reads in
       let k : Keeps (codes 60) (field_of m 60) = rw format_60 at (keeps 60 h.batch) in
