@@ -1,9 +1,5 @@
 -- `decode::answer_all` meets its contract.
-use Rattle.std.proofs.Common.{◌≡◌, length}
 use Rattle.decode.proofs.answer_all.Given as goal
-
-abbrev pub invariant-loop-turns : goal.invariant-loop-turns
-invariant-loop-turns l = (length l.chunk ≡ length l.initial.chunk) × (length l.line ≡ length l.initial.line)
 
 abbrev pub decreases-loop-turns : goal.decreases-loop-turns
 decreases-loop-turns l = l.turns
