@@ -1,7 +1,7 @@
 /*
  * whistlaurel.h: the card terminal core of Whistlaurel, for C11 and C++.
  *
- * Link libwhistlaurel.a. It needs nothing but memcpy, memmove and memset, allocates nothing, keeps nothing between calls and does no input or
+ * Link libwhistlaurel.a. It needs nothing but memcpy and memset, allocates nothing, keeps nothing between calls and does no input or
  * output. Every function is proved to do what is said here for every value that it is handed; docs/EMBEDDING.md says in which order to
  * call them and what to store.
  *

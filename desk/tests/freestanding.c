@@ -1,8 +1,7 @@
-/* Links the library with nothing but memcpy, memmove and memset, signs on and makes a sale with a chip leave. Ends with status 0 where it does. */
+/* Links the library with nothing but memcpy and memset, signs on and makes a sale with a chip leave. Ends with status 0 where it does. */
 #include "whistlaurel.h"
 
 void *memcpy(void *restrict to, const void *restrict from, size_t size);
-void *memmove(void *to, const void *from, size_t size);
 void *memset(void *to, int byte, size_t size);
 _Noreturn void _start(void);
 
@@ -13,23 +12,6 @@ void *memcpy(void *restrict to, const void *restrict from, size_t size)
 
     for (size_t i = 0; i < size; i++) {
         out[i] = in[i];
-    }
-    return to;
-}
-
-void *memmove(void *to, const void *from, size_t size)
-{
-    volatile uint8_t *out = to;
-    const uint8_t *in = from;
-
-    if ((uintptr_t)out < (uintptr_t)in) {
-        for (size_t i = 0; i < size; i++) {
-            out[i] = in[i];
-        }
-    } else {
-        for (size_t i = size; i > 0; i--) {
-            out[i - 1] = in[i - 1];
-        }
     }
     return to;
 }

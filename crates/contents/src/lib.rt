@@ -30,7 +30,7 @@ pub fn take(class: Class, n: u8, b: &[u8], out: &mut [u8]) -> u8
             8
         }
         Class::Any => {
-            out.copy_from_slice(b);
+            digits::copy(b, out);
             0
         }
     }

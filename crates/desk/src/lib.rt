@@ -147,7 +147,7 @@ fn chip_of(b: &[u8]) -> Chip
     }
     let mut bytes = [0u8; 255];
     let n = b.len();
-    bytes[..n].copy_from_slice(b);
+    digits::copy(b, &mut bytes[..n]);
     Chip {
         length: b.len() as u8,
         bytes: bytes,

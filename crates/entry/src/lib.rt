@@ -64,11 +64,11 @@ pub fn entry_of(b: &[u8; Entry::SIZE]) -> Entry
     let mut authorisation = [0u8; 6];
     let mut reference = [0u8; 12];
     let mut reserved = [0u8; 4];
-    card.copy_from_slice(&s[14..24]);
-    date.copy_from_slice(&s[24..26]);
-    authorisation.copy_from_slice(&s[26..32]);
-    reference.copy_from_slice(&s[32..44]);
-    reserved.copy_from_slice(&s[44..48]);
+    digits::copy(&s[14..24], &mut card);
+    digits::copy(&s[24..26], &mut date);
+    digits::copy(&s[26..32], &mut authorisation);
+    digits::copy(&s[32..44], &mut reference);
+    digits::copy(&s[44..48], &mut reserved);
     let trace = trace_in(s);
     Entry {
         kind: s[0],
@@ -191,7 +191,7 @@ fn put(s: &[u8], at: usize, b: [u8; Entry::SIZE]) -> [u8; Entry::SIZE]
 {
     let mut out = b;
     let end = at + s.len();
-    out[at..end].copy_from_slice(s);
+    digits::copy(s, &mut out[at..end]);
     out
 }
 

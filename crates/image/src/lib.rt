@@ -152,7 +152,7 @@ fn put(x: &[u8], at: usize, b: [u8; SIZE]) -> [u8; SIZE]
 {
     let mut out = b;
     let end = at + x.len();
-    out[at..end].copy_from_slice(x);
+    digits::copy(x, &mut out[at..end]);
     out
 }
 
@@ -490,10 +490,10 @@ fn chip_in(v: &[u64], region: &[u8]) -> Chip
     let mut date = [0u8; 2];
     let mut authorisation = [0u8; 6];
     let mut reference = [0u8; 12];
-    field55.copy_from_slice(&region[0..255]);
-    date.copy_from_slice(&region[255..257]);
-    authorisation.copy_from_slice(&region[257..263]);
-    reference.copy_from_slice(&region[263..275]);
+    digits::copy(&region[0..255], &mut field55);
+    digits::copy(&region[255..257], &mut date);
+    digits::copy(&region[257..263], &mut authorisation);
+    digits::copy(&region[263..275], &mut reference);
     Chip {
         length: low8(v[0]),
         bytes: field55,

@@ -155,7 +155,7 @@ pub fn put_entry(journal: &mut [u8], i: u16, e: Entry)
     let end = at + Entry::SIZE;
     if end <= journal.len() {
         let b = entry::bytes_of(e);
-        journal[at..end].copy_from_slice(&b);
+        digits::copy(&b, &mut journal[at..end]);
     }
 }
 
@@ -182,7 +182,7 @@ fn bytes_at(journal: &[u8], at: usize) -> [u8; Entry::SIZE]
 {
     let mut b = [0u8; Entry::SIZE];
     let end = at + Entry::SIZE;
-    b.copy_from_slice(&journal[at..end]);
+    digits::copy(&journal[at..end], &mut b);
     b
 }
 

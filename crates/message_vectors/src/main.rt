@@ -117,7 +117,7 @@ fn show_damaged(s: &[u8], i: usize, b: u8) {
     if n <= 80 {
         if i < n {
             let mut copy = [0u8; 80];
-            copy[..n].copy_from_slice(s);
+            digits::copy(s, &mut copy[..n]);
             copy[i] = b;
             show_reading(&copy[..n]);
         }
@@ -141,7 +141,7 @@ fn long_copy(s: &[u8]) {
     let n = s.len();
     if n < 80 {
         let mut longer = [0u8; 80];
-        longer[..n].copy_from_slice(s);
+        digits::copy(s, &mut longer[..n]);
         let more = n + 1;
         show_reading(&longer[..more]);
         show_reading(&longer);

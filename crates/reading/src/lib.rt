@@ -113,7 +113,7 @@ fn bitmap_in(s: &[u8]) -> [u8; 8]
     if s.len() < 10 {
         return bitmap;
     }
-    bitmap.copy_from_slice(&s[2..10]);
+    digits::copy(&s[2..10], &mut bitmap);
     bitmap
 }
 

@@ -16,7 +16,7 @@ pub fn add(x: &[u8], n: usize, out: &mut [u8]) -> usize
     }
     let k = least(x.len(), out.len() - n);
     let end = n + k;
-    out[n..end].copy_from_slice(&x[..k]);
+    digits::copy(&x[..k], &mut out[n..end]);
     end
 }
 

@@ -411,7 +411,7 @@ fn put_image(s: State, out: &mut [u8])
     ensures { out.new ≡ image_of s }
 {
     let b = image::image_of(s);
-    out.copy_from_slice(&b);
+    digits::copy(&b, out);
 }
 
 fn length_of(o: Outcome) -> usize

@@ -98,7 +98,7 @@ fn put_message(m: Message, fields: &[u8], buf: &mut [u8])
     let bitmap = m.bitmap;
     buf[0] = (m.indicator / 256) as u8;
     buf[1] = (m.indicator % 256) as u8;
-    buf[2..10].copy_from_slice(&bitmap);
+    digits::copy(&bitmap, &mut buf[2..10]);
     let end = 10 + fields.len();
-    buf[10..end].copy_from_slice(fields);
+    digits::copy(fields, &mut buf[10..end]);
 }

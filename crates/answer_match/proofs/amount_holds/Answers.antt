@@ -1,5 +1,4 @@
 -- `answer_match::amount_holds` meets its contract.
-use borrow.Author.Rules.{rules}
 use Rattle.answer_match.specs.Match.{amount_holds}
 use Rattle.answer_match.proofs.amount_holds.Goals as goal
 

@@ -1,5 +1,4 @@
 -- `answer_match::approval_holds` meets its contract.
-use borrow.Author.Rules.{rules}
 use Rattle.answer_match.specs.Match.{approval_holds}
 use Rattle.answer_match.proofs.approval_holds.Goals as goal
 

@@ -1,5 +1,4 @@
 -- `answer_match::approves` meets its contract.
-use Rattle.answer_match.specs.Match.{approves}
 use Rattle.answer_match.proofs.approves.Goals as goal
 
 pub returns : goal.returns

@@ -1,5 +1,4 @@
 -- `answer_match::batch_in` meets its contract.
-use borrow.Author.Rules.{rules}
 use Rattle.answer_match.specs.Match.{batch_in}
 use Rattle.answer_match.proofs.batch_in.Goals as goal
 

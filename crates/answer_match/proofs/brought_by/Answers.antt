@@ -1,6 +1,5 @@
 -- `answer_match::brought_by` meets its contract.
 use mathlib.Core.Path.{sym, ◌∙◌}
-use borrow.Author.Rules.{rules}
 use native.Mathlib.Omega.{arith}
 use Rattle.numbers.proofs.Bounds.{within-bounds}
 use Rattle.answer_match.proofs.brought_by.Goals as goal

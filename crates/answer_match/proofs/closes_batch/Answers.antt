@@ -1,5 +1,4 @@
 -- `answer_match::closes_batch` meets its contract.
-use borrow.Author.Rules.{rules}
 use Rattle.answer_match.specs.Match.{closes_batch}
 use Rattle.answer_match.proofs.closes_batch.Goals as goal
 

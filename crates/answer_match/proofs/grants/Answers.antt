@@ -1,5 +1,4 @@
 -- `answer_match::grants` meets its contract.
-use borrow.Author.Rules.{rules}
 use Rattle.answer_match.specs.Match.{approves_request}
 use Rattle.answer_match.proofs.grants.Goals as goal
 

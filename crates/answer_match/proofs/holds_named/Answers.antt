@@ -1,5 +1,4 @@
 -- `answer_match::holds_named` meets its contract.
-use borrow.Author.Rules.{rules}
 use Rattle.answer_match.proofs.holds_named.Goals as goal
 
 pub returns-in-Request : goal.returns-in-Request

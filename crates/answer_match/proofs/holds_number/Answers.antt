@@ -1,5 +1,4 @@
 -- `answer_match::holds_number` meets its contract.
-use borrow.Author.Rules.{rules}
 use Rattle.answer_match.proofs.holds_number.Goals as goal
 
 pub returns : goal.returns

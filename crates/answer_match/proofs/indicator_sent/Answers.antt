@@ -1,6 +1,5 @@
 -- `answer_match::indicator_sent` meets its contract.
 use mathlib.Core.Path.{◌≡◌}
-use borrow.Author.Rules.{rules}
 use native.Mathlib.Omega.{arith}
 use Prim.Native.Nat.{ℕ, ◌≤◌}
 use Rattle.kinds.specs.Kinds.{indicator_of}

@@ -1,5 +1,4 @@
 -- `answer_match::is_answer` meets its contract.
-use borrow.Author.Rules.{rules}
 use Rattle.answer_match.specs.Match.{is_answer}
 use Rattle.answer_match.proofs.is_answer.Goals as goal
 

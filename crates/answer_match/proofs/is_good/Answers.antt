@@ -1,5 +1,4 @@
 -- `answer_match::is_good` meets its contract.
-use borrow.Author.Rules.{rules}
 use Rattle.answer_match.specs.Match.{good_mac}
 use Rattle.answer_match.proofs.is_good.Goals as goal
 

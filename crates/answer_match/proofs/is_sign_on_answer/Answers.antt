@@ -1,5 +1,4 @@
 -- `answer_match::is_sign_on_answer` meets its contract.
-use borrow.Author.Rules.{rules}
 use Rattle.answer_match.specs.Match.{is_sign_on_answer}
 use Rattle.answer_match.proofs.is_sign_on_answer.Goals as goal
 

@@ -1,5 +1,4 @@
 -- `answer_match::is_value` meets its contract.
-use borrow.Author.Rules.{rules}
 use Rattle.answer_match.proofs.is_value.Goals as goal
 
 pub returns-in-Is : goal.returns-in-Is

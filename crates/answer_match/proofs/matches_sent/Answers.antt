@@ -1,5 +1,4 @@
 -- `answer_match::matches_sent` meets its contract.
-use borrow.Author.Rules.{rules}
 use Rattle.answer_match.specs.Match.{matches_sent}
 use Rattle.answer_match.proofs.matches_sent.Goals as goal
 

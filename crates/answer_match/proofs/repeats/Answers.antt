@@ -1,5 +1,4 @@
 -- `answer_match::repeats` meets its contract.
-use borrow.Author.Rules.{rules}
 use Rattle.answer_match.specs.Match.{repeats}
 use Rattle.answer_match.proofs.repeats.Goals as goal
 

@@ -1,5 +1,4 @@
 -- `answer_match::sign_on_holds` meets its contract.
-use borrow.Author.Rules.{rules}
 use Rattle.answer_match.specs.Match.{sign_on_holds}
 use Rattle.answer_match.proofs.sign_on_holds.Goals as goal
 

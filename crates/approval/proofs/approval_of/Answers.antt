@@ -1,6 +1,5 @@
 -- `approval::approval_of` meets its contract: each part is made by itself.
 use mathlib.Core.Path.{ap, ◌∙◌}
-use borrow.Author.Rules.{rules}
 use Rattle.digits.specs.Packed.{numeral}
 use Rattle.approval.proofs.Approval.{approval_is}
 use Rattle.approval.proofs.approval_of.Goals as goal

@@ -1,5 +1,4 @@
 -- `approval::approved_entry` meets its contract.
-use borrow.Author.Rules.{rules}
 use Rattle.approval.specs.Approval.{approved_entry}
 use Rattle.approval.proofs.approved_entry.Goals as goal
 

@@ -1,5 +1,4 @@
 -- `batch_messages::item_message` meets its contract.
-use borrow.Author.Rules.{rules}
 use Rattle.batch_messages.proofs.item_message.Goals as goal
 
 pub returns : goal.returns

@@ -1,5 +1,4 @@
 -- `batch_messages::management_message` meets its contract.
-use borrow.Author.Rules.{rules}
 use Rattle.batch_messages.proofs.management_message.Goals as goal
 
 pub returns : goal.returns

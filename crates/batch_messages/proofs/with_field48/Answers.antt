@@ -1,7 +1,6 @@
 -- `batch_messages::with_field48` meets its contract.
 use mathlib.Core.List.{List, [], ◌∷◌}
 use Prim.Native.Nat.{ℕ}
-use borrow.Author.Rules.{rules}
 use Rattle.message.specs.Message.{whole}
 use Rattle.compose.proofs.Laid.{parts_put}
 use Rattle.batch_messages.proofs.with_field48.Goals as goal

@@ -1,5 +1,4 @@
 -- `centre::answered_amount` meets its contract.
-use borrow.Author.Rules.{rules}
 use Rattle.centre.specs.Centre.{answered_amount}
 use Rattle.centre.proofs.answered_amount.Goals as goal
 

@@ -1,5 +1,4 @@
 -- `centre::brought_number` meets its contract.
-use borrow.Author.Rules.{rules}
 use borrow.Author.Tests.{le-leb, lt-leb}
 use Rattle.centre.specs.Centre.{brought_number}
 use Rattle.centre.proofs.brought_number.Goals as goal

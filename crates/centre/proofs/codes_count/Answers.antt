@@ -1,6 +1,5 @@
 -- `centre::codes_count` meets its contract.
 use mathlib.Core.Path.{sym, ap, ◌∙◌}
-use borrow.Author.Rules.{rules}
 use Rattle.centre.specs.Centre.{codes_count}
 use Rattle.centre.proofs.codes_count.Goals as goal
 

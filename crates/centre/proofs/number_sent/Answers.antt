@@ -1,5 +1,4 @@
 -- `centre::number_sent` meets its contract.
-use borrow.Author.Rules.{rules}
 use Rattle.centre.proofs.number_sent.Goals as goal
 
 pub returns : goal.returns

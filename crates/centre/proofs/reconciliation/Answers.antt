@@ -1,6 +1,5 @@
 -- `centre::reconciliation` meets its contract.
 use mathlib.Core.Path.{◌∙◌}
-use borrow.Author.Rules.{rules}
 use Rattle.centre.specs.Centre.{reconciliation}
 use Rattle.centre.proofs.reconciliation.Goals as goal
 

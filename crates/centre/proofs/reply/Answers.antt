@@ -1,5 +1,4 @@
 -- `centre::reply` meets its contract.
-use borrow.Author.Rules.{rules}
 use borrow.Author.Tests.{eq-eqb, ne_eqb}
 use Rattle.centre.specs.Centre.{reply}
 use Rattle.centre.proofs.reply.Goals as goal

@@ -1,5 +1,4 @@
 -- `centre::sign_on_reply` meets its contract.
-use borrow.Author.Rules.{rules}
 use Rattle.centre.specs.Centre.{sign_on_reply}
 use Rattle.centre.proofs.sign_on_reply.Goals as goal
 

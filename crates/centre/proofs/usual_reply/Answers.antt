@@ -1,5 +1,4 @@
 -- `centre::usual_reply` meets its contract.
-use borrow.Author.Rules.{rules}
 use Rattle.centre.specs.Centre.{usual_reply}
 use Rattle.centre.proofs.usual_reply.Goals as goal
 

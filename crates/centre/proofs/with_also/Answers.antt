@@ -1,5 +1,4 @@
 -- `centre::with_also` meets its contract.
-use borrow.Author.Rules.{rules}
 use Rattle.centre.proofs.with_also.Goals as goal
 
 pub returns-in-Nothing : goal.returns-in-Nothing

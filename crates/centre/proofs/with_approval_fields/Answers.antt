@@ -1,5 +1,4 @@
 -- `centre::with_approval_fields` meets its contract.
-use borrow.Author.Rules.{rules}
 use Rattle.compose.proofs.Composed.{all_append}
 use Rattle.centre.specs.Centre.{authorisation_field, mac_field}
 use Rattle.centre.proofs.with_approval_fields.Goals as goal

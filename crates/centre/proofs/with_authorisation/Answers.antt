@@ -1,5 +1,4 @@
 -- `centre::with_authorisation` meets its contract.
-use borrow.Author.Rules.{rules}
 use Rattle.centre.proofs.with_authorisation.Goals as goal
 
 pub returns-then-is_approval-is_given : goal.returns-then-is_approval-is_given

@@ -1,5 +1,4 @@
 -- `centre::with_digits_sent` meets its contract.
-use borrow.Author.Rules.{rules}
 use Rattle.centre.proofs.with_digits_sent.Goals as goal
 
 pub returns : goal.returns

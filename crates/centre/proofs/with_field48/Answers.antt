@@ -1,7 +1,6 @@
 -- `centre::with_field48` meets its contract.
 use mathlib.Core.List.{List, [], ◌∷◌}
 use Prim.Native.Nat.{ℕ}
-use borrow.Author.Rules.{rules}
 use Rattle.message.specs.Message.{whole}
 use Rattle.parts.specs.declared.Part.TheVariants.{DebitAmount, DebitCount, CreditAmount, CreditCount}
 use Rattle.compose.proofs.Laid.{laid_put}

@@ -1,5 +1,4 @@
 -- `centre::with_key` meets its contract.
-use borrow.Author.Rules.{rules}
 use Rattle.centre.proofs.with_key.Goals as goal
 
 pub returns-then-is_approval : goal.returns-then-is_approval

@@ -1,5 +1,4 @@
 -- `centre::with_sent_fields` meets its contract.
-use borrow.Author.Rules.{rules}
 use Rattle.centre.proofs.with_sent_fields.Goals as goal
 
 pub returns : goal.returns

@@ -1,6 +1,5 @@
 -- `centre::with_trace_figures` meets its contract.
 use mathlib.Core.Path.{sym}
-use borrow.Author.Rules.{rules}
 use native.Mathlib.Omega.{arith}
 use lib.Seq.{length-take-le}
 use Rattle.message.specs.Message.{whole}

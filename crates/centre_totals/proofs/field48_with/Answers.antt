@@ -1,7 +1,6 @@
 -- `centre_totals::field48_with` meets its contract.
 use mathlib.Core.List.{List, [], ◌∷◌}
 use Prim.Native.Nat.{ℕ}
-use borrow.Author.Rules.{rules}
 use Rattle.parts.specs.Layout.{widths}
 use Rattle.parts.specs.declared.Part.TheVariants.{DebitAmount, DebitCount, CreditAmount, CreditCount}
 use Rattle.parts.proofs.Laid.{put_laid}

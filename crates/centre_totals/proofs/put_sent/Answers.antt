@@ -1,6 +1,5 @@
 -- `centre_totals::put_sent` meets its contract.
 use mathlib.Core.Path.{◌∙◌}
-use borrow.Author.Rules.{rules}
 use Rattle.centre_totals.proofs.put_sent.Goals as goal
 
 pub returns : goal.returns

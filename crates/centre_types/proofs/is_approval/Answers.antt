@@ -1,6 +1,5 @@
 -- `centre_types::is_approval` meets its contract.
 use mathlib.Core.Path.{refl}
-use borrow.Author.Rules.{rules}
 use Rattle.centre_types.specs.Types.{is_approval}
 use Rattle.centre_types.proofs.is_approval.Goals as goal
 

@@ -1,6 +1,5 @@
 -- `compose::byte_at` meets its contract.
 use mathlib.Core.Path.{sym}
-use borrow.Author.Rules.{rules}
 use Rattle.digits.proofs.Lists.{get_d_past}
 use Rattle.compose.proofs.byte_at.Goals as goal
 

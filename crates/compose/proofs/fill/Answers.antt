@@ -1,9 +1,8 @@
 -- `compose::fill` meets its contract.
 use Prim.Native.Nat.{◌-◌}
 use mathlib.Core.Path.{◌∙◌}
-use lib.ListN.{length, get_or}
 use borrow.Author.Rules.{rules}
-use Rattle.digits.proofs.Lists.{Filled, filled_none, filled_more, filled-done}
+use Rattle.digits.proofs.Lists.{filled_none, filled_more, filled-done}
 use Rattle.compose.proofs.Places.{padded-is}
 use Rattle.compose.proofs.fill.Goals as goal
 

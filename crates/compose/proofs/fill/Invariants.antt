@@ -1,10 +1,7 @@
 -- `compose::fill` meets its contract.
 use Prim.Native.Nat.{◌-◌}
-use mathlib.Core.Path.{◌∙◌}
 use lib.ListN.{length, get_or}
-use borrow.Author.Rules.{rules}
-use Rattle.digits.proofs.Lists.{Filled, filled_none, filled_more, filled-done}
-use Rattle.compose.proofs.Places.{padded-is}
+use Rattle.digits.proofs.Lists.{Filled}
 use Rattle.compose.proofs.fill.Given as goal
 
 abbrev pub invariant-loop-i : goal.invariant-loop-i

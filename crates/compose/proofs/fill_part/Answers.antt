@@ -1,5 +1,4 @@
 -- `compose::fill_part` meets its contract.
-use borrow.Author.Rules.{rules}
 use Rattle.compose.proofs.Places.{part_filled}
 use Rattle.compose.proofs.fill_part.Goals as goal
 

@@ -1,5 +1,4 @@
 -- `compose::in_form` meets its contract.
-use borrow.Author.Rules.{rules}
 use Rattle.compose.proofs.in_form.Goals as goal
 
 pub returns : goal.returns

@@ -1,5 +1,4 @@
 -- `compose::with_bytes` meets its contract.
-use borrow.Author.Rules.{rules}
 use Rattle.compose.proofs.with_bytes.Goals as goal
 
 pub returns : goal.returns

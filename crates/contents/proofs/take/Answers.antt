@@ -1,8 +1,7 @@
 -- `contents::take` meets its contract.
 use mathlib.Core.Path.{sym, ◌∙◌}
-use borrow.Author.Rules.{rules}
 use native.Mathlib.Omega.{arith}
-use Rattle.contents.proofs.Taken.{not_filled, filled, copied}
+use Rattle.contents.proofs.Taken.{not_filled, filled}
 use Rattle.contents.proofs.take.Goals as goal
 
 pub returns-then-out-b : goal.returns-then-out-b
@@ -42,4 +41,4 @@ returns-else-take_printable c =
 
 pub returns-in-Any : goal.returns-in-Any
 returns-in-Any c =
-    filled c.if-out-b.false (rw c.in-Any.is) (λ e. c.copy_from_slice.ensures.after)
+    filled c.if-out-b.false (rw c.in-Any.is) (λ e. c.copy.ensures)

@@ -1,12 +1,11 @@
 -- `contents::take_printable` meets its contract. The loop's invariant: the bytes passed are printable, and copied.
 use mathlib.Core.Path.{◌≡◌, refl, sym}
-use mathlib.Core.Bool.{◌&&◌, and-false, true≢false}
-use Prim.Native.Nat.{◌≤◌, ◌-◌}
+use mathlib.Core.Bool.{and-false, true≢false}
+use Prim.Native.Nat.{◌-◌}
 use borrow.Author.Rules.{rules}
 use borrow.Author.Tests.{le-leb, lt-leb}
-use lib.Dec.{leb}
-use lib.ListN.{length, get_or}
-use Rattle.digits.proofs.Lists.{all_fails, Passed, passed_none, passed-more, Filled, filled_none, filled_more}
+use lib.ListN.{length}
+use Rattle.digits.proofs.Lists.{all_fails, passed_none, passed-more, filled_none, filled_more}
 use Rattle.field.specs.Contents.{all_printable}
 use Rattle.contents.proofs.Packed.{copied_all}
 use Rattle.contents.proofs.take_printable.Goals as goal

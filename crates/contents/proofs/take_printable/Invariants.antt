@@ -1,14 +1,9 @@
 -- `contents::take_printable` meets its contract. The loop's invariant: the bytes passed are printable, and copied.
-use mathlib.Core.Path.{◌≡◌, refl, sym}
-use mathlib.Core.Bool.{◌&&◌, and-false, true≢false}
+use mathlib.Core.Bool.{◌&&◌}
 use Prim.Native.Nat.{◌≤◌, ◌-◌}
-use borrow.Author.Rules.{rules}
-use borrow.Author.Tests.{le-leb, lt-leb}
 use lib.Dec.{leb}
 use lib.ListN.{length, get_or}
-use Rattle.digits.proofs.Lists.{all_fails, Passed, passed_none, passed-more, Filled, filled_none, filled_more}
-use Rattle.field.specs.Contents.{all_printable}
-use Rattle.contents.proofs.Packed.{copied_all}
+use Rattle.digits.proofs.Lists.{Passed, Filled}
 use Rattle.contents.proofs.take_printable.Given as goal
 
 abbrev pub invariant-loop-i : goal.invariant-loop-i

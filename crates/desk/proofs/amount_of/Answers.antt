@@ -1,5 +1,4 @@
 -- `desk::amount_of` meets its contract: a test of the kind picks the amount.
-use borrow.Author.Rules.{rules}
 use Rattle.desk.proofs.amount_of.Goals as goal
 
 pub returns-then-takes_original : goal.returns-then-takes_original

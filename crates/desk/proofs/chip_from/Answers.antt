@@ -1,5 +1,4 @@
 -- `desk::chip_from` meets its contract.
-use borrow.Author.Rules.{rules}
 use Rattle.desk.proofs.Chips.{chip_sent}
 use Rattle.desk.proofs.chip_from.Goals as goal
 

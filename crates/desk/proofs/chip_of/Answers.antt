@@ -1,8 +1,5 @@
 -- `desk::chip_of` meets its contract.
 use native.Mathlib.Omega.{arith}
-use lib.ListN.{length}
-use lib.Seq.{take_all}
-use borrow.Author.Rules.{rules}
 use Rattle.desk.proofs.chip_of.Goals as goal
 
 pub returns-then-b-gt255 : goal.returns-then-b-gt255

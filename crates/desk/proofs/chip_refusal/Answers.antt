@@ -1,5 +1,4 @@
 -- `desk::chip_refusal` meets its contract.
-use borrow.Author.Rules.{rules}
 use Rattle.checks.specs.Checks.{first_broken}
 use Rattle.desk.proofs.chip_refusal.Goals as goal
 

@@ -1,5 +1,4 @@
 -- `desk::desk_in_form` meets its contract: each test is a call or a comparison.
-use borrow.Author.Rules.{rules}
 use Rattle.numbers.specs.Numbers.{within}
 use Rattle.desk.specs.DeskRules.{desk_in_form}
 use Rattle.desk.proofs.desk_in_form.Goals as goal

@@ -1,5 +1,4 @@
 -- `desk::desk_refusal` meets its contract: rules 15 to 17, one after another.
-use borrow.Author.Rules.{rules}
 use Rattle.numbers.specs.Numbers.{within}
 use Rattle.checks.specs.Checks.{first_broken}
 use Rattle.desk.proofs.desk_refusal.Goals as goal

@@ -1,5 +1,4 @@
 -- `desk::journal_refusal` meets its contract: rules 18 to 21, one after another.
-use borrow.Author.Rules.{rules}
 use Rattle.checks.specs.Checks.{first_broken}
 use Rattle.desk.proofs.journal_refusal.Goals as goal
 

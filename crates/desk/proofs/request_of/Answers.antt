@@ -1,5 +1,4 @@
 -- `desk::request_of` meets its contract: a test of the kind picks card, amount and original.
-use borrow.Author.Rules.{rules}
 use Rattle.desk.proofs.request_of.Goals as goal
 
 pub returns-then-takes_original : goal.returns-then-takes_original

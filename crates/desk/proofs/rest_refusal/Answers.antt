@@ -1,5 +1,4 @@
 -- `desk::not_resting` meets its contract: rules 10 to 13, one after another.
-use borrow.Author.Rules.{rules}
 use Rattle.checks.specs.Checks.{first_broken}
 use Rattle.desk.proofs.rest_refusal.Goals as goal
 

@@ -1,5 +1,4 @@
 -- `desk::sends_field55` meets its contract.
-use borrow.Author.Rules.{rules}
 use Rattle.desk.proofs.sends_field55.Goals as goal
 
 pub returns : goal.returns

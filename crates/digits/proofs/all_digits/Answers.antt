@@ -1,12 +1,12 @@
 -- `all_digits` meets its contract: each place passed holds a digit.
 use mathlib.Core.Path.{◌≡◌, sym}
-use Prim.Native.Nat.{◌-◌, ◌≤◌}
+use Prim.Native.Nat.{◌-◌}
 use lib.ListN.{length}
 use borrow.Author.Tests.{le-leb, lt-leb}
 use borrow.Author.Rules.{rules}
 use Rattle.digits.specs.Digits.{all_digits}
 use Rattle.digits.proofs.Packing.{is_digit}
-use Rattle.digits.proofs.Lists.{all_fails, Passed, passed_none, passed-more}
+use Rattle.digits.proofs.Lists.{all_fails, passed_none, passed-more}
 use Rattle.digits.proofs.all_digits.Goals as goal
 
 pub loop-i-init : goal.loop-i-init

@@ -1,7 +1,6 @@
 -- `digits_into` meets its contract: what is stored so far is the end of the digits.
-use lib.ListN.{length}
 use borrow.Author.Rules.{rules}
-use Rattle.digits.proofs.Numbers.{Spelled, spelled_none, spelled_more, spelled_done}
+use Rattle.digits.proofs.Numbers.{spelled_none, spelled_more, spelled_done}
 use Rattle.digits.proofs.digits_into.Goals as goal
 
 pub loop-i-init : goal.loop-i-init

@@ -1,6 +1,5 @@
 -- `half_at` meets its contract.
 use mathlib.Core.Path.{sym}
-use borrow.Author.Rules.{rules}
 use Rattle.digits.proofs.Packing.{half_even, half_odd, half-past}
 use Rattle.digits.proofs.half_at.Goals as goal
 

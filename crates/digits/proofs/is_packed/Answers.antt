@@ -1,10 +1,10 @@
 -- `is_packed` meets its contract: the half bytes of each byte passed are digits.
 use mathlib.Core.Path.{◌≡◌, sym}
-use Prim.Native.Nat.{◌+◌, ◌*◌, ◌-◌, ◌/◌, ◌≤◌, ◌<◌}
+use Prim.Native.Nat.{◌+◌, ◌*◌, ◌-◌, ◌/◌, ◌<◌}
 use borrow.Author.Tests.{ne_eqb}
 use borrow.Author.Rules.{rules}
-use Rattle.digits.specs.Digits.{half, half_allowed, is_packed}
-use Rattle.digits.proofs.Lists.{Passed, passed_none}
+use Rattle.digits.specs.Digits.{half, is_packed}
+use Rattle.digits.proofs.Lists.{passed_none}
 use Rattle.digits.proofs.Packing.{bytes_for_lem, half-left, half_right, digit_fails, passed_byte, packed_even, packed_odd}
 use Rattle.digits.proofs.is_packed.Goals as goal
 

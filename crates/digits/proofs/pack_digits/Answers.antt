@@ -1,10 +1,9 @@
 -- `pack_digits` meets its contract: what is stored so far is the front of the packed bytes.
 use mathlib.Core.Path.{◌∙◌}
 use Prim.Native.Nat.{◌-◌}
-use lib.ListN.{length}
 use borrow.Author.Rules.{rules}
 use Rattle.digits.specs.Digits.{packed_byte, pack}
-use Rattle.digits.proofs.Lists.{Filled, filled_none, filled_more, filled-done}
+use Rattle.digits.proofs.Lists.{filled_none, filled_more, filled-done}
 use Rattle.digits.proofs.pack_digits.Goals as goal
 
 pub loop-j-init : goal.loop-j-init

@@ -1,10 +1,8 @@
 -- `pack_digits` meets its contract: what is stored so far is the front of the packed bytes.
-use mathlib.Core.Path.{◌∙◌}
 use Prim.Native.Nat.{◌-◌}
 use lib.ListN.{length}
-use borrow.Author.Rules.{rules}
-use Rattle.digits.specs.Digits.{packed_byte, pack}
-use Rattle.digits.proofs.Lists.{Filled, filled_none, filled_more, filled-done}
+use Rattle.digits.specs.Digits.{packed_byte}
+use Rattle.digits.proofs.Lists.{Filled}
 use Rattle.digits.proofs.pack_digits.Given as goal
 
 abbrev pub invariant-loop-j : goal.invariant-loop-j

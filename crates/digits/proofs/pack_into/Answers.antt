@@ -3,7 +3,6 @@ use mathlib.Core.Path.{refl, sym, ◌∙◌}
 use mathlib.Core.Bool.{and-false}
 use native.Mathlib.Omega.{arith}
 use borrow.Author.Tests.{eq-eqb, ne_eqb}
-use borrow.Author.Rules.{rules}
 use Rattle.digits.specs.Digits.{packable}
 use Rattle.digits.proofs.Packing.{bytes_for_lem}
 use Rattle.digits.proofs.pack_into.Goals as goal

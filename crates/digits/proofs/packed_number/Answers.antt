@@ -1,10 +1,9 @@
 -- `number_in` meets its contract: 18 digits fit 64 bits.
 use mathlib.Core.Path.{sym}
-use Prim.Native.Nat.{◌-◌, ◌≤◌}
+use Prim.Native.Nat.{◌-◌}
 use native.Mathlib.Omega.{arith}
-use lib.ListN.{length}
 use borrow.Author.Rules.{rules}
-use Rattle.digits.proofs.Packed.{Told, told_none, told_more, told-fits, told-done, left_fails, right_fails, too_many}
+use Rattle.digits.proofs.Packed.{told_none, told_more, told-fits, told-done, left_fails, right_fails, too_many}
 use Rattle.digits.proofs.packed_number.Goals as goal
 
 pub returns-then-s-gt9 : goal.returns-then-s-gt9

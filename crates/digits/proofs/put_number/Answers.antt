@@ -1,7 +1,6 @@
 -- `put_number` meets its contract: what is stored so far is the end of the packed digits.
-use lib.ListN.{length}
 use borrow.Author.Rules.{rules}
-use Rattle.digits.proofs.Packed.{Spelled, spelled_none, spelled_more, spelled_done}
+use Rattle.digits.proofs.Packed.{spelled_none, spelled_more, spelled_done}
 use Rattle.digits.proofs.put_number.Goals as goal
 
 pub loop-k-init : goal.loop-k-init

@@ -3,12 +3,10 @@ use mathlib.Core.Path.{◌≡◌}
 use borrow.Author.Rules.{rules}
 use borrow.Author.Tests.{eq-eqb, ne_eqb}
 use native.Mathlib.Omega.{arith}
-use mathlib.Core.Bool.{Bool, and-false}
-use mathlib.Core.List.{List}
-use Prim.Native.Nat.{ℕ, ◌-◌, ◌≤◌}
-use lib.Dec.{eqb}
-use lib.ListN.{length, get_or}
-use Rattle.digits.proofs.Lists.{all_fails, Passed, passed_none, passed-more}
+use mathlib.Core.Bool.{and-false}
+use Prim.Native.Nat.{◌-◌}
+use lib.ListN.{length}
+use Rattle.digits.proofs.Lists.{all_fails, passed_none, passed-more}
 use Rattle.digits.specs.Lists.{same_bytes}
 use Rattle.digits.proofs.same.Invariants.{same_at}
 use Rattle.digits.proofs.same.Goals as goal

@@ -1,9 +1,8 @@
 -- `unpack_into` meets its contract: what is stored so far is the front of the digits.
 use Prim.Native.Nat.{◌-◌}
-use lib.ListN.{length}
 use borrow.Author.Rules.{rules}
-use Rattle.digits.specs.Digits.{half, unpack}
-use Rattle.digits.proofs.Lists.{Filled, filled_none, filled_more, filled-done}
+use Rattle.digits.specs.Digits.{unpack}
+use Rattle.digits.proofs.Lists.{filled_none, filled_more, filled-done}
 use Rattle.digits.proofs.unpack_into.Goals as goal
 
 pub loop-i-init : goal.loop-i-init

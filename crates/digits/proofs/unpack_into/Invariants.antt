@@ -1,9 +1,8 @@
 -- `unpack_into` meets its contract: what is stored so far is the front of the digits.
 use Prim.Native.Nat.{◌-◌}
 use lib.ListN.{length}
-use borrow.Author.Rules.{rules}
-use Rattle.digits.specs.Digits.{half, unpack}
-use Rattle.digits.proofs.Lists.{Filled, filled_none, filled_more, filled-done}
+use Rattle.digits.specs.Digits.{half}
+use Rattle.digits.proofs.Lists.{Filled}
 use Rattle.digits.proofs.unpack_into.Given as goal
 
 abbrev pub invariant-loop-i : goal.invariant-loop-i

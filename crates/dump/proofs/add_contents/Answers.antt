@@ -1,5 +1,4 @@
 -- `dump::add_contents` meets its contract.
-use borrow.Author.Rules.{rules}
 use Rattle.dump.proofs.add_contents.Goals as goal
 
 pub returns-in-Digits : goal.returns-in-Digits

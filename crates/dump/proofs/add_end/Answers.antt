@@ -1,7 +1,6 @@
 -- `dump::add_end` meets its contract.
 use Rattle.templates.specs.Template.{meant, taken, filled}
 use Rattle.dump.specs.Shown.{end_line}
-use borrow.Author.Rules.{rules}
 use Rattle.dump.proofs.add_end.Goals as goal
 
 pub returns : goal.returns

@@ -2,7 +2,6 @@
 use Rattle.texts.proofs.Texts.{and_then}
 use Rattle.templates.specs.Template.{meant, taken, filled}
 use Rattle.dump.specs.Shown.{field_line}
-use borrow.Author.Rules.{rules}
 use Rattle.dump.proofs.add_line.Goals as goal
 
 pub returns : goal.returns

@@ -1,6 +1,5 @@
 -- `dump::add_lines` meets its contract.
-use Rattle.field.specs.Table.{rows}
-use Rattle.dump.proofs.Shown.{ShownTo, shown-none, shown-more, shown-done}
+use Rattle.dump.proofs.Shown.{shown-none, shown-more, shown-done}
 use Rattle.message.proofs.Places.{at_place, place-fits}
 use Prim.Native.Nat.{◌-◌}
 use native.Mathlib.Omega.{arith}

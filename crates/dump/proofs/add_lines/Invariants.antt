@@ -1,10 +1,7 @@
 -- `dump::add_lines` meets its contract.
 use Rattle.field.specs.Table.{rows}
-use Rattle.dump.proofs.Shown.{ShownTo, shown-none, shown-more, shown-done}
-use Rattle.message.proofs.Places.{at_place, place-fits}
+use Rattle.dump.proofs.Shown.{ShownTo}
 use Prim.Native.Nat.{◌-◌}
-use native.Mathlib.Omega.{arith}
-use borrow.Author.Rules.{rules}
 use Rattle.dump.proofs.add_lines.Given as goal
 
 abbrev pub invariant-loop-k : goal.invariant-loop-k

@@ -1,7 +1,6 @@
 -- `dump::add_message` meets its contract.
 use Rattle.texts.proofs.Texts.{and_then}
 use Rattle.dump.specs.Shown.{message_text}
-use borrow.Author.Rules.{rules}
 use Rattle.dump.proofs.add_message.Goals as goal
 
 pub returns : goal.returns

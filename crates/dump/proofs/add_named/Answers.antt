@@ -1,7 +1,6 @@
 -- `dump::add_named` meets its contract.
 use Rattle.dump.proofs.Shown.{named-adds, unnamed_adds}
 use mathlib.Core.Path.{sym, ◌∙◌}
-use borrow.Author.Rules.{rules}
 use Rattle.dump.proofs.add_named.Goals as goal
 
 pub returns-then-named : goal.returns-then-named

@@ -1,6 +1,5 @@
 -- `dump::add_quoted` meets its contract.
 use Rattle.templates.specs.Template.{meant, taken, filled}
-use borrow.Author.Rules.{rules}
 use Rattle.dump.proofs.add_quoted.Goals as goal
 
 pub returns : goal.returns

@@ -1,7 +1,6 @@
 -- `echo::add_echo` meets its contract.
 use Rattle.texts.proofs.Texts.{and_then}
 use Rattle.echo.specs.Echo.{echo_line}
-use borrow.Author.Rules.{rules}
 use Rattle.echo.proofs.add_echo.Goals as goal
 
 pub returns : goal.returns

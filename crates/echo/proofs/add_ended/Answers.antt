@@ -2,7 +2,6 @@
 use borrow.Author.Tests.{eq-eqb, ne_eqb}
 use Rattle.texts.proofs.Texts.{nothing, and_then}
 use Rattle.echo.specs.Echo.{ended_word}
-use borrow.Author.Rules.{rules}
 use Rattle.echo.proofs.add_ended.Goals as goal
 
 pub returns-then-s-i-ne32 : goal.returns-then-s-i-ne32

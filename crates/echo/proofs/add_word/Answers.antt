@@ -2,7 +2,6 @@
 use mathlib.Core.Path.{sym, ◌∙◌}
 use Rattle.echo.specs.Echo.{shown_word}
 use Rattle.echo.proofs.Lines.{card_length}
-use borrow.Author.Rules.{rules}
 use Rattle.echo.proofs.add_word.Goals as goal
 
 pub add_masked-requires : goal.add_masked-requires

@@ -1,8 +1,7 @@
 -- `echo::add_words` meets its contract.
-use mathlib.Core.Path.{◌≡◌, refl}
+use mathlib.Core.Path.{refl}
 use Prim.Native.Nat.{◌-◌}
-use lib.ListN.{length}
-use Rattle.echo.proofs.Lines.{Shown, shown-none, shown-more, shown-all}
+use Rattle.echo.proofs.Lines.{shown-none, shown-more, shown-all}
 use borrow.Author.Rules.{rules}
 use Rattle.echo.proofs.add_words.Goals as goal
 

@@ -1,9 +1,8 @@
 -- `echo::add_words` meets its contract.
-use mathlib.Core.Path.{◌≡◌, refl}
+use mathlib.Core.Path.{◌≡◌}
 use Prim.Native.Nat.{◌-◌}
 use lib.ListN.{length}
-use Rattle.echo.proofs.Lines.{Shown, shown-none, shown-more, shown-all}
-use borrow.Author.Rules.{rules}
+use Rattle.echo.proofs.Lines.{Shown}
 use Rattle.echo.proofs.add_words.Given as goal
 
 abbrev pub invariant-loop-i : goal.invariant-loop-i

@@ -1,6 +1,5 @@
 -- `echo::is_card_number` meets its contract.
 use Rattle.echo.specs.Echo.{is_card_number}
-use borrow.Author.Rules.{rules}
 use Rattle.echo.proofs.is_card_number.Goals as goal
 
 pub returns : goal.returns

@@ -1,7 +1,6 @@
 -- `echo::start_after` meets its contract.
 use borrow.Author.Tests.{eq-eqb, ne_eqb}
 use Rattle.echo.specs.Echo.{start_after}
-use borrow.Author.Rules.{rules}
 use Rattle.echo.proofs.start_after.Goals as goal
 
 pub returns-then-s-i-ne32 : goal.returns-then-s-i-ne32

@@ -1,7 +1,6 @@
 -- `elements::element_size` meets its contract.
 use mathlib.Core.Path.{sym}
 use native.Mathlib.Omega.{arith}
-use borrow.Author.Rules.{rules}
 use borrow.Author.Tests.{le-leb, lt-leb}
 use Rattle.elements.proofs.Elements.{tag_small, size_none, size-judged, head_small}
 use Rattle.elements.proofs.element_size.Goals as goal

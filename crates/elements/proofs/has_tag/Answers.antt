@@ -2,9 +2,7 @@
 use mathlib.Core.Path.{sym, ◌∙◌}
 use Prim.Native.Nat.{◌-◌}
 use native.Mathlib.Omega.{arith}
-use lib.ListN.{length}
-use borrow.Author.Rules.{rules}
-use Rattle.elements.proofs.Elements.{at_place, step_fits, step_tag, Sought, sought_first, sought_done, sought_stop, sought_here, sought_more}
+use Rattle.elements.proofs.Elements.{at_place, step_fits, step_tag, sought_first, sought_done, sought_stop, sought_here, sought_more}
 use Rattle.elements.proofs.has_tag.Goals as goal
 
 pub loop-at-init : goal.loop-at-init

@@ -1,10 +1,7 @@
 -- `elements::has_tag` meets its contract.
-use mathlib.Core.Path.{sym, ◌∙◌}
 use Prim.Native.Nat.{◌-◌}
-use native.Mathlib.Omega.{arith}
 use lib.ListN.{length}
-use borrow.Author.Rules.{rules}
-use Rattle.elements.proofs.Elements.{at_place, step_fits, step_tag, Sought, sought_first, sought_done, sought_stop, sought_here, sought_more}
+use Rattle.elements.proofs.Elements.{Sought}
 use Rattle.elements.proofs.has_tag.Given as goal
 
 abbrev pub invariant-loop-at : goal.invariant-loop-at

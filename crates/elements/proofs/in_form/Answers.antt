@@ -2,9 +2,7 @@
 use mathlib.Core.Path.{sym, ◌∙◌}
 use Prim.Native.Nat.{◌-◌}
 use native.Mathlib.Omega.{arith}
-use lib.ListN.{length}
-use borrow.Author.Rules.{rules}
-use Rattle.elements.proofs.Elements.{at_place, step_fits, step_tag, Walked, walked_first, walked_done, walked_stop, walked_twice, walked_more}
+use Rattle.elements.proofs.Elements.{at_place, step_fits, step_tag, walked_first, walked_done, walked_stop, walked_twice, walked_more}
 use Rattle.elements.proofs.in_form.Goals as goal
 
 pub loop-at-init : goal.loop-at-init

@@ -1,5 +1,4 @@
 -- `elements::length_size` meets its contract.
-use borrow.Author.Rules.{rules}
 use native.Mathlib.Omega.{arith}
 use borrow.Author.Tests.{le-leb}
 use Rattle.elements.specs.Elements.{length_size}

@@ -9,5 +9,5 @@ use Rattle.entry.proofs.entry_of.Goals as goal
 pub returns : goal.returns
 returns c =
     let l : length c.args.b.now ≡ entry_size = search rules in
-    decode-copied c.args.b.now l c.trace_in-trace.ensures c.packed_number.ensures c.copy_from_slice.ensures.after c.copy_from_slice-2.ensures.after
-    c.copy_from_slice-3.ensures.after c.copy_from_slice-4.ensures.after c.copy_from_slice-5.ensures.after
+    decode-copied c.args.b.now l c.trace_in-trace.ensures c.packed_number.ensures c.copy.ensures c.copy-2.ensures
+    c.copy-3.ensures c.copy-4.ensures c.copy-5.ensures

@@ -1,5 +1,4 @@
 -- `fits` meets its contract.
-use borrow.Author.Rules.{rules}
 use Rattle.entry.specs.Entry.{decode}
 use Rattle.entry.specs.Form.{fits, keeps_voided, keeps_unmarked, keeps_resends, keeps_silent}
 use Rattle.entry.proofs.fits.Goals as goal

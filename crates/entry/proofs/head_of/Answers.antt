@@ -1,5 +1,4 @@
 -- `head_of` meets its contract.
-use borrow.Author.Rules.{rules}
 use Rattle.entry.proofs.Bytes.{head-is}
 use Rattle.entry.proofs.head_of.Goals as goal
 

@@ -2,7 +2,6 @@
 use mathlib.Core.Path.{sym, ◌∙◌}
 use native.Mathlib.Omega.{arith}
 use lib.Seq.{length-take-le}
-use borrow.Author.Rules.{rules}
 use Rattle.digits.proofs.Lists.{tail_part}
 use Rattle.entry.specs.Form.{card_in_form}
 use Rattle.numbers.proofs.Bounds.{within-bounds}

@@ -1,5 +1,4 @@
 -- `is_in_form` meets its contract.
-use borrow.Author.Rules.{rules}
 use Rattle.entry.specs.Entry.{decode}
 use Rattle.entry.specs.Form.{in_form}
 use Rattle.entry.proofs.Bytes.{amount-number}

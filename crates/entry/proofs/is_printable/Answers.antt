@@ -1,12 +1,9 @@
 -- `is_printable` meets its contract. The loop's invariant: `good` says whether each byte passed is printable.
 use mathlib.Core.Path.{◌≡◌, refl}
-use mathlib.Core.Bool.{◌&&◌}
-use Prim.Native.Nat.{◌-◌, ◌≤◌}
+use Prim.Native.Nat.{◌-◌}
 use native.Mathlib.Numerals.{add-one}
-use lib.Dec.{leb}
-use lib.ListN.{length, get_or}
+use lib.ListN.{length}
 use borrow.Author.Rules.{rules}
-use Rattle.digits.specs.Lists.{all}
 use Rattle.field.specs.Contents.{all_printable}
 use Rattle.entry.proofs.is_printable.Goals as goal
 

@@ -1,13 +1,10 @@
 -- `is_printable` meets its contract. The loop's invariant: `good` says whether each byte passed is printable.
-use mathlib.Core.Path.{◌≡◌, refl}
+use mathlib.Core.Path.{◌≡◌}
 use mathlib.Core.Bool.{◌&&◌}
 use Prim.Native.Nat.{◌-◌, ◌≤◌}
-use native.Mathlib.Numerals.{add-one}
 use lib.Dec.{leb}
 use lib.ListN.{length, get_or}
-use borrow.Author.Rules.{rules}
 use Rattle.digits.specs.Lists.{all}
-use Rattle.field.specs.Contents.{all_printable}
 use Rattle.entry.proofs.is_printable.Given as goal
 
 abbrev pub invariant-loop-i : goal.invariant-loop-i

@@ -5,4 +5,4 @@ use Rattle.entry.proofs.put.Goals as goal
 
 pub returns : goal.returns
 returns c =
-    put_is c.args.at c.args.s.now c.args.b (search rules) c.copy_from_slice.ensures.after
+    put_is c.args.at c.args.s.now c.args.b (search rules) c.copy.ensures

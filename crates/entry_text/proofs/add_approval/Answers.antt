@@ -6,7 +6,6 @@ use Rattle.templates.specs.Template.{meant, taken, filled}
 use Rattle.templates.proofs.Templates.{adds-is, and_parts}
 use Rattle.entry_text.specs.Entries.{entry_approval}
 use Rattle.entry_text.proofs.Entries.{quoted, reference-filled}
-use borrow.Author.Rules.{rules}
 use Rattle.entry_text.proofs.add_approval.Goals as goal
 
 pub returns : goal.returns

@@ -3,7 +3,6 @@ use mathlib.Core.List.{[], ◌∷◌}
 use Rattle.texts.specs.Text.{feed}
 use Rattle.templates.proofs.Templates.{and_parts}
 use Rattle.entry_text.specs.Entries.{entry_approval, entry_line}
-use borrow.Author.Rules.{rules}
 use Rattle.entry_text.proofs.add_entry.Goals as goal
 
 pub returns : goal.returns

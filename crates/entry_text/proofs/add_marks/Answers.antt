@@ -1,7 +1,6 @@
 -- `entry_text::add_marks` meets its contract.
 use Rattle.templates.proofs.Templates.{adds-is}
 use Rattle.entry_text.proofs.Entries.{marks-filled}
-use borrow.Author.Rules.{rules}
 use Rattle.entry_text.proofs.add_marks.Goals as goal
 
 pub returns : goal.returns

@@ -1,11 +1,11 @@
 -- `field::all_listed` meets its contract. The loop's invariant: the eight fields of each byte passed are listed.
 use mathlib.Core.Path.{◌≡◌, sym}
-use Prim.Native.Nat.{◌≤◌, ◌*◌, ◌-◌}
+use Prim.Native.Nat.{◌-◌}
 use borrow.Author.Rules.{rules}
 use native.Mathlib.Omega.{arith}
-use Rattle.digits.proofs.Lists.{Passed, passed_none}
+use Rattle.digits.proofs.Lists.{passed_none}
 use Rattle.field.specs.Table.{formats}
-use Rattle.field.specs.Bitmap.{listed_at, listed}
+use Rattle.field.specs.Bitmap.{listed}
 use Rattle.field.proofs.Masks.{masks, byte_passes, byte_fails}
 use Rattle.field.proofs.all_listed.Goals as goal
 

@@ -1,12 +1,11 @@
 -- `field::all_printable` meets its contract. The loop's invariant: each byte passed is printable.
 use mathlib.Core.Path.{◌≡◌, sym}
-use mathlib.Core.Bool.{◌&&◌, and-false}
-use Prim.Native.Nat.{◌≤◌, ◌-◌}
+use mathlib.Core.Bool.{and-false}
+use Prim.Native.Nat.{◌-◌}
 use borrow.Author.Rules.{rules}
 use borrow.Author.Tests.{le-leb, lt-leb}
-use lib.Dec.{leb}
-use lib.ListN.{length, get_or}
-use Rattle.digits.proofs.Lists.{all_fails, Passed, passed_none, passed-more}
+use lib.ListN.{length}
+use Rattle.digits.proofs.Lists.{all_fails, passed_none, passed-more}
 use Rattle.field.specs.Contents.{all_printable}
 use Rattle.field.proofs.all_printable.Goals as goal
 

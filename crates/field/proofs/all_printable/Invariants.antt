@@ -1,13 +1,9 @@
 -- `field::all_printable` meets its contract. The loop's invariant: each byte passed is printable.
-use mathlib.Core.Path.{◌≡◌, sym}
-use mathlib.Core.Bool.{◌&&◌, and-false}
+use mathlib.Core.Bool.{◌&&◌}
 use Prim.Native.Nat.{◌≤◌, ◌-◌}
-use borrow.Author.Rules.{rules}
-use borrow.Author.Tests.{le-leb, lt-leb}
 use lib.Dec.{leb}
 use lib.ListN.{length, get_or}
-use Rattle.digits.proofs.Lists.{all_fails, Passed, passed_none, passed-more}
-use Rattle.field.specs.Contents.{all_printable}
+use Rattle.digits.proofs.Lists.{Passed}
 use Rattle.field.proofs.all_printable.Given as goal
 
 abbrev pub invariant-loop-i : goal.invariant-loop-i

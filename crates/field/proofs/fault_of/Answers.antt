@@ -1,5 +1,4 @@
 -- `field::fault_of` meets its contract.
-use borrow.Author.Rules.{rules}
 use Rattle.field.proofs.fault_of.Goals as goal
 
 pub returns-then-is_packed : goal.returns-then-is_packed

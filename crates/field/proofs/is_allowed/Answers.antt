@@ -1,5 +1,4 @@
 -- `field::is_allowed` meets its contract.
-use borrow.Author.Rules.{rules}
 use Rattle.field.specs.Contents.{allowed}
 use Rattle.field.proofs.is_allowed.Goals as goal
 

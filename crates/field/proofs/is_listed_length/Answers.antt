@@ -1,5 +1,4 @@
 -- `field::is_listed_length` meets its contract.
-use borrow.Author.Rules.{rules}
 use Rattle.field.proofs.is_listed_length.Goals as goal
 
 pub returns-in-Codes : goal.returns-in-Codes

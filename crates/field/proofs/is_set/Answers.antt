@@ -1,7 +1,6 @@
 -- `field::is_set` meets its contract.
 use mathlib.Core.Path.{◌≡◌}
 use Prim.Native.Nat.{◌-◌, ◌%◌}
-use borrow.Author.Rules.{rules}
 use native.Mathlib.Omega.{arith}
 use Rattle.field.specs.Bitmap.{has_in}
 use Rattle.field.proofs.is_set.Goals as goal

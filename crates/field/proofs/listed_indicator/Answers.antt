@@ -1,10 +1,9 @@
 -- `field::listed_indicator` meets its contract. The loop's invariant: what is left of the list decides.
 use mathlib.Core.Path.{◌≡◌, refl, sym, ◌∙◌}
-use Prim.Native.Nat.{◌≤◌, ◌-◌}
+use Prim.Native.Nat.{◌-◌}
 use borrow.Author.Rules.{rules}
 use native.Mathlib.Omega.{arith}
-use lib.ListN.{drop}
-use Rattle.field.specs.Table.{among, indicators}
+use Rattle.field.specs.Table.{indicators}
 use Rattle.field.proofs.Formats.{among_here, among_later}
 use Rattle.field.proofs.listed_indicator.Goals as goal
 

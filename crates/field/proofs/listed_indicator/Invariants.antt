@@ -1,11 +1,8 @@
 -- `field::listed_indicator` meets its contract. The loop's invariant: what is left of the list decides.
-use mathlib.Core.Path.{◌≡◌, refl, sym, ◌∙◌}
+use mathlib.Core.Path.{◌≡◌}
 use Prim.Native.Nat.{◌≤◌, ◌-◌}
-use borrow.Author.Rules.{rules}
-use native.Mathlib.Omega.{arith}
 use lib.ListN.{drop}
 use Rattle.field.specs.Table.{among, indicators}
-use Rattle.field.proofs.Formats.{among_here, among_later}
 use Rattle.field.proofs.listed_indicator.Given as goal
 
 abbrev pub invariant-loop-i : goal.invariant-loop-i

@@ -1,5 +1,4 @@
 -- `field::size_of` meets its contract.
-use borrow.Author.Rules.{rules}
 use Rattle.field.proofs.size_of.Goals as goal
 
 pub returns-in-Digits : goal.returns-in-Digits

@@ -1,9 +1,6 @@
 -- `field::word_of` meets its contract. The loop's invariant: the bytes passed are the number's.
-use mathlib.Core.Path.{◌≡◌}
 use Prim.Native.Nat.{◌≤◌, ◌-◌}
-use borrow.Author.Rules.{rules}
-use native.Mathlib.Omega.{arith}
-use Rattle.field.proofs.Words.{Word, word_none, word_more, word_fits}
+use Rattle.field.proofs.Words.{Word}
 use Rattle.field.proofs.word_of.Given as goal
 
 abbrev pub invariant-loop-i : goal.invariant-loop-i

@@ -1,6 +1,5 @@
 -- `field_writing::put_field` meets its contract.
 use mathlib.Core.Path.{sym, ◌∙◌}
-use borrow.Author.Rules.{rules}
 use native.Mathlib.Omega.{arith}
 use Rattle.field_writing.specs.Placing.{put_fault}
 use Rattle.field_writing.proofs.Parts.{placing_refused}

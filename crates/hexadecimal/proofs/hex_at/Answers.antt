@@ -1,5 +1,4 @@
 -- `hexadecimal::hex_at` meets its contract.
-use borrow.Author.Rules.{rules}
 use borrow.Author.Tests.{eq-eqb, ne_eqb}
 use native.Mathlib.Omega.{arith}
 use Rattle.hexadecimal.specs.Hexadecimal.{hex_at}

@@ -1,5 +1,4 @@
 -- `hexadecimal::hex_byte` meets its contract.
-use borrow.Author.Rules.{rules}
 use native.Mathlib.Omega.{arith}
 use Rattle.hexadecimal.proofs.Hexadecimal.{hex_pair}
 use Rattle.hexadecimal.proofs.hex_byte.Goals as goal

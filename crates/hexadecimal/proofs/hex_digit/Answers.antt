@@ -1,5 +1,4 @@
 -- `hexadecimal::hex_digit` meets its contract.
-use borrow.Author.Rules.{rules}
 use borrow.Author.Tests.{lt-ltb, le-ltb}
 use Rattle.hexadecimal.specs.Hexadecimal.{hex_digit}
 use Rattle.hexadecimal.proofs.hex_digit.Goals as goal

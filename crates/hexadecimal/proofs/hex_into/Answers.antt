@@ -1,6 +1,5 @@
 -- `hexadecimal::hex_into` meets its contract.
 use mathlib.Core.Path.{refl, sym, ◌∙◌}
-use borrow.Author.Rules.{rules}
 use Rattle.hexadecimal.proofs.Hexadecimal.{outcome_not, outcome-long, outcome-bytes, length-from_hex}
 use lib.Seq.{length-take-le}
 use Rattle.hexadecimal.proofs.hex_into.Goals as goal

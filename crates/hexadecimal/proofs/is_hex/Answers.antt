@@ -3,9 +3,9 @@ use mathlib.Core.Path.{◌≡◌, sym}
 use borrow.Author.Rules.{rules}
 use borrow.Author.Tests.{eq-eqb, ne_eqb, lt-ltb}
 use Rattle.hexadecimal.specs.Hexadecimal.{is_hex}
-use Rattle.hexadecimal.proofs.Hexadecimal.{is_hex_digit, hex_fails}
-use Rattle.digits.proofs.Lists.{Passed, passed_none, passed-more}
-use Prim.Native.Nat.{◌≤◌, ◌<◌, ◌-◌}
+use Rattle.hexadecimal.proofs.Hexadecimal.{hex_fails}
+use Rattle.digits.proofs.Lists.{passed_none, passed-more}
+use Prim.Native.Nat.{◌<◌, ◌-◌}
 use lib.ListN.{length}
 use Rattle.hexadecimal.proofs.is_hex.Goals as goal
 

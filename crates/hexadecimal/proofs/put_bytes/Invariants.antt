@@ -1,8 +1,6 @@
 -- `hexadecimal::put_bytes` meets its contract.
-use borrow.Author.Rules.{rules}
-use Rattle.hexadecimal.specs.Hexadecimal.{from_hex}
 use Rattle.hexadecimal.proofs.Hexadecimal.{byte_at}
-use Rattle.digits.proofs.Lists.{Filled, filled_none, filled_more, filled-done}
+use Rattle.digits.proofs.Lists.{Filled}
 use Prim.Native.Nat.{◌-◌}
 use lib.ListN.{length}
 use Rattle.hexadecimal.proofs.put_bytes.Given as goal

@@ -1,9 +1,8 @@
 -- `hexadecimal::put_digits` meets its contract.
 use borrow.Author.Rules.{rules}
 use Rattle.hexadecimal.specs.Hexadecimal.{to_hex, hex_at}
-use Rattle.digits.proofs.Lists.{Filled, filled_none, filled_more, filled-done}
+use Rattle.digits.proofs.Lists.{filled_none, filled_more, filled-done}
 use Prim.Native.Nat.{◌-◌}
-use lib.ListN.{length}
 use Rattle.hexadecimal.proofs.put_digits.Goals as goal
 
 pub loop-i-init : goal.loop-i-init

@@ -1,7 +1,6 @@
 -- `hexadecimal::put_digits` meets its contract.
-use borrow.Author.Rules.{rules}
-use Rattle.hexadecimal.specs.Hexadecimal.{to_hex, hex_at}
-use Rattle.digits.proofs.Lists.{Filled, filled_none, filled_more, filled-done}
+use Rattle.hexadecimal.specs.Hexadecimal.{hex_at}
+use Rattle.digits.proofs.Lists.{Filled}
 use Prim.Native.Nat.{◌-◌}
 use lib.ListN.{length}
 use Rattle.hexadecimal.proofs.put_digits.Given as goal

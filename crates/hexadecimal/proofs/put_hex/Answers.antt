@@ -1,6 +1,5 @@
 -- `hexadecimal::put_hex` meets its contract.
 use mathlib.Core.Path.{refl}
-use borrow.Author.Rules.{rules}
 use borrow.Author.Tests.{eq-eqb, ne_eqb}
 use Rattle.hexadecimal.proofs.put_hex.Goals as goal
 

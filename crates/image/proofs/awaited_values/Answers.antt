@@ -1,5 +1,4 @@
 -- `image::awaited_values` meets its contract.
-use borrow.Author.Rules.{rules}
 use Rattle.image.proofs.awaited_values.Goals as goal
 
 pub returns-in-Request : goal.returns-in-Request

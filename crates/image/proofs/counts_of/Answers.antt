@@ -1,5 +1,4 @@
 -- `image::counts_of` meets its contract.
-use borrow.Author.Rules.{rules}
 use Rattle.image.proofs.counts_of.Goals as goal
 
 pub returns : goal.returns

@@ -1,5 +1,4 @@
 -- `image::image_of` meets its contract: the rows, and the region behind them.
-use borrow.Author.Rules.{rules}
 use Rattle.image.proofs.Region.{image_put}
 use Rattle.image.proofs.image_of.Goals as goal
 

@@ -1,6 +1,5 @@
 -- `image::merchant_of` meets its contract: the two numbers are put one after the other.
 use native.Mathlib.Omega.{arith}
-use borrow.Author.Rules.{rules}
 use Rattle.image_definitions.proofs.Values.{merchant-room, merchant_put}
 use Rattle.image.proofs.merchant_of.Goals as goal
 

@@ -1,11 +1,10 @@
 -- `image::number_in` meets its contract: the bytes passed are the number's.
 use mathlib.Core.Path.{◌≡◌}
-use Prim.Native.Nat.{◌≤◌, ◌-◌, ◌+◌}
+use Prim.Native.Nat.{◌-◌, ◌+◌}
 use native.Mathlib.Omega.{arith}
-use lib.ListN.{drop}
 use lib.Seq.{get_or-drop}
 use borrow.Author.Rules.{rules}
-use Rattle.field.proofs.Words.{Word, word_none, word_more, word_fits}
+use Rattle.field.proofs.Words.{word_none, word_more, word_fits}
 use Rattle.image.proofs.number_in.Goals as goal
 
 pub loop-i-init : goal.loop-i-init

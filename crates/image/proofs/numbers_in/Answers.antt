@@ -3,8 +3,8 @@ use mathlib.Core.Path.{refl}
 use Prim.Native.Nat.{◌-◌}
 use native.Mathlib.Omega.{arith}
 use borrow.Author.Rules.{rules}
-use Rattle.image_definitions.specs.Layout.{widths, rows}
-use Rattle.image_definitions.proofs.Laid.{ReadTo, read_none, read_more, read_done, placed-within}
+use Rattle.image_definitions.specs.Layout.{widths}
+use Rattle.image_definitions.proofs.Laid.{read_none, read_more, read_done, placed-within}
 use Rattle.image_definitions.proofs.Bounds.{width_small}
 use Rattle.image.proofs.numbers_in.Goals as goal
 

@@ -1,11 +1,7 @@
 -- `image::numbers_in` meets its contract: the rows passed are read.
-use mathlib.Core.Path.{refl}
 use Prim.Native.Nat.{◌-◌}
-use native.Mathlib.Omega.{arith}
-use borrow.Author.Rules.{rules}
 use Rattle.image_definitions.specs.Layout.{widths, rows}
-use Rattle.image_definitions.proofs.Laid.{ReadTo, read_none, read_more, read_done, placed-within}
-use Rattle.image_definitions.proofs.Bounds.{width_small}
+use Rattle.image_definitions.proofs.Laid.{ReadTo}
 use Rattle.image.proofs.numbers_in.Given as goal
 
 abbrev pub invariant-loop-k : goal.invariant-loop-k

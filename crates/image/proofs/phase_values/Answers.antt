@@ -1,5 +1,4 @@
 -- `image::phase_values` meets its contract.
-use borrow.Author.Rules.{rules}
 use Rattle.image.proofs.phase_values.Goals as goal
 
 pub returns-in-Resting : goal.returns-in-Resting

@@ -5,4 +5,4 @@ use Rattle.image.proofs.put.Goals as goal
 
 pub returns : goal.returns
 returns c =
-    put_is c.args.at c.args.x.now c.args.b (search rules) c.copy_from_slice.ensures.after
+    put_is c.args.at c.args.x.now c.args.b (search rules) c.copy.ensures

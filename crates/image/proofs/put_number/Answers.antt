@@ -1,7 +1,6 @@
 -- `image::put_number` meets its contract: what is stored so far is the end of the bytes.
-use lib.ListN.{length}
 use borrow.Author.Rules.{rules}
-use Rattle.image_definitions.proofs.Laid.{Spelled, spelled_none, spelled_more, spelled_done}
+use Rattle.image_definitions.proofs.Laid.{spelled_none, spelled_more, spelled_done}
 use Rattle.image.proofs.put_number.Goals as goal
 
 pub loop-i-init : goal.loop-i-init

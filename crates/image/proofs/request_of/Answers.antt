@@ -1,5 +1,4 @@
 -- `image::request_of` meets its contract.
-use borrow.Author.Rules.{rules}
 use Rattle.image.proofs.request_of.Goals as goal
 
 pub returns : goal.returns

@@ -1,5 +1,4 @@
 -- `image::reversal_of` meets its contract.
-use borrow.Author.Rules.{rules}
 use Rattle.image.proofs.reversal_of.Goals as goal
 
 pub returns : goal.returns

@@ -1,5 +1,4 @@
 -- `image::reversal_values` meets its contract.
-use borrow.Author.Rules.{rules}
 use Rattle.image.proofs.reversal_values.Goals as goal
 
 pub returns : goal.returns

@@ -3,8 +3,8 @@ use mathlib.Core.Path.{refl}
 use Prim.Native.Nat.{◌-◌}
 use native.Mathlib.Omega.{arith}
 use borrow.Author.Rules.{rules}
-use Rattle.image_definitions.specs.Layout.{widths, rows}
-use Rattle.image_definitions.proofs.Laid.{WrittenTo, written_none, written-more, written-done, placed-within}
+use Rattle.image_definitions.specs.Layout.{widths}
+use Rattle.image_definitions.proofs.Laid.{written_none, written-more, written-done, placed-within}
 use Rattle.image.proofs.row_bytes.Goals as goal
 
 pub loop-k-init : goal.loop-k-init

@@ -1,10 +1,7 @@
 -- `image::row_bytes` meets its contract: the rows passed are written.
-use mathlib.Core.Path.{refl}
 use Prim.Native.Nat.{◌-◌}
-use native.Mathlib.Omega.{arith}
-use borrow.Author.Rules.{rules}
 use Rattle.image_definitions.specs.Layout.{widths, rows}
-use Rattle.image_definitions.proofs.Laid.{WrittenTo, written_none, written-more, written-done, placed-within}
+use Rattle.image_definitions.proofs.Laid.{WrittenTo}
 use Rattle.image.proofs.row_bytes.Given as goal
 
 abbrev pub invariant-loop-k : goal.invariant-loop-k

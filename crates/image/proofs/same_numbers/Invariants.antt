@@ -1,15 +1,11 @@
 -- `image::same_numbers` meets its contract.
 use mathlib.Core.Path.{◌≡◌}
-use borrow.Author.Rules.{rules}
-use borrow.Author.Tests.{eq-eqb, ne_eqb}
-use native.Mathlib.Omega.{arith}
-use mathlib.Core.Bool.{Bool, and-false}
+use mathlib.Core.Bool.{Bool}
 use mathlib.Core.List.{List}
 use Prim.Native.Nat.{ℕ, ◌-◌, ◌≤◌}
 use lib.Dec.{eqb}
 use lib.ListN.{length, get_or}
-use Rattle.digits.proofs.Lists.{all_fails, Passed, passed_none, passed-more}
-use Rattle.digits.specs.Lists.{same_bytes}
+use Rattle.digits.proofs.Lists.{Passed}
 use Rattle.image.proofs.same_numbers.Given as goal
 
 -- place i holds the same number

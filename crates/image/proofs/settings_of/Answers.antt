@@ -1,5 +1,4 @@
 -- `image::settings_of` meets its contract.
-use borrow.Author.Rules.{rules}
 use Rattle.image.proofs.settings_of.Goals as goal
 
 pub returns : goal.returns

@@ -1,6 +1,4 @@
 -- `image::state_of` meets its contract.
-use lib.Dec.{lit<}
-use borrow.Author.Rules.{rules}
 use Rattle.image_definitions.specs.Image.{state_of}
 use Rattle.image.proofs.state_of.Goals as goal
 

@@ -1,5 +1,4 @@
 -- `image::totals_in` meets its contract.
-use borrow.Author.Rules.{rules}
 use Rattle.image.proofs.totals_in.Goals as goal
 
 pub returns : goal.returns

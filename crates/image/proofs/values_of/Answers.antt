@@ -1,6 +1,4 @@
 -- `image::values_of` meets its contract: the numbers are listed one by one.
-use lib.Dec.{lit<}
-use borrow.Author.Rules.{rules}
 use Rattle.image_definitions.proofs.Values.{values_listed}
 use Rattle.image.proofs.values_of.Goals as goal
 

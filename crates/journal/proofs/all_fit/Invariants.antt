@@ -1,11 +1,7 @@
 -- `journal::all_fit` meets its contract.
-use mathlib.Core.Path.{sym, ◌∙◌}
-use borrow.Author.Rules.{rules}
-use borrow.Author.Tests.{not-true, not-false}
-use native.Mathlib.Omega.{arith}
 use Prim.Native.Nat.{◌-◌}
 use Rattle.journal.specs.Journal.{fits_at}
-use Rattle.journal.proofs.Steps.{Testing, testing_none, testing_more, testing_fails, testing_short, testing_done}
+use Rattle.journal.proofs.Steps.{Testing}
 use Rattle.journal.proofs.all_fit.Given as goal
 
 abbrev pub invariant-loop-i : goal.invariant-loop-i

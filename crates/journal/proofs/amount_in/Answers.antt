@@ -1,6 +1,5 @@
 -- `journal::amount_in` meets its contract.
 use mathlib.Core.Path.{◌∙◌}
-use borrow.Author.Rules.{rules}
 use Rattle.journal.proofs.Here.{amount_here}
 use Rattle.journal.proofs.amount_in.Goals as goal
 

@@ -1,6 +1,5 @@
 -- `journal::entry_at` meets its contract.
 use mathlib.Core.Path.{ap, sym, ◌∙◌}
-use borrow.Author.Rules.{rules}
 use native.Mathlib.Omega.{arith}
 use Rattle.entry.specs.Entry.{decode}
 use Rattle.journal.proofs.Entries.{entry_there, entry_beyond, entry-short}

@@ -1,10 +1,7 @@
 -- `journal::find` meets its contract.
-use mathlib.Core.Path.{sym, ◌∙◌}
-use borrow.Author.Rules.{rules}
-use native.Mathlib.Omega.{arith}
 use Prim.Native.Nat.{◌-◌}
 use Rattle.journal.specs.Journal.{asked}
-use Rattle.journal.proofs.Steps.{Seeking, seeking_none, seeking_more, seeking_here, seeking_short, seeking_done}
+use Rattle.journal.proofs.Steps.{Seeking}
 use Rattle.journal.proofs.find.Given as goal
 
 abbrev pub invariant-loop-i : goal.invariant-loop-i

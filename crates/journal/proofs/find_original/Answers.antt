@@ -1,5 +1,4 @@
 -- `journal::find_original` meets its contract.
-use borrow.Author.Rules.{rules}
 use Rattle.journal.proofs.find_original.Goals as goal
 
 pub returns : goal.returns

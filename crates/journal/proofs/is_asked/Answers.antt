@@ -1,5 +1,4 @@
 -- `journal::is_asked` meets its contract.
-use borrow.Author.Rules.{rules}
 use Rattle.journal.specs.Journal.{has_trace, is_original, due_with}
 use Rattle.journal.proofs.Here.{kind_here, mark_here}
 use Rattle.journal.proofs.is_asked.Goals as goal

@@ -1,6 +1,5 @@
 -- `journal::next_due` meets its contract.
 use mathlib.Core.Path.{sym, ◌∙◌}
-use borrow.Author.Rules.{rules}
 use Rattle.journal.specs.Journal.{next_due}
 use Rattle.journal.proofs.next_due.Goals as goal
 

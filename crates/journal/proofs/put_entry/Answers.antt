@@ -7,7 +7,7 @@ use Rattle.journal.proofs.put_entry.Goals as goal
 
 pub returns-then-end-journal : goal.returns-then-end-journal
 returns-then-end-journal c =
-    put_copied _ _ _ _ _ _ c.wide-at.ensures.0 (omega arith) (search rules) c.bytes_of-b.ensures c.copy_from_slice.ensures.after
+    put_copied _ _ _ _ _ _ c.wide-at.ensures.0 (omega arith) (search rules) c.bytes_of-b.ensures c.copy.ensures
 
 pub returns-else-end-journal : goal.returns-else-end-journal
 returns-else-end-journal c = sym (put_short _ _ _ (omega arith))

@@ -1,6 +1,5 @@
 -- `journal::set_byte` meets its contract.
 use mathlib.Core.Path.{sym}
-use borrow.Author.Rules.{rules}
 use native.Mathlib.Omega.{arith}
 use lib.Seq.{set_out}
 use Rattle.journal.specs.Journal.{set_byte}

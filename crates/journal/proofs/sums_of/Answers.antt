@@ -1,9 +1,8 @@
 -- `journal::sums_of` meets its contract.
-use borrow.Author.Rules.{rules}
 use native.Mathlib.Omega.{arith}
 use Prim.Native.Nat.{◌-◌}
 use Rattle.journal.proofs.Here.{kind_here}
-use Rattle.journal.proofs.Steps.{Summing, summing_none, summing_room, summing_more, summing_short, summing_done}
+use Rattle.journal.proofs.Steps.{summing_none, summing_room, summing_more, summing_short, summing_done}
 use Rattle.journal.proofs.sums_of.Goals as goal
 
 pub loop-i-init : goal.loop-i-init

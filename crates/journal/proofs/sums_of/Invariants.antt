@@ -1,9 +1,6 @@
 -- `journal::sums_of` meets its contract.
-use borrow.Author.Rules.{rules}
-use native.Mathlib.Omega.{arith}
 use Prim.Native.Nat.{◌-◌}
-use Rattle.journal.proofs.Here.{kind_here}
-use Rattle.journal.proofs.Steps.{Summing, summing_none, summing_room, summing_more, summing_short, summing_done}
+use Rattle.journal.proofs.Steps.{Summing}
 use Rattle.journal.proofs.sums_of.Given as goal
 
 abbrev pub invariant-loop-i : goal.invariant-loop-i

@@ -1,5 +1,4 @@
 -- `journal::totals_of` meets its contract.
-use borrow.Author.Rules.{rules}
 use native.Mathlib.Omega.{arith}
 use Rattle.journal.proofs.Sums.{totals_of-sums}
 use Rattle.journal.proofs.totals_of.Goals as goal

@@ -1,6 +1,5 @@
 -- `journal::trace_in` meets its contract: six digits fit 32 bits.
 use mathlib.Core.Path.{◌∙◌}
-use borrow.Author.Rules.{rules}
 use native.Mathlib.Omega.{arith}
 use Rattle.journal.proofs.Here.{trace_here, trace-small}
 use Rattle.journal.proofs.trace_in.Goals as goal

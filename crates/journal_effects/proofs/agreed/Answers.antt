@@ -1,6 +1,6 @@
 -- `journal_effects::agreed` meets its contract.
 use borrow.Enum.Refused.{opened}
-use Rattle.std.proofs.Common.{sym, rules}
+use Rattle.std.proofs.Common.{sym}
 use Rattle.effect_definitions.specs.JournalEffects.{agreed}
 use Rattle.journal_effects.proofs.Phases.{no_request-agreed}
 use Rattle.journal_effects.proofs.Booking.{of_entry}

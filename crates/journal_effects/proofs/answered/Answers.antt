@@ -1,5 +1,4 @@
 -- `journal_effects::answered` meets its contract.
-use Rattle.std.proofs.Common.{rules}
 use Rattle.effect_definitions.specs.JournalEffects.{answered}
 use Rattle.journal_effects.proofs.answered.Goals as goal
 

@@ -1,5 +1,4 @@
 -- `journal_effects::approved` meets its contract.
-use Rattle.std.proofs.Common.{rules}
 use Rattle.effect_definitions.specs.JournalEffects.{approved}
 use Rattle.journal_effects.proofs.approved.Goals as goal
 

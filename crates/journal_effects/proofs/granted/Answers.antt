@@ -1,5 +1,5 @@
 -- `journal_effects::granted` meets its contract.
-use Rattle.std.proofs.Common.{rules, eq-eqb, ne_eqb}
+use Rattle.std.proofs.Common.{eq-eqb, ne_eqb}
 use Rattle.effect_definitions.specs.JournalEffects.{granted}
 use Rattle.journal_effects.proofs.Booking.{of_entry}
 use Rattle.journal_effects.proofs.granted.Goals as goal

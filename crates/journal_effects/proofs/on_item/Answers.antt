@@ -1,5 +1,4 @@
 -- `journal_effects::on_item` meets its contract.
-use Rattle.std.proofs.Common.{rules}
 use Rattle.effect_definitions.specs.JournalEffects.{on_item}
 use Rattle.journal_effects.proofs.on_item.Goals as goal
 

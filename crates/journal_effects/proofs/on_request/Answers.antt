@@ -1,5 +1,4 @@
 -- `journal_effects::on_request` meets its contract.
-use Rattle.std.proofs.Common.{rules}
 use Rattle.effect_definitions.specs.JournalEffects.{on_request}
 use Rattle.journal_effects.proofs.on_request.Goals as goal
 

@@ -1,5 +1,5 @@
 -- `journal_effects::resend` meets its contract.
-use Rattle.std.proofs.Common.{rules, eq-eqb, ne_eqb}
+use Rattle.std.proofs.Common.{eq-eqb, ne_eqb}
 use Rattle.effect_definitions.specs.JournalEffects.{resent}
 use Rattle.journal_effects.proofs.resend.Goals as goal
 

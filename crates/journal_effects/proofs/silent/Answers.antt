@@ -1,5 +1,4 @@
 -- `journal_effects::silent` meets its contract.
-use Rattle.std.proofs.Common.{rules}
 use Rattle.effect_definitions.specs.JournalEffects.{silent}
 use Rattle.journal_effects.proofs.silent.Goals as goal
 

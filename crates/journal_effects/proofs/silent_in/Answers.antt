@@ -1,6 +1,6 @@
 -- `journal_effects::silent_in` meets its contract.
 use borrow.Enum.Refused.{opened}
-use Rattle.std.proofs.Common.{sym, rules}
+use Rattle.std.proofs.Common.{sym}
 use Rattle.state.proofs.Phases.{not_waiting}
 use Rattle.effect_definitions.specs.JournalEffects.{silent_in}
 use Rattle.journal_effects.proofs.Phases.{nothing-changed, awaited_in}

@@ -1,5 +1,4 @@
 -- `journal_effects::silent_item` meets its contract.
-use Rattle.std.proofs.Common.{rules}
 use Rattle.journal_effects.proofs.silent_item.Goals as goal
 
 pub returns : goal.returns

@@ -1,5 +1,5 @@
 -- `journal_effects::unanswered` meets its contract.
-use Rattle.std.proofs.Common.{sym, ◌∙◌, rules}
+use Rattle.std.proofs.Common.{sym, ◌∙◌}
 use Rattle.effect_definitions.specs.JournalEffects.{unanswered}
 use Rattle.journal_effects.proofs.unanswered.Goals as goal
 

@@ -1,5 +1,4 @@
 -- `journal_effects::void_at` meets its contract.
-use Rattle.std.proofs.Common.{rules}
 use Rattle.journal_effects.proofs.void_at.Goals as goal
 
 pub returns-in-At : goal.returns-in-At

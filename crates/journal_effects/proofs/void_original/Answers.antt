@@ -1,5 +1,4 @@
 -- `journal_effects::void_original` meets its contract.
-use Rattle.std.proofs.Common.{rules}
 use Rattle.effect_definitions.specs.JournalEffects.{original_voided}
 use Rattle.journal_effects.proofs.void_original.Goals as goal
 

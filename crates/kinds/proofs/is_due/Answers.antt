@@ -1,5 +1,5 @@
 -- `kinds::is_due` meets its contract.
-use Rattle.std.proofs.Common.{sym, ◌∙◌, rules}
+use Rattle.std.proofs.Common.{sym, ◌∙◌}
 use Rattle.kinds.specs.Kinds.{side_of, is_debit, is_credit, is_due}
 use Rattle.kinds.proofs.Runs.{settles-debit, settles-credit, settles_neither}
 use Rattle.kinds.proofs.is_due.Goals as goal

@@ -1,5 +1,4 @@
 -- `line_ends::line_of` meets its contract.
-use borrow.Author.Rules.{rules}
 use Rattle.line_ends.proofs.line_of.Goals as goal
 
 pub returns-then-whole : goal.returns-then-whole

@@ -1,6 +1,5 @@
 -- `line_ends::take_in` meets its contract.
 use mathlib.Core.Path.{sym}
-use borrow.Author.Rules.{rules}
 use native.Mathlib.Omega.{arith}
 use lib.Seq.{length-take-le}
 use Rattle.line_ends.proofs.Feeds.{with_feed, without_feed}

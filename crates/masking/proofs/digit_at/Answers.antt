@@ -1,6 +1,5 @@
 -- `masking::digit_at` meets its contract.
 use Rattle.digits.proofs.Packing.{half_even, half_odd}
-use borrow.Author.Rules.{rules}
 use Rattle.masking.proofs.digit_at.Goals as goal
 
 pub returns-then-i-eq0 : goal.returns-then-i-eq0

@@ -1,9 +1,8 @@
 -- `masking::put_symbols` meets its contract.
-use Rattle.masking.specs.Masking.{symbol, digits_text}
-use Rattle.digits.proofs.Lists.{Filled, filled_none, filled_more, filled-done}
+use Rattle.masking.specs.Masking.{symbol}
+use Rattle.digits.proofs.Lists.{Filled}
 use lib.ListN.{length}
 use Prim.Native.Nat.{◌-◌}
-use borrow.Author.Rules.{rules}
 use Rattle.masking.proofs.put_symbols.Given as goal
 
 abbrev pub invariant-loop-i : goal.invariant-loop-i

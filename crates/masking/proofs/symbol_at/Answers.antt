@@ -1,6 +1,5 @@
 -- `masking::symbol_at` meets its contract.
 use Rattle.masking.specs.Masking.{symbol}
-use borrow.Author.Rules.{rules}
 use Rattle.masking.proofs.symbol_at.Goals as goal
 
 pub returns-then-card-i : goal.returns-then-card-i

@@ -1,6 +1,5 @@
 -- `message::chip_kept` meets its contract.
 use mathlib.Core.Path.{sym, ◌∙◌}
-use borrow.Author.Rules.{rules}
 use Rattle.message.proofs.chip_kept.Goals as goal
 
 pub returns-then-named : goal.returns-then-named

@@ -1,6 +1,5 @@
 -- `message::keys_in_form` meets its contract.
 use mathlib.Core.Path.{sym, ◌∙◌}
-use borrow.Author.Rules.{rules}
 use native.Mathlib.Omega.{arith}
 use Rattle.message.proofs.Late.{keys-within, keys-count, keys_missing}
 use Rattle.message.proofs.keys_in_form.Goals as goal

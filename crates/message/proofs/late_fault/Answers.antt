@@ -1,7 +1,5 @@
 -- `message::late_fault` meets its contract.
 use mathlib.Core.Path.{sym, ◌∙◌}
-use borrow.Author.Rules.{rules}
-use borrow.Author.Tests.{not-true, not-false}
 use Rattle.message.proofs.Late.{late_is}
 use Rattle.message.proofs.late_fault.Goals as goal
 

@@ -1,9 +1,7 @@
 -- `message::locate` meets its contract.
 use mathlib.Core.Path.{sym}
-use borrow.Author.Rules.{rules}
 use Prim.Native.Nat.{◌-◌}
-use Rattle.field.specs.Table.{rows}
-use Rattle.message.proofs.Standing.{Sought, sought_none, sought_here, sought_more, sought_done}
+use Rattle.message.proofs.Standing.{sought_none, sought_here, sought_more, sought_done}
 use Rattle.message.proofs.locate.Goals as goal
 
 pub loop-k-init : goal.loop-k-init

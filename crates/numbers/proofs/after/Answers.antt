@@ -1,5 +1,4 @@
 -- `numbers::after` meets its contract.
-use borrow.Author.Rules.{rules}
 use borrow.Author.Tests.{lt-ltb, le-ltb}
 use Rattle.numbers.specs.Numbers.{following}
 use Rattle.numbers.proofs.after.Goals as goal

@@ -1,5 +1,4 @@
 -- `outgoing::reason_code` meets its contract.
-use borrow.Author.Rules.{rules}
 use Rattle.outgoing.proofs.reason_code.Goals as goal
 
 pub returns-in-Silence : goal.returns-in-Silence

@@ -1,7 +1,6 @@
 -- `outgoing::request_message` meets its contract.
 use mathlib.Core.Path.{sym, ◌∙◌}
 use mathlib.Core.List.{[]}
-use borrow.Author.Rules.{rules}
 use Rattle.message.specs.Build.{message_of}
 use Rattle.kinds.specs.Kinds.{indicator_of}
 use Rattle.compose.proofs.Composed.{all_append}

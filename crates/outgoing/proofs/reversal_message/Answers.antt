@@ -1,7 +1,6 @@
 -- `outgoing::reversal_message` meets its contract.
 use mathlib.Core.Path.{sym, ◌∙◌}
 use mathlib.Core.List.{[], ◌∷◌}
-use borrow.Author.Rules.{rules}
 use Rattle.message.specs.Build.{bytes, message_of}
 use Rattle.compose.proofs.Composed.{all_append}
 use Rattle.outgoing.specs.Outgoing.{card_fields, reason_code}

@@ -1,7 +1,6 @@
 -- `outgoing::with_card_field60` meets its contract.
 use mathlib.Core.Path.{refl, sym, ◌∙◌}
 use mathlib.Core.List.{append-nil}
-use borrow.Author.Rules.{rules}
 use Rattle.digits.specs.Digits.{all_digits}
 use Rattle.outgoing.specs.Outgoing.{field60}
 use Rattle.outgoing.proofs.with_card_field60.Goals as goal

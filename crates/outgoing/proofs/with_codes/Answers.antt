@@ -1,7 +1,6 @@
 -- `outgoing::with_codes` meets its contract.
 use mathlib.Core.List.{List, [], ◌∷◌}
 use Prim.Native.Nat.{ℕ}
-use borrow.Author.Rules.{rules}
 use Rattle.message.specs.Message.{whole}
 use Rattle.outgoing.proofs.Codes.{codes_put}
 use Rattle.outgoing.proofs.with_codes.Goals as goal

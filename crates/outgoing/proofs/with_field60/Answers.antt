@@ -1,6 +1,5 @@
 -- `outgoing::with_field60` meets its contract.
 use mathlib.Core.Path.{refl}
-use borrow.Author.Rules.{rules}
 use Rattle.digits.specs.Digits.{all_digits}
 use Rattle.outgoing.proofs.Codes.{codes-alone}
 use Rattle.outgoing.proofs.with_field60.Goals as goal

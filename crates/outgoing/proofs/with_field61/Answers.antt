@@ -1,7 +1,6 @@
 -- `outgoing::with_field61` meets its contract.
 use mathlib.Core.List.{List, [], ◌∷◌}
 use Prim.Native.Nat.{ℕ}
-use borrow.Author.Rules.{rules}
 use Rattle.message.specs.Message.{whole}
 use Rattle.compose.proofs.Laid.{parts_put}
 use Rattle.outgoing.proofs.with_field61.Goals as goal

@@ -1,6 +1,5 @@
 -- `outgoing::with_original_fields` meets its contract.
 use mathlib.Core.Path.{sym, ◌∙◌}
-use borrow.Author.Rules.{rules}
 use Rattle.outgoing.proofs.with_original_fields.Goals as goal
 
 pub returns-then-takes_original : goal.returns-then-takes_original

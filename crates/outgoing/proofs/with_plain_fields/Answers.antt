@@ -1,5 +1,4 @@
 -- `outgoing::with_plain_fields` meets its contract.
-use borrow.Author.Rules.{rules}
 use Rattle.outgoing.proofs.with_plain_fields.Goals as goal
 
 pub returns : goal.returns

@@ -1,5 +1,4 @@
 -- `outgoing::with_reason` meets its contract.
-use borrow.Author.Rules.{rules}
 use Rattle.outgoing.proofs.with_reason.Goals as goal
 
 pub returns : goal.returns

@@ -1,5 +1,4 @@
 -- `outgoing::write_outgoing` meets its contract.
-use borrow.Author.Rules.{rules}
 use Rattle.outgoing.proofs.write_outgoing.Goals as goal
 
 pub returns-in-Written : goal.returns-in-Written

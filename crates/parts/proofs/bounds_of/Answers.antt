@@ -1,6 +1,5 @@
 -- `parts::bounds_of` meets its contract.
 use mathlib.Core.Path.{sym, ◌∙◌}
-use borrow.Author.Rules.{rules}
 use native.Mathlib.Omega.{arith}
 use Rattle.message.proofs.Standing.{standing}
 use Rattle.parts.proofs.Places.{found_end, bounded_found, bounded_missing, bounded_in}

@@ -1,5 +1,4 @@
 -- `parts::place_of` meets its contract.
-use borrow.Author.Rules.{rules}
 use Rattle.parts.proofs.place_of.Goals as goal
 
 pub returns-in-Amount : goal.returns-in-Amount

@@ -1,5 +1,4 @@
 -- `parts::put_part` meets its contract.
-use borrow.Author.Rules.{rules}
 use native.Mathlib.Omega.{arith}
 use Rattle.parts.proofs.Laid.{part-short, part_put}
 use Rattle.parts.proofs.put_part.Goals as goal

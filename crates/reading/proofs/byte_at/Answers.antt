@@ -1,6 +1,5 @@
 -- `reading::byte_at` meets its contract.
 use mathlib.Core.Path.{refl, sym}
-use borrow.Author.Rules.{rules}
 use native.Mathlib.Omega.{arith}
 use Rattle.digits.proofs.Lists.{get_d_past}
 use Rattle.reading.proofs.byte_at.Goals as goal

@@ -1,5 +1,4 @@
 -- `reading::is_judged` meets its contract.
-use borrow.Author.Rules.{rules}
 use Rattle.reading.proofs.is_judged.Goals as goal
 
 pub returns : goal.returns

@@ -1,5 +1,4 @@
 -- `reading::judged` meets its contract.
-use borrow.Author.Rules.{rules}
 use borrow.Author.Tests.{eq-eqb, ne_eqb}
 use Rattle.reading.proofs.judged.Goals as goal
 

@@ -1,6 +1,5 @@
 -- `reading::outcome_of` meets its contract.
 use mathlib.Core.Path.{refl, ap, sym, ◌∙◌}
-use borrow.Author.Rules.{rules}
 use native.Mathlib.Omega.{arith}
 use Rattle.reading.specs.declared.Reading.{Reading}
 use Rattle.reading.proofs.Fields.{bitmap-bytes, accepted-plain}

@@ -1,6 +1,5 @@
 -- `reading::parse` meets its contract.
 use mathlib.Core.Path.{sym, ◌∙◌}
-use borrow.Author.Rules.{rules}
 use borrow.Author.Tests.{lt-ltb, le-ltb}
 use Rattle.digits.proofs.Lists.{tail_part}
 use Rattle.reading.specs.Reading.{read_message}

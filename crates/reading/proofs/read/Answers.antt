@@ -1,6 +1,5 @@
 -- `reading::read` meets its contract.
 use mathlib.Core.Path.{refl, sym, ◌∙◌}
-use borrow.Author.Rules.{rules}
 use native.Mathlib.Omega.{arith}
 use Rattle.reading.proofs.Fields.{bitmap-bytes, accepted-plain}
 use Rattle.reading.proofs.read.Goals as goal

@@ -1,6 +1,5 @@
 -- `reading::read_field` meets its contract.
 use mathlib.Core.Path.{sym}
-use borrow.Author.Rules.{rules}
 use native.Mathlib.Omega.{arith}
 use lib.Seq.{length-take-le}
 use Rattle.reading.proofs.Field.{field-refused, field_fits, field_fault, field-copied}

@@ -4,10 +4,9 @@ use Rattle.reading.proofs.read_fields.Goals.{then-is_set+in-Held, else-is_set}
 use Prim.Native.Nat.{◌-◌}
 use borrow.Author.Rules.{rules}
 use native.Mathlib.Omega.{arith}
-use Rattle.field.specs.Table.{rows}
 use Rattle.field.proofs.Words.{row_named}
 use Rattle.message.proofs.Places.{no_format, at_place}
-use Rattle.reading.proofs.Fields.{ReadTo, start_of, place-start, counts-kept, contents-kept, read_none, place-room}
+use Rattle.reading.proofs.Fields.{place-start, counts-kept, contents-kept, read_none, place-room}
 use Rattle.reading.proofs.Fields.{read_past, within, read_stop, read_next, read-long, read_done}
 use Rattle.reading.proofs.read_fields.Goals as goal
 

@@ -1,5 +1,4 @@
 -- `reading::refusal` meets its contract.
-use borrow.Author.Rules.{rules}
 use Rattle.reading.proofs.refusal.Goals as goal
 
 pub returns : goal.returns

@@ -1,5 +1,5 @@
 -- `rehearse::answer` meets its contract.
-use Rattle.std.proofs.Common.{sym, ap, ◌∙◌, [], length, rules}
+use Rattle.std.proofs.Common.{sym, ap, ◌∙◌, [], length}
 use Rattle.texts.proofs.Texts.{start}
 use Rattle.rehearse.proofs.Scripts.{answered-long, answered-none, answered_words}
 use Rattle.rehearse.proofs.answer.Goals as goal

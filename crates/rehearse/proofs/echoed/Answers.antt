@@ -1,5 +1,5 @@
 -- `rehearse::echoed` meets its contract.
-use Rattle.std.proofs.Common.{[], rules}
+use Rattle.std.proofs.Common.{[]}
 use Rattle.texts.proofs.Texts.{start}
 use Rattle.rehearse.proofs.Scripts.{echoed-none, echoed_line}
 use Rattle.rehearse.proofs.echoed.Goals as goal

@@ -1,8 +1,7 @@
 -- `rehearse::rehearse_lines` meets its contract.
-use Rattle.std.proofs.Common.{◌≡◌, refl, sym, false, ◌<◌, length, length-take-le, rules, arith}
-use Rattle.texts.proofs.Texts.{within}
+use Rattle.std.proofs.Common.{◌≡◌, false, ◌<◌, length}
 use Rattle.state.specs.Calls.{lend}
-use Rattle.rehearse.proofs.Scripts.{Going, going, goes_on, ends, turned}
+use Rattle.rehearse.proofs.Scripts.{Going}
 use Rattle.rehearse.proofs.rehearse_lines.Given as goal
 
 abbrev pub invariant-loop-turns : goal.invariant-loop-turns

@@ -1,5 +1,5 @@
 -- `rehearse::write_echo` meets its contract.
-use Rattle.std.proofs.Common.{sym, length-take-le, rules}
+use Rattle.std.proofs.Common.{sym, length-take-le}
 use Rattle.texts.proofs.Texts.{within}
 use Rattle.rehearse.proofs.write_echo.Goals as goal
 

@@ -1,5 +1,4 @@
 -- `rules::awaited_kept` meets its contract.
-use borrow.Author.Rules.{rules}
 use Rattle.numbers.specs.Numbers.{within}
 use Rattle.rules.proofs.awaited_kept.Goals as goal
 

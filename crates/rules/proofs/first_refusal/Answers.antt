@@ -1,5 +1,4 @@
 -- `rules::first_refusal` meets its contract.
-use borrow.Author.Rules.{rules}
 use Rattle.rules.proofs.Tests.{short-message, long-message}
 use Rattle.rules.proofs.first_refusal.Goals as goal
 

@@ -1,5 +1,4 @@
 -- `rules::idle_refusal` meets its contract.
-use borrow.Author.Rules.{rules}
 use Rattle.rules.proofs.Idle.{stops, signed_off, waits, none}
 use Rattle.rules.proofs.idle_refusal.Goals as goal
 

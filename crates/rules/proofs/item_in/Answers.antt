@@ -1,5 +1,4 @@
 -- `rules::item_in` meets its contract.
-use borrow.Author.Rules.{rules}
 use Rattle.rules.proofs.item_in.Goals as goal
 
 pub returns-in-Item : goal.returns-in-Item

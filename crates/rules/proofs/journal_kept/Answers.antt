@@ -1,5 +1,4 @@
 -- `rules::journal_kept` meets its contract.
-use borrow.Author.Rules.{rules}
 use Rattle.rules.proofs.Tests.{journal_kept-is}
 use Rattle.rules.proofs.journal_kept.Goals as goal
 

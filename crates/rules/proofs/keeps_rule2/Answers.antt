@@ -1,7 +1,6 @@
 -- `rules::keeps_rule2` meets its contract.
 use mathlib.Core.Path.{ap}
 use mathlib.Core.Bool.{not}
-use borrow.Author.Rules.{rules}
 use Rattle.rules.proofs.Tests.{state-broken, state_right}
 use Rattle.rules.proofs.keeps_rule2.Goals as goal
 

@@ -1,5 +1,4 @@
 -- `rules::original_unvoided` meets its contract.
-use borrow.Author.Rules.{rules}
 use Rattle.rules.specs.Rules.{original_unvoided}
 use Rattle.rules.proofs.original_unvoided.Goals as goal
 

@@ -1,5 +1,4 @@
 -- `rules::phase_kept` meets its contract.
-use borrow.Author.Rules.{rules}
 use Rattle.rules.proofs.phase_kept.Goals as goal
 
 pub returns-in-Waiting : goal.returns-in-Waiting

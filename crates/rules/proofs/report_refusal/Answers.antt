@@ -1,7 +1,6 @@
 -- `rules::report_refusal` meets its contract.
 use mathlib.Core.Path.{ap}
 use mathlib.Core.Bool.{not}
-use borrow.Author.Rules.{rules}
 use native.Mathlib.Omega.{arith}
 use Rattle.rules.proofs.Tests.{short-journal, no_order, all-kept}
 use Rattle.rules.proofs.report_refusal.Goals as goal

@@ -1,5 +1,4 @@
 -- `rules::request_kept` meets its contract.
-use borrow.Author.Rules.{rules}
 use Rattle.rules.proofs.Tests.{request_kept-is}
 use Rattle.rules.proofs.request_kept.Goals as goal
 

@@ -1,5 +1,4 @@
 -- `rules::unvoided_at` meets its contract.
-use borrow.Author.Rules.{rules}
 use Rattle.rules.proofs.unvoided_at.Goals as goal
 
 pub returns-in-At : goal.returns-in-At

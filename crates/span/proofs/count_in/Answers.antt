@@ -1,5 +1,4 @@
 -- `span::count_in` meets its contract.
-use borrow.Author.Rules.{rules}
 use native.Mathlib.Omega.{arith}
 use Rattle.digits.specs.Digits.{unpack}
 use Rattle.digits.specs.Numbers.{value}

@@ -1,6 +1,5 @@
 -- `span::frame_of` meets its contract.
 use mathlib.Core.Path.{sym, ◌∙◌}
-use borrow.Author.Rules.{rules}
 use Rattle.span.proofs.Frame.{frame_absent}
 use Rattle.span.proofs.frame_of.Goals as goal
 

@@ -1,5 +1,4 @@
 -- `stage::after_call` meets its contract.
-use borrow.Author.Rules.{rules}
 use Rattle.stage.proofs.after_call.Goals as goal
 
 pub returns : goal.returns

@@ -1,5 +1,4 @@
 -- `state_effects::adopts` meets its contract.
-use Rattle.std.proofs.Common.{rules}
 use Rattle.effect_definitions.specs.StateEffects.{adopts}
 use Rattle.state_effects.proofs.adopts.Goals as goal
 

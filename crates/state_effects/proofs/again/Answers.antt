@@ -1,5 +1,4 @@
 -- `state_effects::again` meets its contract.
-use Rattle.std.proofs.Common.{rules}
 use Rattle.state_effects.proofs.again.Goals as goal
 
 pub returns : goal.returns

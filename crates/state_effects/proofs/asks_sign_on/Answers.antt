@@ -1,5 +1,4 @@
 -- `state_effects::asks_sign_on` meets its contract.
-use Rattle.std.proofs.Common.{rules}
 use Rattle.state_effects.proofs.asks_sign_on.Goals as goal
 
 pub returns : goal.returns

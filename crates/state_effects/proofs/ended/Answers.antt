@@ -1,5 +1,4 @@
 -- `state_effects::ended` meets its contract.
-use Rattle.std.proofs.Common.{rules}
 use Rattle.state_effects.proofs.ended.Goals as goal
 
 pub returns : goal.returns

@@ -1,5 +1,5 @@
 -- `state_effects::failed` meets its contract.
-use Rattle.std.proofs.Common.{rules, le-leb}
+use Rattle.std.proofs.Common.{le-leb}
 use borrow.Author.Tests.{lt-leb}
 use Rattle.effect_definitions.specs.StateEffects.{failed}
 use Rattle.state_effects.proofs.failed.Goals as goal

@@ -1,5 +1,4 @@
 -- `state_effects::on_end` meets its contract.
-use Rattle.std.proofs.Common.{rules}
 use Rattle.effect_definitions.specs.StateEffects.{on_end}
 use Rattle.state_effects.proofs.on_end.Goals as goal
 

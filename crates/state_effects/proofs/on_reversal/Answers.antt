@@ -1,5 +1,4 @@
 -- `state_effects::on_reversal` meets its contract.
-use Rattle.std.proofs.Common.{rules}
 use Rattle.effect_definitions.specs.StateEffects.{on_reversal}
 use Rattle.state_effects.proofs.on_reversal.Goals as goal
 

@@ -1,5 +1,4 @@
 -- `state_effects::on_settlement` meets its contract.
-use Rattle.std.proofs.Common.{rules}
 use Rattle.effect_definitions.specs.StateEffects.{on_settlement}
 use Rattle.state_effects.proofs.on_settlement.Goals as goal
 

@@ -1,6 +1,5 @@
 -- `state_effects::on_sign_on` meets its contract.
-use Rattle.std.proofs.Common.{sym, ◌∙◌, rules}
-use borrow.Author.Tests.{not-true, not-false}
+use Rattle.std.proofs.Common.{sym, ◌∙◌}
 use Rattle.effect_definitions.specs.StateEffects.{on_sign_on}
 use Rattle.state_effects.proofs.on_sign_on.Goals as goal
 

@@ -1,5 +1,4 @@
 -- `state_effects::one_more` meets its contract.
-use Rattle.std.proofs.Common.{rules}
 use Rattle.state_effects.proofs.one_more.Goals as goal
 
 pub returns : goal.returns

@@ -1,5 +1,4 @@
 -- `state_effects::pending_or_unanswered` meets its contract.
-use Rattle.std.proofs.Common.{rules}
 use Rattle.effect_definitions.specs.StateEffects.{pending_or_unanswered}
 use Rattle.state_effects.proofs.pending_or_unanswered.Goals as goal
 

@@ -1,5 +1,4 @@
 -- `state_effects::requested` meets its contract.
-use Rattle.std.proofs.Common.{rules}
 use Rattle.state_effects.proofs.requested.Goals as goal
 
 pub returns : goal.returns

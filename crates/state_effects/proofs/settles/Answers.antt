@@ -1,5 +1,4 @@
 -- `state_effects::settles` meets its contract.
-use Rattle.std.proofs.Common.{rules}
 use Rattle.state_effects.proofs.settles.Goals as goal
 
 pub returns : goal.returns

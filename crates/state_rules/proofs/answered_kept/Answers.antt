@@ -1,6 +1,5 @@
 -- `state_rules::answered_kept` meets its contract.
 use mathlib.Core.Path.{sym, ◌∙◌}
-use borrow.Author.Rules.{rules}
 use Rattle.state_rules.specs.StateRules.{answered_kept}
 use Rattle.state_rules.proofs.answered_kept.Goals as goal
 

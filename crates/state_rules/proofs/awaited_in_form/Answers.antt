@@ -1,5 +1,4 @@
 -- `state_rules::awaited_in_form` meets its contract.
-use borrow.Author.Rules.{rules}
 use Rattle.state_rules.proofs.awaited_in_form.Goals as goal
 
 pub returns-in-Request : goal.returns-in-Request

@@ -1,5 +1,4 @@
 -- `state_rules::consent_kept` meets its contract.
-use borrow.Author.Rules.{rules}
 use Rattle.state_rules.specs.StateRules.{consent_kept}
 use Rattle.state_rules.proofs.consent_kept.Goals as goal
 

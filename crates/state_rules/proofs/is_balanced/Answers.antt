@@ -1,6 +1,5 @@
 -- `state_rules::is_balanced` meets its contract.
 use mathlib.Core.Path.{refl}
-use borrow.Author.Rules.{rules}
 use Rattle.state_rules.specs.StateRules.{balanced}
 use Rattle.state_rules.proofs.is_balanced.Goals as goal
 

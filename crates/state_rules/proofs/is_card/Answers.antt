@@ -1,5 +1,4 @@
 -- `state_rules::is_card` meets its contract.
-use borrow.Author.Rules.{rules}
 use native.Mathlib.Omega.{arith}
 use Rattle.state_rules.proofs.Tests.{few-digits, many_digits, right_digits}
 use Rattle.state_rules.proofs.is_card.Goals as goal

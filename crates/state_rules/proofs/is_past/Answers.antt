@@ -1,5 +1,4 @@
 -- `state_rules::is_past` meets its contract.
-use borrow.Author.Rules.{rules}
 use Rattle.state_rules.specs.StateRules.{exceeds, past}
 use Rattle.state_rules.proofs.is_past.Goals as goal
 

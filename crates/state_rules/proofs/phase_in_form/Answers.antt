@@ -1,5 +1,4 @@
 -- `state_rules::phase_in_form` meets its contract.
-use borrow.Author.Rules.{rules}
 use Rattle.state_rules.proofs.phase_in_form.Goals as goal
 
 pub returns-in-Pending : goal.returns-in-Pending

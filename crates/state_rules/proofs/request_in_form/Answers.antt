@@ -1,5 +1,4 @@
 -- `state_rules::request_in_form` meets its contract.
-use borrow.Author.Rules.{rules}
 use Rattle.state_rules.specs.StateRules.{request_in_form}
 use Rattle.state_rules.proofs.request_in_form.Goals as goal
 

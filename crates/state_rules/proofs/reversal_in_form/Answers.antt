@@ -1,5 +1,4 @@
 -- `state_rules::reversal_in_form` meets its contract.
-use borrow.Author.Rules.{rules}
 use Rattle.state_rules.specs.StateRules.{reversal_in_form}
 use Rattle.state_rules.proofs.reversal_in_form.Goals as goal
 

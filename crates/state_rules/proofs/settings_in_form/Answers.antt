@@ -1,5 +1,4 @@
 -- `state_rules::settings_in_form` meets its contract.
-use borrow.Author.Rules.{rules}
 use Rattle.numbers.specs.Numbers.{within}
 use Rattle.state_rules.specs.StateRules.{settings_in_form}
 use Rattle.state_rules.proofs.settings_in_form.Goals as goal

@@ -1,5 +1,4 @@
 -- `state_rules::sign_on_kept` meets its contract.
-use borrow.Author.Rules.{rules}
 use Rattle.state_rules.specs.StateRules.{sign_on_kept}
 use Rattle.state_rules.proofs.sign_on_kept.Goals as goal
 

@@ -1,6 +1,5 @@
 -- `state_rules::state_kept` meets its contract.
 use mathlib.Core.Path.{refl}
-use borrow.Author.Rules.{rules}
 use Rattle.state_rules.proofs.Tests.{state_kept-is}
 use Rattle.state_rules.proofs.state_kept.Goals as goal
 

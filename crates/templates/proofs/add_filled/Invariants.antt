@@ -1,9 +1,7 @@
 -- `templates::add_filled` meets its contract.
-use borrow.Author.Rules.{rules}
 use Prim.Native.Nat.{◌-◌}
 use lib.ListN.{length}
-use Rattle.templates.proofs.Templates.{FilledTo, filled_none, filled_more, filled-done}
-use native.Mathlib.Omega.{arith}
+use Rattle.templates.proofs.Templates.{FilledTo}
 use Rattle.templates.proofs.add_filled.Given as goal
 
 abbrev pub invariant-loop-i : goal.invariant-loop-i

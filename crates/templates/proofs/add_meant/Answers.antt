@@ -1,5 +1,4 @@
 -- `templates::add_meant` meets its contract.
-use borrow.Author.Rules.{rules}
 use borrow.Author.Tests.{eq-eqb, ne_eqb}
 use Rattle.templates.specs.Template.{meant}
 use Rattle.templates.proofs.add_meant.Goals as goal

@@ -1,6 +1,5 @@
 -- `templates::value_at` meets its contract.
 use mathlib.Core.Path.{sym}
-use borrow.Author.Rules.{rules}
 use Rattle.digits.proofs.Lists.{get_d_past}
 use Rattle.templates.proofs.value_at.Goals as goal
 

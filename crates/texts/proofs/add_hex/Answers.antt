@@ -1,11 +1,8 @@
 -- `texts::add_hex` meets its contract.
-use mathlib.Core.Path.{◌≡◌, refl}
+use mathlib.Core.Path.{refl}
 use borrow.Author.Rules.{rules}
 use Prim.Native.Nat.{◌-◌}
-use lib.ListN.{length, take}
 use lib.Seq.{take_all}
-use Rattle.hexadecimal.specs.Hexadecimal.{to_hex}
-use Rattle.texts.specs.Text.{Adds}
 use Rattle.texts.proofs.Texts.{hex_none, hex_next}
 use Rattle.texts.proofs.add_hex.Goals as goal
 

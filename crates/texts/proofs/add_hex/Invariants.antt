@@ -1,12 +1,9 @@
 -- `texts::add_hex` meets its contract.
-use mathlib.Core.Path.{◌≡◌, refl}
-use borrow.Author.Rules.{rules}
+use mathlib.Core.Path.{◌≡◌}
 use Prim.Native.Nat.{◌-◌}
 use lib.ListN.{length, take}
-use lib.Seq.{take_all}
 use Rattle.hexadecimal.specs.Hexadecimal.{to_hex}
 use Rattle.texts.specs.Text.{Adds}
-use Rattle.texts.proofs.Texts.{hex_none, hex_next}
 use Rattle.texts.proofs.add_hex.Given as goal
 
 abbrev pub invariant-loop-i : goal.invariant-loop-i

@@ -1,5 +1,4 @@
 -- `texts::add_hex_byte` meets its contract.
-use borrow.Author.Rules.{rules}
 use Rattle.texts.proofs.add_hex_byte.Goals as goal
 
 pub returns : goal.returns

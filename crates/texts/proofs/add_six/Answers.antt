@@ -1,5 +1,4 @@
 -- `texts::add_six` meets its contract.
-use borrow.Author.Rules.{rules}
 use Rattle.texts.specs.Text.{six_digits}
 use Rattle.texts.proofs.add_six.Goals as goal
 

@@ -1,6 +1,5 @@
 -- `texts::front` meets its contract.
 use mathlib.Core.Path.{sym}
-use borrow.Author.Rules.{rules}
 use native.Mathlib.Omega.{arith}
 use lib.Seq.{take_all, length-take-le}
 use Rattle.texts.proofs.front.Goals as goal

@@ -1,14 +1,12 @@
 -- `are_apart` meets its contract: the entries passed have other traces than those after them.
-use mathlib.Core.Path.{◌≡◌, refl, sym, ◌∙◌}
-use borrow.Author.Rules.{rules}
-use borrow.Author.Tests.{not-true, not-false}
+use mathlib.Core.Path.{refl, sym, ◌∙◌}
 use native.Mathlib.Omega.{arith}
-use Prim.Native.Nat.{◌+◌, ◌*◌, ◌-◌, ◌<◌}
+use Prim.Native.Nat.{◌+◌, ◌-◌, ◌<◌}
 use lib.ListN.{length}
 use Rattle.entry.specs.Entry.{entry_size}
 use Rattle.journal.specs.Journal.{entries_of}
 use Rattle.traces.proofs.Entries.{entries-room, entries-after, trace_is}
-use Rattle.traces.proofs.Compared.{Compared, compared_none, compared_more, compared_stop, compared_done}
+use Rattle.traces.proofs.Compared.{compared_none, compared_more, compared_stop, compared_done}
 use Rattle.traces.proofs.are_apart.Goals as goal
 
 pub loop-i-init : goal.loop-i-init

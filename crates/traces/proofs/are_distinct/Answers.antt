@@ -1,6 +1,5 @@
 -- `are_distinct` meets its contract: entries in order are distinct.
 use mathlib.Core.Path.{sym, ◌∙◌}
-use borrow.Author.Rules.{rules}
 use Rattle.journal.specs.Journal.{entries_of}
 use Rattle.traces.proofs.Ordered.{ordered-distinct}
 use Rattle.traces.proofs.are_distinct.Goals as goal

@@ -1,15 +1,10 @@
 -- `are_few_apart` meets its contract: the traces passed are noted, and differ.
-use mathlib.Core.Path.{◌≡◌, refl, sym, ◌∙◌}
-use borrow.Author.Rules.{rules}
-use borrow.Author.Tests.{not-true, not-false}
-use native.Mathlib.Omega.{arith}
-use Prim.Native.Nat.{◌-◌, ◌<◌}
-use lib.ListN.{length, length-set}
-use lib.Seq.{length-take-le}
+use mathlib.Core.Path.{◌≡◌}
+use Prim.Native.Nat.{◌-◌}
+use lib.ListN.{length}
 use Rattle.numbers.specs.Limits.{most_entries}
 use Rattle.journal.specs.Journal.{entries_of}
-use Rattle.traces.proofs.Entries.{entries-room, trace_is}
-use Rattle.traces.proofs.Noted.{Noted, few-below, noted_none, noted_more, noted_stop, noted_done}
+use Rattle.traces.proofs.Noted.{Noted}
 use Rattle.traces.proofs.are_few_apart.Given as goal
 
 abbrev pub invariant-loop-i : goal.invariant-loop-i

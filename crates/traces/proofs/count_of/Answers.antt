@@ -1,6 +1,5 @@
 -- `count_of` meets its contract: the entries asked for, or those that the bytes hold.
 use mathlib.Core.Path.{sym}
-use borrow.Author.Rules.{rules}
 use native.Mathlib.Omega.{arith}
 use Prim.Native.Nat.{◌/◌}
 use lib.ListN.{length}

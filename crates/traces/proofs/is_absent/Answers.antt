@@ -1,6 +1,5 @@
 -- `is_absent` meets its contract.
 use mathlib.Core.Path.{sym, ◌∙◌}
-use borrow.Author.Rules.{rules}
 use Rattle.journal.specs.Journal.{entries_of}
 use Rattle.journal.proofs.Traces.{first_absent}
 use Rattle.traces.proofs.Absent.{present_found}

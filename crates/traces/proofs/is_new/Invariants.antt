@@ -1,13 +1,10 @@
 -- `is_new` meets its contract. The loop's invariant: `new` says whether each number passed is another.
-use mathlib.Core.Path.{◌≡◌, refl}
+use mathlib.Core.Path.{◌≡◌}
 use mathlib.Core.Bool.{not}
 use Prim.Native.Nat.{◌-◌, ◌≤◌}
-use native.Mathlib.Numerals.{add-one}
 use lib.Dec.{eqb}
 use lib.ListN.{length, get_or}
-use borrow.Author.Rules.{rules}
 use Rattle.digits.specs.Lists.{all}
-use Rattle.traces.specs.Traces.{unseen}
 use Rattle.traces.proofs.is_new.Given as goal
 
 abbrev pub invariant-loop-k : goal.invariant-loop-k

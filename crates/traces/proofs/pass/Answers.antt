@@ -1,14 +1,13 @@
 -- `pass` meets its contract: the search goes on from where the entries passed have led it.
 use mathlib.Core.Path.{ap, ◌∙◌}
-use borrow.Author.Rules.{rules}
 use native.Mathlib.Omega.{arith}
 use Rattle.traces.proofs.pass.Goals.{then-t-next, else-t-next}
 use Prim.Native.Nat.{ℕ, ◌-◌, ◌<◌}
 use lib.ListN.{length}
-use Rattle.journal.specs.Journal.{entries_of, taken_from}
+use Rattle.journal.specs.Journal.{entries_of}
 use Rattle.numbers.specs.declared.Trace.{Trace}
 use Rattle.traces.proofs.Entries.{entries-room, trace_is}
-use Rattle.traces.proofs.Passing.{Passing, some_left, passing_none, passing_met, passing_other, passing_done}
+use Rattle.traces.proofs.Passing.{some_left, passing_none, passing_met, passing_other, passing_done}
 use Rattle.traces.proofs.pass.Goals as goal
 
 abbrev number : Trace → ℕ

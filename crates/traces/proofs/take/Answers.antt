@@ -1,7 +1,4 @@
 -- `take` meets its contract: a pass that leaves no number behind is the last.
-use borrow.Author.Rules.{rules}
-use Rattle.journal.specs.Journal.{entries_of, taken_from}
-use Rattle.traces.specs.Traces.{Pass}
 use Rattle.traces.proofs.Passing.{pass_begun, pass_on, search_done}
 use Rattle.traces.proofs.take.Goals as goal
 

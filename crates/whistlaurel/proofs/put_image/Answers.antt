@@ -4,4 +4,4 @@ use Rattle.whistlaurel.proofs.put_image.Goals as goal
 
 pub returns : goal.returns
 returns c =
-    image-copied c.args.s _ c.image_of-b.ensures c.requires c.copy_from_slice.ensures.after
+    image-copied c.args.s _ c.image_of-b.ensures c.requires c.copy.ensures

@@ -1,9 +1,8 @@
 -- `word_values::characters_into` meets its contract.
 use borrow.Author.Rules.{rules}
 use native.Mathlib.Omega.{arith}
-use Rattle.digits.proofs.Lists.{Filled, filled_none, filled_more, filled-done}
+use Rattle.digits.proofs.Lists.{filled_none, filled_more, filled-done}
 use Prim.Native.Nat.{◌-◌}
-use lib.ListN.{length, get_or}
 use Rattle.word_values.specs.Values.{character}
 use Rattle.word_values.proofs.characters_into.Goals as goal
 

@@ -1,6 +1,5 @@
 -- `word_values::is_good` meets its contract.
 use Rattle.word_values.specs.Values.{is_good}
-use borrow.Author.Rules.{rules}
 use Rattle.word_values.proofs.is_good.Goals as goal
 
 pub returns : goal.returns

@@ -1,5 +1,4 @@
 -- `word_values::number_up_to` meets its contract.
-use borrow.Author.Rules.{rules}
 use Rattle.word_values.specs.Values.{number_up_to}
 use Rattle.word_values.proofs.number_up_to.Goals as goal
 

@@ -1,6 +1,5 @@
 -- `word_values::says_bytes` meets its contract.
 use mathlib.Core.Path.{refl}
-use borrow.Author.Rules.{rules}
 use native.Mathlib.Omega.{arith}
 use Rattle.digits.proofs.Lists.{get_d_past}
 use Rattle.word_values.specs.Values.{says_bytes}

@@ -1,6 +1,5 @@
 -- `word_values::text_into` meets its contract.
 use mathlib.Core.Path.{sym, ◌∙◌}
-use borrow.Author.Rules.{rules}
 use Rattle.word_values.proofs.Values.{bytes_other, bytes-told, plain_other, plain-told}
 use Rattle.word_values.proofs.text_into.Goals as goal
 

@@ -1,5 +1,4 @@
 -- `word_values::up_to` meets its contract.
-use borrow.Author.Rules.{rules}
 use borrow.Author.Tests.{le-leb, lt-leb}
 use Rattle.word_values.proofs.up_to.Goals as goal
 

@@ -1,6 +1,5 @@
 -- `words::first_word` meets its contract.
 use mathlib.Core.Path.{sym}
-use borrow.Author.Rules.{rules}
 use lib.Seq.{length-take-le}
 use Rattle.words.proofs.Words.{first_part}
 use Rattle.words.proofs.first_word.Goals as goal

@@ -1,5 +1,4 @@
 -- `words::is_skipped` meets its contract.
-use borrow.Author.Rules.{rules}
 use borrow.Author.Tests.{eq-eqb, ne_eqb}
 use Rattle.words.specs.Lines.{skipped}
 use Rattle.words.proofs.is_skipped.Goals as goal

@@ -1,5 +1,4 @@
 -- `words::past_word` meets its contract.
-use borrow.Author.Rules.{rules}
 use Rattle.words.proofs.Words.{past-part}
 use Rattle.words.proofs.past_word.Goals as goal
 

@@ -1,5 +1,4 @@
 -- `words::rest` meets its contract.
-use borrow.Author.Rules.{rules}
 use Rattle.words.specs.Words.{rest}
 use Rattle.words.proofs.rest.Goals as goal
 

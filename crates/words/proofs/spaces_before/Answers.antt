@@ -1,8 +1,6 @@
 -- `words::spaces_before` meets its contract.
-use borrow.Author.Rules.{rules}
-use Rattle.words.proofs.Lines.{Led, led_none, led_more, led_here, led_all}
+use Rattle.words.proofs.Lines.{led_none, led_more, led_here, led_all}
 use Prim.Native.Nat.{◌-◌}
-use lib.ListN.{length}
 use Rattle.words.proofs.spaces_before.Goals as goal
 
 pub loop-i-init : goal.loop-i-init

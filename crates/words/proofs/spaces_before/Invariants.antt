@@ -1,6 +1,5 @@
 -- `words::spaces_before` meets its contract.
-use borrow.Author.Rules.{rules}
-use Rattle.words.proofs.Lines.{Led, led_none, led_more, led_here, led_all}
+use Rattle.words.proofs.Lines.{Led}
 use Prim.Native.Nat.{◌-◌}
 use lib.ListN.{length}
 use Rattle.words.proofs.spaces_before.Given as goal

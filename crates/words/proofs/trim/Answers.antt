@@ -1,6 +1,5 @@
 -- `words::trim` meets its contract.
 use mathlib.Core.Path.{sym}
-use borrow.Author.Rules.{rules}
 use native.Mathlib.Omega.{arith}
 use Rattle.words.proofs.Lines.{spaces_le, last_end_le, trimmed-part}
 use lib.Seq.{length-take-le}

@@ -1,5 +1,4 @@
 -- `words::word` meets its contract.
-use borrow.Author.Rules.{rules}
 use Rattle.words.specs.Words.{word_at}
 use Rattle.words.proofs.word.Goals as goal
 

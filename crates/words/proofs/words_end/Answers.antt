@@ -1,6 +1,5 @@
 -- `words::words_end` meets its contract.
-use borrow.Author.Rules.{rules}
-use Rattle.words.proofs.Lines.{Ended, ended-none, ended-more, ended_here, ended-all}
+use Rattle.words.proofs.Lines.{ended-none, ended-more, ended_here, ended-all}
 use Rattle.words.proofs.words_end.Goals as goal
 
 pub loop-n-init : goal.loop-n-init

@@ -1,6 +1,5 @@
 -- `words::words_end` meets its contract.
-use borrow.Author.Rules.{rules}
-use Rattle.words.proofs.Lines.{Ended, ended-none, ended-more, ended_here, ended-all}
+use Rattle.words.proofs.Lines.{Ended}
 use Rattle.words.proofs.words_end.Given as goal
 
 abbrev pub invariant-loop-n : goal.invariant-loop-n

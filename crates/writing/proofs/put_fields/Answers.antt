@@ -4,11 +4,9 @@ use Rattle.writing.proofs.put_fields.Goals.{then-is_set+else-p-ne0, else-is_set}
 use Prim.Native.Nat.{◌-◌}
 use borrow.Author.Rules.{rules}
 use native.Mathlib.Omega.{arith}
-use lib.ListN.{length}
-use Rattle.field.specs.Table.{rows}
 use Rattle.field.proofs.Words.{row_named}
 use Rattle.message.proofs.Places.{no_format, at_place, place_rest, place_of}
-use Rattle.writing.proofs.Putting.{row_fits, row_less, Putting, putting_none, putting_within, putting_skip, putting_stop, putting_more, putting_done}
+use Rattle.writing.proofs.Putting.{row_fits, row_less, putting_none, putting_within, putting_skip, putting_stop, putting_more, putting_done}
 use Rattle.writing.proofs.put_fields.Goals as goal
 
 pub loop-k-init : goal.loop-k-init

@@ -11,5 +11,5 @@ use Rattle.writing.proofs.put_message.Goals as goal
 pub returns : goal.returns
 returns c =
     let l : length c.args.m.bitmap ≡ 8 = search rules in
-    let h = put_head (c.args.m.indicator / 256) (c.args.m.indicator % 256) c.args.m.bitmap c.args.buf.now l (room-head c.args.fields.now c.args.buf.now c.requires) c.copy_from_slice.ensures.after in
-    put_after 10 (head c.args.m) c.args.fields.now c.args.buf.now (omega (arith, l)) c.requires h c.copy_from_slice-2.ensures.after
+    let h = put_head (c.args.m.indicator / 256) (c.args.m.indicator % 256) c.args.m.bitmap c.args.buf.now l (room-head c.args.fields.now c.args.buf.now c.requires) c.copy.ensures in
+    put_after 10 (head c.args.m) c.args.fields.now c.args.buf.now (omega (arith, l)) c.requires h c.copy-2.ensures

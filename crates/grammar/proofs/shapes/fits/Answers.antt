@@ -1,5 +1,4 @@
 -- `grammar::shapes::fits` meets its contract.
-use borrow.Author.Rules.{rules}
 use Rattle.grammar.proofs.shapes.fits.Goals as goal
 
 pub returns-in-Number : goal.returns-in-Number

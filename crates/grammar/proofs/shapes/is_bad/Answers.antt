@@ -1,5 +1,4 @@
 -- `grammar::shapes::is_bad` meets its contract.
-use borrow.Author.Rules.{rules}
 use Rattle.grammar.specs.Shapes.{is_bad}
 use Rattle.grammar.proofs.shapes.is_bad.Goals as goal
 

@@ -1,5 +1,4 @@
 -- `grammar::shapes::is_dash` meets its contract.
-use borrow.Author.Rules.{rules}
 use Rattle.grammar.specs.Shapes.{is_dash}
 use Rattle.grammar.proofs.shapes.is_dash.Goals as goal
 

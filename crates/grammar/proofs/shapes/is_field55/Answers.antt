@@ -1,5 +1,4 @@
 -- `grammar::shapes::is_field55` meets its contract.
-use borrow.Author.Rules.{rules}
 use Rattle.grammar.specs.Shapes.{is_field55}
 use Rattle.grammar.proofs.shapes.is_field55.Goals as goal
 

@@ -1,5 +1,4 @@
 -- `grammar::shapes::is_hexadecimal` meets its contract.
-use borrow.Author.Rules.{rules}
 use Rattle.grammar.proofs.Faults.{gave_bytes}
 use Rattle.grammar.proofs.shapes.is_hexadecimal.Goals as goal
 

@@ -1,5 +1,4 @@
 -- `grammar::shapes::judged` meets its contract.
-use borrow.Author.Rules.{rules}
 use Rattle.grammar.specs.Shapes.{judged}
 use Rattle.grammar.proofs.shapes.judged.Goals as goal
 

@@ -1,7 +1,6 @@
 -- `grammar::shapes::line_fault` meets its contract.
-use Rattle.grammar.proofs.Faults.{Left, left-all, fine_one, wrong_one, none_left}
+use Rattle.grammar.proofs.Faults.{left-all, fine_one, wrong_one, none_left}
 use Prim.Native.Nat.{◌-◌}
-use borrow.Author.Rules.{rules}
 use native.Mathlib.Omega.{arith}
 use Rattle.grammar.proofs.shapes.line_fault.Goals as goal
 

@@ -1,6 +1,5 @@
 -- `grammar::table::shape_at` meets its contract.
 use Rattle.grammar.specs.Table.{shape_at}
-use borrow.Author.Rules.{rules}
 use Rattle.grammar.proofs.table.shape_at.Goals as goal
 
 pub returns : goal.returns

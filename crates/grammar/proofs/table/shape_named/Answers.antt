@@ -2,7 +2,6 @@
 use Rattle.grammar.proofs.Tables.{entry_at, past-entries}
 use Rattle.grammar.specs.Table.{shapes, shape_named}
 use Rattle.grammar.specs.declared.Shape.TheVariants.{End}
-use borrow.Author.Rules.{rules}
 use native.Mathlib.Omega.{arith}
 use Rattle.grammar.proofs.table.shape_named.Goals as goal
 

@@ -1,5 +1,4 @@
 -- `Found::is_at` meets its contract.
-use borrow.Author.Rules.{rules}
 use Rattle.journal.proofs.Found.is_at.Goals as goal
 
 pub returns-in-At : goal.returns-in-At

@@ -1,5 +1,5 @@
 -- `kinds::Totals::plus` meets its contract.
-use Rattle.std.proofs.Common.{sym, ◌∙◌, arith, rules}
+use Rattle.std.proofs.Common.{sym, ◌∙◌, arith}
 use Rattle.kinds.proofs.Booked.{booked-debit, booked-credit, booked_neither}
 use Rattle.kinds.proofs.Totals.plus.Goals as goal
 

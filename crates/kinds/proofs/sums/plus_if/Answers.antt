@@ -1,5 +1,5 @@
 -- `kinds::sums::plus_if` meets its contract.
-use Rattle.std.proofs.Common.{arith, rules}
+use Rattle.std.proofs.Common.{arith}
 use Rattle.kinds.proofs.FiveSums.{plus_yes, plus_no}
 use Rattle.kinds.proofs.sums.plus_if.Goals as goal
 

@@ -1,4 +1,3 @@
-use borrow.Author.Rules.{rules}
 use Rattle.numbers.proofs.Batch.following.Goals as goal
 
 pub returns : goal.returns

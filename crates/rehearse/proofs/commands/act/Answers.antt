@@ -1,5 +1,5 @@
 -- `rehearse::commands::act` meets its contract.
-use Rattle.std.proofs.Common.{refl, sym, length-take-le, rules}
+use Rattle.std.proofs.Common.{refl, sym, length-take-le}
 use Rattle.rehearse.proofs.Laws.{did, call-done, no_call-done}
 use Rattle.state.specs.Calls.{lend}
 use Rattle.rehearse.proofs.commands.act.Goals as goal

@@ -1,5 +1,5 @@
 -- `rehearse::commands::told` meets its contract.
-use Rattle.std.proofs.Common.{[], rules}
+use Rattle.std.proofs.Common.{[]}
 use Rattle.texts.proofs.Texts.{start}
 use Rattle.rehearse.proofs.commands.told.Goals as goal
 

@@ -1,7 +1,6 @@
 -- `screen::outcomes::add_error` meets its contract.
 use Rattle.templates.proofs.Templates.{adds-is}
 use Rattle.screen.proofs.Lines.{error_filled}
-use borrow.Author.Rules.{rules}
 use Rattle.screen.proofs.outcomes.add_error.Goals as goal
 
 pub returns : goal.returns

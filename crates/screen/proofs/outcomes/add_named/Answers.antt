@@ -1,5 +1,4 @@
 -- `screen::outcomes::add_named` meets its contract.
-use borrow.Author.Rules.{rules}
 use Rattle.texts.proofs.Texts.{and_then}
 use Rattle.screen.proofs.outcomes.add_named.Goals as goal
 

@@ -2,7 +2,6 @@
 use Rattle.templates.proofs.Templates.{adds-is}
 use Rattle.screen.proofs.Lines.{sent-filled, refused-filled}
 use Rattle.screen.specs.Outcomes.{reason}
-use borrow.Author.Rules.{rules}
 use Rattle.screen.proofs.outcomes.add_outcome.Goals as goal
 
 pub returns-in-Send : goal.returns-in-Send

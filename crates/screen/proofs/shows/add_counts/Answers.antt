@@ -2,7 +2,6 @@
 use Rattle.state_rules.specs.StateRules.{waiting}
 use Rattle.templates.proofs.Templates.{adds-is}
 use Rattle.screen.proofs.Lines.{counts-filled}
-use borrow.Author.Rules.{rules}
 use Rattle.screen.proofs.shows.add_counts.Goals as goal
 
 pub returns : goal.returns

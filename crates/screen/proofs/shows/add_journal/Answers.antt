@@ -2,12 +2,9 @@
 use mathlib.Core.Path.{◌≡◌, refl}
 use borrow.Author.Rules.{rules}
 use borrow.Author.Tests.{eq-eqb, ne_eqb}
-use Prim.Native.Nat.{◌≤◌, ◌-◌}
-use lib.ListN.{length}
-use Rattle.texts.specs.Text.{Adds}
-use Rattle.journal.specs.Journal.{entries_of}
+use Prim.Native.Nat.{◌-◌}
 use Rattle.texts.proofs.Texts.{nothing}
-use Rattle.screen.specs.Shows.{entry_lines, journal_text}
+use Rattle.screen.specs.Shows.{journal_text}
 use Rattle.screen.proofs.Lines.{one_more}
 use Rattle.screen.proofs.shows.add_journal.Goals as goal
 

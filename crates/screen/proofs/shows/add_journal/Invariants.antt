@@ -1,14 +1,10 @@
 -- `screen::shows::add_journal` meets its contract.
-use mathlib.Core.Path.{◌≡◌, refl}
-use borrow.Author.Rules.{rules}
-use borrow.Author.Tests.{eq-eqb, ne_eqb}
+use mathlib.Core.Path.{◌≡◌}
 use Prim.Native.Nat.{◌≤◌, ◌-◌}
 use lib.ListN.{length}
 use Rattle.texts.specs.Text.{Adds}
 use Rattle.journal.specs.Journal.{entries_of}
-use Rattle.texts.proofs.Texts.{nothing}
-use Rattle.screen.specs.Shows.{entry_lines, journal_text}
-use Rattle.screen.proofs.Lines.{one_more}
+use Rattle.screen.specs.Shows.{entry_lines}
 use Rattle.screen.proofs.shows.add_journal.Given as goal
 
 abbrev pub invariant-loop-i : goal.invariant-loop-i

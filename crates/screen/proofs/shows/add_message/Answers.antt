@@ -1,7 +1,6 @@
 -- `screen::shows::add_message` meets its contract.
 use Rattle.templates.specs.Template.{meant, taken, filled}
 use Rattle.screen.specs.Shows.{message_line}
-use borrow.Author.Rules.{rules}
 use borrow.Author.Tests.{eq-eqb, ne_eqb}
 use Rattle.screen.proofs.shows.add_message.Goals as goal
 

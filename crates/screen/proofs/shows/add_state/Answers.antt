@@ -3,7 +3,6 @@ use mathlib.Core.Bool.{true, false}
 use Rattle.templates.proofs.Templates.{adds-is}
 use Rattle.screen.proofs.Lines.{state-filled}
 use Rattle.screen.specs.Shows.{state_line, phase_name, state_number}
-use borrow.Author.Rules.{rules}
 use Rattle.screen.proofs.shows.add_state.Goals as goal
 
 pub returns-then-s : goal.returns-then-s

@@ -1,7 +1,6 @@
 -- `screen::shows::add_totals` meets its contract.
 use Rattle.templates.proofs.Templates.{adds-is}
 use Rattle.screen.proofs.Lines.{totals-filled}
-use borrow.Author.Rules.{rules}
 use Rattle.screen.proofs.shows.add_totals.Goals as goal
 
 pub returns : goal.returns

@@ -1,6 +1,5 @@
 -- `screen::shows::state_number` meets its contract.
 use Rattle.screen.specs.Shows.{state_number}
-use borrow.Author.Rules.{rules}
 use Rattle.screen.proofs.shows.state_number.Goals as goal
 
 pub returns-then-signs_on : goal.returns-then-signs_on

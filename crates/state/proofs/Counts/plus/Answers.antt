@@ -1,4 +1,3 @@
-use Rattle.std.proofs.Common.{rules}
 use Rattle.state.proofs.Counts.plus.Goals as goal
 
 pub returns-in-Sent : goal.returns-in-Sent

@@ -1,5 +1,4 @@
 -- `State::closed` meets its contract.
-use Rattle.std.proofs.Common.{rules}
 use Rattle.state.proofs.State.closed.Goals as goal
 
 pub returns : goal.returns

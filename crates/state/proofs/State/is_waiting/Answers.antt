@@ -1,5 +1,4 @@
 -- `state::State::is_waiting` meets its contract.
-use Rattle.std.proofs.Common.{rules}
 use Rattle.state.proofs.State.is_waiting.Goals as goal
 
 pub returns : goal.returns

@@ -1,5 +1,4 @@
 -- `state::State::new` meets its contract.
-use Rattle.std.proofs.Common.{rules}
 use Rattle.state.proofs.State.new.Goals as goal
 
 pub returns : goal.returns

@@ -1,5 +1,4 @@
 -- `State::took` meets its contract.
-use Rattle.std.proofs.Common.{rules}
 use Rattle.state.proofs.State.took.Goals as goal
 
 pub returns : goal.returns

@@ -1,6 +1,5 @@
 -- `words::rows::first_row` meets its contract.
 use mathlib.Core.Path.{sym}
-use borrow.Author.Rules.{rules}
 use lib.Seq.{length-take-le}
 use Rattle.words.proofs.Tables.{first_row-part}
 use Rattle.words.proofs.rows.first_row.Goals as goal

@@ -1,6 +1,5 @@
 -- `words::rows::other_rows` meets its contract.
 use Rattle.words.proofs.Tables.{other_rows-part, no_rows-part}
-use borrow.Author.Rules.{rules}
 use Rattle.words.proofs.rows.other_rows.Goals as goal
 
 pub returns-then-end-t : goal.returns-then-end-t

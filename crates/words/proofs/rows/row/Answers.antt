@@ -1,6 +1,5 @@
 -- `words::rows::row` meets its contract.
 use Rattle.words.specs.Rows.{row}
-use borrow.Author.Rules.{rules}
 use Rattle.words.proofs.rows.row.Goals as goal
 
 pub returns : goal.returns

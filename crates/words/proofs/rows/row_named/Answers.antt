@@ -1,8 +1,7 @@
 -- `words::rows::row_named` meets its contract.
-use Rattle.words.proofs.Tables.{Past, past-none, past_here, past_more, past_all}
+use Rattle.words.proofs.Tables.{past-none, past_here, past_more, past_all}
 use Prim.Native.Nat.{◌-◌}
 use mathlib.Core.Path.{sym, ◌∙◌}
-use borrow.Author.Rules.{rules}
 use Rattle.words.proofs.rows.row_named.Goals as goal
 
 pub loop-k-init : goal.loop-k-init

@@ -1,6 +1,6 @@
 -- `words::scan::find` meets its contract.
-use Rattle.std.proofs.Common.{◌≡◌, sym, ap, ◌∙◌, length, arith, below_more}
-use Rattle.words.proofs.Places.{Without, without_none, index_of-here, index_of-none}
+use Rattle.std.proofs.Common.{◌≡◌, sym, length, arith, below_more}
+use Rattle.words.proofs.Places.{without_none, index_of-here, index_of-none}
 use Rattle.words.proofs.scan.find.Goals as goal
 
 pub loop-i-init : goal.loop-i-init

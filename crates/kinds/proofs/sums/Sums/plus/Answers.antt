@@ -1,5 +1,4 @@
 -- `kinds::sums::Sums::plus` meets its contract.
-use Rattle.std.proofs.Common.{rules}
 use Rattle.kinds.specs.Sums.{added}
 use Rattle.kinds.proofs.sums.Sums.plus.Goals as goal
 

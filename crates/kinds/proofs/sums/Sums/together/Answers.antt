@@ -1,5 +1,5 @@
 -- `kinds::sums::Sums::together` meets its contract.
-use Rattle.std.proofs.Common.{arith, rules}
+use Rattle.std.proofs.Common.{arith}
 use Rattle.kinds.specs.Sums.{together}
 use Rattle.kinds.proofs.sums.Sums.together.Goals as goal
 
