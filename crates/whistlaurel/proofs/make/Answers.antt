@@ -1,7 +1,6 @@
 -- `whistlaurel::make` meets its contract.
 use borrow.Author.Tests.{not-true, not-false}
 use mathlib.Core.Path.{ap, sym, ◌∙◌}
-use borrow.Author.Tests.{not-false}
 use Rattle.state.specs.Calls.{lend}
 use Rattle.image_definitions.specs.declared.Reading.{Reading}
 use Rattle.image_definitions.proofs.Found.{accepted-length}
