@@ -1,11 +1,9 @@
 -- What the functions find and write is what the definitions say.
-use mathlib.Core.Path.{◌≡◌, sym, ◌∙◌}
-use mathlib.Core.List.{List, ◌++◌, append-nil}
+use mathlib.Core.Path.{◌≡◌}
+use mathlib.Core.List.{List}
 use mathlib.Core.Bool.{true, false}
 use Prim.Native.Nat.{ℕ, ◌≤◌, ◌<◌}
-use native.Mathlib.Omega.{arith}
-use lib.ListN.{length, get_or, take, drop}
-use lib.Seq.{drop-length, take_all}
+use lib.ListN.{length, get_or}
 use borrow.Author.Tests.{eq-eqb, ne_eqb, lt-ltb, le-ltb}
 use Rattle.message.specs.Message.{field_of}
 use Rattle.reading.specs.Reading.{read_message}
@@ -20,20 +18,12 @@ use Rattle.state.specs.Calls.{Lent, Result}
 use Rattle.image_definitions.specs.Layout.{rows, size}
 use Rattle.image_definitions.specs.Image.{totals_values, values_of, image, read_image}
 use Rattle.image_definitions.specs.declared.Reading.{Reading}
-use Rattle.image_definitions.proofs.Theorems.{image-length}
 use Rattle.kinds.specs.declared.sums.Sums.{Sums}
 use Rattle.journal.specs.Journal.{entries_of, batch_sums}
 use Rattle.checks.specs.Checks.{first_broken}
 use Rattle.rules.specs.Rules.{report_rules}
 use Rattle.call_definitions.specs.Events.{Event, call}
 use Rattle.interface_definitions.specs.Interface.{done, out_of_form, given, no_image, on_image, returned, fresh_image, number_at, totals_on, sums_values, sums_on, held, taken_number, taken_count, field_at}
-
--- what is copied into bytes of its length is all that stands there
-copied : (a o : List ℕ) {x : List ℕ} → length o ≡ length a → x ≡ take (length a) a ++ drop (length a) o → x ≡ a
-copied a o l p = p ∙ rw (take_all (length a) a (omega arith), ← l, drop-length, append-nil)
-
-pub image-copied : (s : State) (o : List ℕ) {b x : List ℕ} → b ≡ image s → length o ≡ size → x ≡ take (length b) b ++ drop (length b) o → x ≡ image s
-image-copied s o {b} q l p = copied b o (l ∙ rw q (sym (image-length s))) p ∙ q
 
 -- a fresh terminal
 module _ (x : Settings) (b : List ℕ) where
