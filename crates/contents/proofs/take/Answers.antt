@@ -1,4 +1,6 @@
 -- `contents::take` meets its contract.
+use Rattle.digits.proofs.Copies.{copied_whole}
+use borrow.Author.Rules.{rules}
 use mathlib.Core.Path.{sym, ◌∙◌}
 use native.Mathlib.Omega.{arith}
 use Rattle.contents.proofs.Taken.{not_filled, filled}
@@ -41,4 +43,4 @@ returns-else-take_printable c =
 
 pub returns-in-Any : goal.returns-in-Any
 returns-in-Any c =
-    filled c.if-out-b.false (rw c.in-Any.is) (λ e. c.copy.ensures)
+    filled c.if-out-b.false (rw c.in-Any.is) (λ e. (copied_whole _ _ c.copy.ensures (search rules)))
