@@ -146,8 +146,7 @@ fn chip_of(b: &[u8]) -> Chip
         return Chip::none();
     }
     let mut bytes = [0u8; 255];
-    let n = b.len();
-    digits::copy(b, &mut bytes[..n]);
+    digits::copy(b, &mut bytes);
     Chip {
         length: b.len() as u8,
         bytes: bytes,

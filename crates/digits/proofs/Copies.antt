@@ -1,5 +1,5 @@
 -- Laws of bytes that are copied over others.
-use Rattle.std.proofs.Common.{◌≡◌, ℕ, ◌<◌, min, List, ◌++◌, length, take, drop, sym, ◌∙◌, arith}
+use Rattle.std.proofs.Common.{◌≡◌, ◌≤◌, ℕ, ◌<◌, min, List, ◌++◌, length, take, drop, sym, ◌∙◌, arith}
 use Rattle.std.proofs.lemmas.List.{take-append-drop}
 use lib.ListN.{drop_of_length-le}
 use lib.Seq.{take_all, take-length, drop-length}
@@ -12,6 +12,11 @@ pub copied_whole : (from out : List ℕ) {x : List ℕ} → x ≡ copied from ou
 unfolding copied
 copied_whole from out e l =
     e ∙ rw (drop_of_length-le out {i = length from} (omega arith), append-nil) (take_all (length out) from (omega arith))
+
+-- over more bytes, the rest stays
+pub copied_short : (from out : List ℕ) {x : List ℕ} → x ≡ copied from out → length from ≤ length out → x ≡ from ++ drop (length from) out
+unfolding copied
+copied_short from out e l = e ∙ rw (take_all (length out) from l)
 
 -- the first n bytes are copied, as many as both have
 pub copied_front : (from out x : List ℕ) (n : ℕ) → n ≡ min (length from) (length out) → length x ≡ length out
