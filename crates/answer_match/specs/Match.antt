@@ -1,9 +1,7 @@
 -- Document 01, "Calls": what an answer must hold to be one, and what it says.
-use Rattle.std.specs.Prelude.{[], ◌∷◌, Bool, false, cond, not, ◌&&◌, ◌||◌, ℕ, ◌+◌, leb, eqb}
+use Rattle.std.specs.Prelude.{[], ◌∷◌, Bool, false, cond, not, ◌&&◌, ◌||◌, ℕ, ◌+◌, leb, eqb, Some, None, Option}
 use Rattle.digits.specs.Digits.{pack}
 use Rattle.digits.specs.Numbers.{digits_of}
-use Rattle.digits.specs.declared.Number.{Number}
-use Rattle.digits.specs.declared.Number.TheVariants.{Is, Not}
 use Rattle.field.specs.Bitmap.{names}
 use Rattle.message.specs.declared.Message.{Message}
 use Rattle.parts.specs.Parts.{matches, part_of}
@@ -25,13 +23,13 @@ indicator_sent (awaited.Item i) = 0x0320
 indicator_sent (awaited.End x) = 0x0320
 
 -- a part of a field is this number
-abbrev pub is_value : ℕ → Number → Bool
-is_value n (Is x) = eqb x n
-is_value n Not = false
+abbrev pub is_value : ℕ → Option ℕ → Bool
+is_value n (Some x) = eqb x n
+is_value n None = false
 
-abbrev pub is_value_within : ℕ → ℕ → Number → Bool
-is_value_within low high (Is x) = leb low x && leb x high
-is_value_within low high Not = false
+abbrev pub is_value_within : ℕ → ℕ → Option ℕ → Bool
+is_value_within low high (Some x) = leb low x && leb x high
+is_value_within low high None = false
 
 -- its type is the awaited one plus 10, and 11, 41 and 42 equal those sent
 unfoldable pub repeats : Settings → ℕ → Trace → Message → Bool
@@ -79,9 +77,9 @@ unfoldable pub is_answer : Settings → Batch → Trace → Awaited → Message 
 is_answer x batch trace a m = matches_sent x batch (indicator_sent a) trace m && holds_named a m
 
 -- document 02, request 3: the batch number that an answer brings, 60.2; 0 where it brings none from 1 to 999999
-abbrev pub brought_by : Number → ℕ
-brought_by (Is x) = cond (is_number x) x 0
-brought_by Not = 0
+abbrev pub brought_by : Option ℕ → ℕ
+brought_by (Some x) = cond (is_number x) x 0
+brought_by None = 0
 
 unfoldable pub batch_in : Message → Batch
 batch_in m = record { 0 = brought_by (part_of m part.Batch) }

@@ -1,4 +1,5 @@
 -- Laws of the entry of an approval: its card, its parts and its form.
+use Rattle.std.specs.Prelude.{Some, None}
 use mathlib.Core.Path.{◌≡◌, refl, ap, sym, ◌∙◌}
 use mathlib.Core.List.{List, ◌++◌}
 use mathlib.Core.Bool.{Bool, true, false, cond, ◌&&◌}
@@ -6,16 +7,15 @@ use Prim.Native.Nat.{ℕ, ◌+◌, ◌*◌, ◌-◌, ◌≤◌, ◌<◌}
 use native.Mathlib.Omega.{arith}
 use native.Mathlib.Decide.{dec_lt}
 use lib.Dec.{leb, eqb}
-use lib.ListN.{length, get_or, take, drop, replicate, length-append, length-take, length-drop, length-replicate, get_or-replicate, get_or-append}
+use lib.ListN.{length, get_or, take, drop, replicate, length-append, length-drop, length-replicate, get_or-replicate, get_or-append}
 use lib.Seq.{ext_get_or, get_or-append-add, get_or-take, get_or-drop, length-take-le}
 use borrow.Author.Tests.{eq-eqb, le-leb, leb-true, eqb-true}
 use Rattle.numbers.specs.Limits.{largest_amount, last_number}
 use Rattle.numbers.specs.Numbers.{within}
 use Rattle.digits.specs.Digits.{half, bytes_for, unpack, packed_byte, pack, half_allowed, is_packed, all_digits, packable}
 use Rattle.digits.specs.Numbers.{value, digits_of, number_of}
-use Rattle.digits.specs.declared.Number.TheVariants.{Is, Not}
 use Rattle.digits.proofs.Lists.{get_d_past, all_true}
-use Rattle.digits.proofs.Packing.{length-pack, length-unpack, get_d_pack, get_d_unpack, digit_at, digits-all, half-pack, packed-pack, packed-length}
+use Rattle.digits.proofs.Packing.{length-pack, length-unpack, get_d_pack, digit_at, digits-all, packed-pack, packed-length}
 use Rattle.digits.proofs.Numbers.{value-below, length_digits_of, digits_of_digits}
 use Rattle.digits.specs.Packed.{numeral}
 use Rattle.field.specs.Bitmap.{names}
@@ -103,29 +103,20 @@ module _ (c : Card) where
   filled-packable = rw (length-filled, filled_digits_lem)
 
 -- the digits, written into the front of a larger array
-pub front_there : (n : ℕ) (e : List ℕ) → length e ≡ length (take n (replicate {A = ℕ} 275 0)) → n < 256
-    → 20 ≤ length (e ++ drop n (replicate {A = ℕ} 275 0))
-front_there n e q h =
-    let z : List ℕ = replicate 275 0 in
-    omega (arith, length-append e (drop n z), length-take n z, length-drop n z)
-
-pub front-taken : (n : ℕ) (e : List ℕ) → length e ≡ length (take n (replicate {A = ℕ} 275 0)) → n < 256
-    → 20 ≡ length (take 20 (e ++ drop n (replicate {A = ℕ} 275 0)))
-front-taken n e q h = sym (length-take-le 20 (e ++ drop n (replicate {A = ℕ} 275 0)) (front_there n e q h))
-
-pub filled : (c : Card) {e out : List ℕ} (old : List ℕ) → c.length < 256
-    → e ≡ digits_of (length (take c.length (replicate {A = ℕ} 275 0))) c.number
-    → out ≡ cond (packable (take 20 (e ++ drop c.length (replicate {A = ℕ} 275 0))) 10)
-    (pack (take 20 (e ++ drop c.length (replicate {A = ℕ} 275 0)))) old
+pub filled : (c : Card) {n : ℕ} {e out : List ℕ} (old : List ℕ) → n ≡ c.length → n < 256
+    → e ≡ digits_of (length (take n (replicate {A = ℕ} 275 0))) c.number
+    → out ≡ cond (packable (take 20 (e ++ drop n (replicate {A = ℕ} 275 0))) 10)
+    (pack (take 20 (e ++ drop n (replicate {A = ℕ} 275 0)))) old
     → out ≡ zero_filled c
 unfolding zero_filled
-filled c {e} old h d q =
+filled c {n} {e} old p h d q =
     let z : List ℕ = replicate 275 0 in
-    let l : length (take c.length z) ≡ c.length = length-take-le c.length z (omega arith) in
-    let k : e ≡ digits_of c.length c.number = rw l at d in
-    let s : take 20 (e ++ drop c.length z) ≡ filled_digits c =
+    let l : length (take n z) ≡ n = length-take-le n z (omega arith) in
+    let k : e ≡ digits_of c.length c.number = rw (l, p) at d in
+    let m : length (digits_of c.length c.number) ≡ c.length = length_digits_of c.length c.number in
+    let s : take 20 (e ++ drop n z) ≡ filled_digits c =
     rw k (cut-same 20 (digits_of c.length c.number) (replicate 20 0) (zeros-replicate 20) (omega arith)
-    (drop c.length z) (zeros-drop c.length z (zeros-replicate 275)) (omega (arith, length-drop c.length z))) in
+    (drop n z) (zeros-drop n z (zeros-replicate 275)) (omega (arith, length-drop n z))) in
     q ∙ rw (s, filled-packable c)
 
 -- the parts of an approval, made one by one
@@ -142,7 +133,7 @@ number_small : (ds : List ℕ) → length ds ≡ 12 → numeral (number_of ds) <
 unfolding number_of
 number_small ds l = go (all_digits ds) refl
   where
-    go : (b : Bool) → all_digits ds ≡ b → numeral (cond (leb (length ds) 19 && b) (Is (value ds)) Not) < 1000000000000
+    go : (b : Bool) → all_digits ds ≡ b → numeral (cond (leb (length ds) 19 && b) (Some (value ds)) None) < 1000000000000
     go true e = rw l (rw l at (value-below ds e))
     go false e = rw l (omega arith)
 
@@ -153,7 +144,7 @@ answered-small m = go (names m.bitmap 4) (leb 12 (field_of m 4).count) refl
     ds : List ℕ
     ds = unpack (field_of m 4).count (field_of m 4).bytes
 
-    go : (a b : Bool) → leb 12 (field_of m 4).count ≡ b → numeral (cond (a && b) (number_of (take 12 ds)) Not) < 1000000000000
+    go : (a b : Bool) → leb 12 (field_of m 4).count ≡ b → numeral (cond (a && b) (number_of (take 12 ds)) None) < 1000000000000
     go true true e =
         number_small (take 12 ds)
         (length-take-le 12 ds (rw (length-unpack (field_of m 4).count (field_of m 4).bytes) (leb-true 12 (field_of m 4).count e)))
@@ -170,16 +161,6 @@ module _ (c : Card) where
   card_byte j h =
       get_d_pack (filled_digits c) j (rw length-filled (omega arith))
       ∙ rw (filled_at c (2 * j) (omega arith), filled_at c (2 * j + 1) (omega arith))
-
-  -- the digits of a card
-  pub card-digits : c.length ≤ 20 → unpack c.length (zero_filled c) ≡ digits_of c.length c.number
-  unfolding zero_filled
-  card-digits h =
-      ext_get_or 0 _ _ (length-unpack c.length (zero_filled c) ∙ sym (length_digits_of c.length c.number))
-      (λ i k. let b : i < c.length = omega (arith, length-unpack c.length (zero_filled c)) in
-      get_d_unpack c.length (zero_filled c) i b
-      ∙ half-pack (filled_digits c) (filled_digits_lem c) i (omega (arith, length-filled c))
-      ∙ filled_at c i (omega arith))
 
   -- its first bytes are its digits, packed, and the others are zeros
   pub card-front : c.length ≤ 20 → take (bytes_for c.length) (zero_filled c) ≡ pack (digits_of c.length c.number)

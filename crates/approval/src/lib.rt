@@ -11,21 +11,20 @@ use parts::Part;
 use state::{Approval, Card, Request};
 
 // What an entry takes from the answer that approves its request.
-pub fn approval_of(m: Message) -> Approval
-    ensures { result ≡ approval_of m }
+pub fn approval_of(m: &Message) -> Approval
+    ensures { result ≡ approval_of m.now }
 {
-    let mut date = [0u8; 2];
-    let mut authorisation = [0x20u8; 6];
-    let mut reference = [0u8; 12];
-    let h = message::head_of(m);
-    parts::field_into(h, &m.contents, 13, &mut date);
-    parts::field_into(h, &m.contents, 38, &mut authorisation);
-    parts::field_into(h, &m.contents, 37, &mut reference);
+    let mut date = [0; 2];
+    let mut authorisation = [b' '; 6];
+    let mut reference = [0; 12];
+    parts::field_into(m, 13, &mut date);
+    parts::field_into(m, 38, &mut authorisation);
+    parts::field_into(m, 37, &mut reference);
     Approval {
-        amount: digits::numeral(parts::part_of(h, &m.contents, Part::Amount)),
-        date: date,
-        authorisation: authorisation,
-        reference: reference,
+        amount: parts::part_of(m, Part::Amount).unwrap_or(0),
+        date,
+        authorisation,
+        reference,
     }
 }
 
@@ -33,24 +32,25 @@ pub fn approval_of(m: Message) -> Approval
 pub fn approved_entry(q: Request, a: Approval) -> Entry
     ensures { result ≡ approved_entry q a }
 {
-    let card = q.card;
-    let trace = q.trace;
-    let date = a.date;
-    let authorisation = a.authorisation;
-    let reference = a.reference;
+    let Approval {
+        date,
+        authorisation,
+        reference,
+        ..
+    } = a;
     Entry {
         kind: q.kind,
         voided: 0,
         mark: 0,
         resends: 0,
-        trace: trace,
+        trace: q.trace,
         amount: a.amount,
-        digits: card.length,
-        card: zero_filled(card),
-        date: date,
-        authorisation: authorisation,
-        reference: reference,
-        reserved: [0u8; 4],
+        digits: q.card.length,
+        card: zero_filled(q.card),
+        date,
+        authorisation,
+        reference,
+        reserved: [0; 4],
     }
 }
 
@@ -58,12 +58,11 @@ pub fn approved_entry(q: Request, a: Approval) -> Entry
 pub fn card_of(e: Entry) -> Card
     ensures { result ≡ card_of e }
 {
-    let n = e.digits as usize;
-    let card = e.card;
-    let mut ds = [0u8; 255];
-    digits::unpack_into(&card, &mut ds[..n]);
+    let n = usize::from(e.digits);
+    let mut ds = [0; 255];
+    digits::unpack_into(&e.card, &mut ds[..n]);
     Card {
-        number: digits::numeral(digits::number_of(&ds[..n])),
+        number: digits::number_of(&ds[..n]).unwrap_or(0),
         length: e.digits,
     }
 }
@@ -71,10 +70,9 @@ pub fn card_of(e: Entry) -> Card
 fn zero_filled(card: Card) -> [u8; 10]
     ensures { result ≡ zero_filled card }
 {
-    let n = card.length as usize;
-    let mut ds = [0u8; 275];
-    let mut out = [0u8; 10];
-    digits::digits_into(card.number, &mut ds[..n]);
+    let mut ds = [0; 275];
+    let mut out = [0; 10];
+    digits::digits_into(card.number, &mut ds[..usize::from(card.length)]);
     digits::pack_into(&ds[..20], &mut out);
     out
 }

@@ -2,14 +2,13 @@
 #![tactic(auto)]
 
 ghost use Rattle.std.specs.Prelude.{◌≡◌, []};
-ghost use Rattle.message.specs.Message.{whole};
 ghost use Rattle.message.specs.Build.{digits, message_of};
 ghost use Rattle.compose.specs.Compose.{with_item, with_all};
 ghost use Rattle.batch_messages.specs.BatchMessages.{field48, settlement_fields, item_fields, management_fields, end_fields, sign_on_fields};
 
 use entry::Entry;
 use kinds::Totals;
-use message::{Contents, Head, Message};
+use message::Message;
 use numbers::{Batch, Trace};
 use parts::Part;
 use state::Settings;
@@ -18,43 +17,33 @@ use state::Settings;
 pub fn settlement_message(x: Settings, batch: Batch, trace: Trace, t: Totals) -> Message
     ensures { result ≡ with_all (settlement_fields x batch trace t) (message_of 0x0500 []) }
 {
-    let terminal = x.terminal;
-    let merchant = x.merchant;
-    let currency = [b'1', b'5', b'6'];
-    let mut contents = [0u8; message::ROOM];
-    let h11 = compose::with_number(compose::typed(0x0500), 11, 6, trace.0 as u64, &mut contents);
-    let h41 = compose::with_bytes(h11, 41, &terminal, &mut contents);
-    let h42 = compose::with_bytes(h41, 42, &merchant, &mut contents);
-    let h48 = with_field48(h42, t, &mut contents);
-    let h49 = compose::with_bytes(h48, 49, &currency, &mut contents);
-    let h60 = outgoing::with_field60(h49, 0, batch, 201, &mut contents);
-    message::joined(h60, contents)
+    let mut m = compose::typed(0x0500);
+    compose::put_number(&mut m, 11, 6, u64::from(trace.0));
+    compose::put_bytes(&mut m, 41, &x.terminal);
+    compose::put_bytes(&mut m, 42, &x.merchant);
+    put_field48(&mut m, t);
+    compose::put_bytes(&mut m, 49, &outgoing::CURRENCY);
+    outgoing::put_field60(&mut m, 0, batch, 201);
+    m
 }
 
 // An upload item: an entry as it was approved.
 pub fn item_message(x: Settings, batch: Batch, e: Entry) -> Message
     ensures { result ≡ with_all (item_fields x batch e) (message_of 0x0320 []) }
 {
-    let terminal = x.terminal;
-    let merchant = x.merchant;
-    let trace = e.trace;
-    let authorisation = e.authorisation;
-    let reference = e.reference;
-    let currency = [b'1', b'5', b'6'];
     let card = approval::card_of(e);
-    let mut contents = [0u8; message::ROOM];
-    let h = compose::typed(0x0320);
-    let h2 = compose::with_number(h, 2, card.length, card.number, &mut contents);
-    let h3 = compose::with_number(h2, 3, 6, kinds::processing_of(e.kind) as u64, &mut contents);
-    let h4 = compose::with_number(h3, 4, 12, e.amount, &mut contents);
-    let h11 = compose::with_number(h4, 11, 6, trace.0 as u64, &mut contents);
-    let h37 = compose::with_bytes(h11, 37, &reference, &mut contents);
-    let h38 = compose::with_bytes(h37, 38, &authorisation, &mut contents);
-    let h41 = compose::with_bytes(h38, 41, &terminal, &mut contents);
-    let h42 = compose::with_bytes(h41, 42, &merchant, &mut contents);
-    let h49 = compose::with_bytes(h42, 49, &currency, &mut contents);
-    let h60 = outgoing::with_field60(h49, e.kind, batch, 201, &mut contents);
-    message::joined(h60, contents)
+    let mut m = compose::typed(0x0320);
+    compose::put_number(&mut m, 2, card.length, card.number);
+    compose::put_number(&mut m, 3, 6, u64::from(kinds::processing_of(e.kind)));
+    compose::put_number(&mut m, 4, 12, e.amount);
+    compose::put_number(&mut m, 11, 6, u64::from(e.trace.0));
+    compose::put_bytes(&mut m, 37, &e.reference);
+    compose::put_bytes(&mut m, 38, &e.authorisation);
+    compose::put_bytes(&mut m, 41, &x.terminal);
+    compose::put_bytes(&mut m, 42, &x.merchant);
+    compose::put_bytes(&mut m, 49, &outgoing::CURRENCY);
+    outgoing::put_field60(&mut m, e.kind, batch, 201);
+    m
 }
 
 // The upload's end.
@@ -75,24 +64,21 @@ pub fn sign_on_message(x: Settings, batch: Batch, trace: Trace) -> Message
 fn management_message(indicator: u16, code: u64, x: Settings, batch: Batch, trace: Trace) -> Message
     ensures { result ≡ with_all (management_fields code x batch trace) (message_of indicator []) }
 {
-    let terminal = x.terminal;
-    let merchant = x.merchant;
-    let mut contents = [0u8; message::ROOM];
-    let h = compose::typed(indicator);
-    let h11 = compose::with_number(h, 11, 6, trace.0 as u64, &mut contents);
-    let h41 = compose::with_bytes(h11, 41, &terminal, &mut contents);
-    let h42 = compose::with_bytes(h41, 42, &merchant, &mut contents);
-    let h60 = outgoing::with_field60(h42, 0, batch, code, &mut contents);
-    message::joined(h60, contents)
+    let mut m = compose::typed(indicator);
+    compose::put_number(&mut m, 11, 6, u64::from(trace.0));
+    compose::put_bytes(&mut m, 41, &x.terminal);
+    compose::put_bytes(&mut m, 42, &x.merchant);
+    outgoing::put_field60(&mut m, 0, batch, code);
+    m
 }
 
-fn with_field48(h: Head, t: Totals, contents: &mut Contents) -> Head
-    ensures { whole result contents.new ≡ with_item (digits 48 (field48 t)) (whole h contents.old) }
+fn put_field48(m: &mut Message, t: Totals)
+    ensures { m.new ≡ with_item (digits 48 (field48 t)) m.old }
 {
-    let mut ds = [0u8; parts::FIELD48];
+    let mut ds = [0; parts::FIELD48];
     parts::put_part(Part::DebitAmount, t.debit, &mut ds);
-    parts::put_part(Part::DebitCount, t.debits as u64, &mut ds);
+    parts::put_part(Part::DebitCount, u64::from(t.debits), &mut ds);
     parts::put_part(Part::CreditAmount, t.credit, &mut ds);
-    parts::put_part(Part::CreditCount, t.credits as u64, &mut ds);
-    compose::with_digits(h, 48, &ds, contents)
+    parts::put_part(Part::CreditCount, u64::from(t.credits), &mut ds);
+    compose::put_digits(m, 48, &ds);
 }

@@ -1,24 +1,25 @@
--- Laws of the calls: rules 1 and 2 have refused or passed, and what follows in the phase.
+-- Laws of the calls: what follows in the phase, where rules 1 and 2 have passed.
+use Rattle.std.specs.Prelude.{Result as Attempt, Ok, Err}
+use Rattle.checks.specs.Refusals.{refused_by}
+use Rattle.checks.specs.declared.Refusal.{Refusal}
 use mathlib.Core.Path.{◌≡◌, refl, sym, ap, ◌∙◌}
 use mathlib.Core.List.{List}
 use mathlib.Core.Bool.{Bool, true, false, not, ◌||◌}
 use Prim.Native.Nat.{ℕ}
 use native.Mathlib.Omega.{arith}
 use Rattle.message.specs.declared.Message.{Message}
-use Rattle.reading.specs.Reading.{read_message}
-use Rattle.reading.specs.declared.Reading.{Reading}
-use Rattle.reading.specs.declared.ReadOutcome.TheVariants.{Read, Refused as Unread}
+use Rattle.reading.specs.Reading.{read_message, reading_of}
 use Rattle.journal.specs.Journal.{entries_of}
 use Rattle.state.specs.declared.Awaited.{Awaited}
 use Rattle.state.specs.declared.Called.{Called}
 use Rattle.state.specs.declared.Outcome.TheVariants.{Quiet, Refused}
 use Rattle.state.specs.declared.Phase.{Phase}
-use Rattle.state.specs.declared.Phase.TheVariants.{Waiting}
+use Rattle.state.specs.declared.Phase.TheVariants.{Resting, Waiting, Pending, Settling, Uploading}
 use Rattle.state.specs.declared.State.{State}
 use Rattle.state.specs.State.{signed, waits, signs_on, is_waiting}
 use Rattle.checks.specs.Checks.{first_broken}
-use Rattle.checks.proofs.Choices.{not_told, first_stops, last-broken, last-kept}
-use Rattle.state.specs.Calls.{Lent, with_journal, result_of}
+use Rattle.checks.proofs.Choices.{last-broken, last-kept}
+use Rattle.state.specs.Calls.{Lent, with_journal, result_of, refused}
 use Rattle.state.proofs.Judged.{refuses, goes}
 use Rattle.rules.specs.Rules.{rules12}
 use Rattle.answer_match.specs.Match.{is_answer, is_sign_on_answer}
@@ -31,6 +32,13 @@ use Rattle.call_answer.specs.Bounds.{Gives, sign_on_answer}
 or-true : (b : Bool) → (b || true) ≡ true
 or-true true = refl
 or-true false = refl
+
+not_waiting : (p : Phase) → ((w : Awaited) → p ≡ Waiting w → ⊥) → waits p ≡ false
+not_waiting Resting h = refl
+not_waiting (Waiting w) h = absurd (h w refl)
+not_waiting (Pending v) h = refl
+not_waiting Settling h = refl
+not_waiting Uploading h = refl
 
 -- what comes of a message where the answer to a sign-on is awaited
 module _ (a : Message) (s : State) (r : Called) (b : Bool) (e : b ≡ is_sign_on_answer s.settings s.sign_on a) where
@@ -74,10 +82,11 @@ module _ (good : Bool) (a : Message) (s : State) (j : List ℕ) (r : Called) whe
 
     module _ (f : o ≡ false) where
       -- 14. Nothing is awaited.
-      pub answer_unawaited : waits s.phase ≡ false → r ≡ record { outcome = Refused 14; state = s } → Gives r j j (answer_in good a s)
+      pub answer_unawaited : ((w : Awaited) → s.phase ≡ Waiting w → ⊥) → r ≡ record { outcome = Refused 14; state = s } → Gives r j j (answer_in good a s)
       unfolding first_broken
-      answer_unawaited w q lent =
+      answer_unawaited h q lent =
           let n = sym d ∙ f in
+          let w = not_waiting s.phase h in
           rw q (refuses 14 _ s (with_journal j lent) _ (rw (w, n)) (λ x. omega arith))
 
       module _ (w : Awaited) (p : s.phase ≡ Waiting w) (b : Bool)
@@ -98,46 +107,36 @@ module _ (good : Bool) (a : Message) (s : State) (j : List ℕ) (r : Called) whe
             (changes (heard good a s j) r t k (with_journal j lent) q
             (rw n (u ∙ ap (λ (x : Phase). answered_in x good a s j) (sym p))))
 
-module _ (s : State) (lent : Lent) (n : ℕ) (e : n ≡ first_broken (rules12 s lent)) (r : Called) where
-  pub no_answer-first-refusal : (n ≡ 0 → ⊥) → r ≡ record { outcome = Refused n; state = s } → result_of r lent ≡ no_answer s lent
-  unfolding no_answer
-  no_answer-first-refusal h q = rw q (refuses n _ s lent _ (first_stops (rules12 s lent) _ n e h) h)
-
-  module _ (z : n ≡ 0) (w : Bool) (g : w ≡ is_waiting s) where
+-- rules 1 and 2 pass
+module _ (s : State) (lent : Lent) (z : 0 ≡ first_broken (rules12 s lent)) where
+  module _ (w : Bool) (g : w ≡ is_waiting s) where
     -- 14. Nothing is awaited.
-    pub no_answer_unawaited : not w ≡ true → r ≡ record { outcome = Refused 14; state = s } → result_of r lent ≡ no_answer s lent
+    pub no_answer_unawaited : w ≡ false → refused 14 s lent ≡ no_answer s lent
     unfolding no_answer
-    no_answer_unawaited f q =
-        let b = not_told w (is_waiting s) true g f in
-        rw q (refuses 14 _ s lent _ (last-broken (rules12 s lent) n refl e z 14 (not (is_waiting s)) b) (λ x. omega arith))
+    no_answer_unawaited f =
+        let b : is_waiting s ≡ false = sym g ∙ f in
+        refuses 14 _ s lent _ (last-broken (rules12 s lent) 0 refl z refl 14 (not (is_waiting s)) (rw b)) (λ x. omega arith)
 
-    pub no_answer_changes : (t : State) (k : List ℕ) → not w ≡ false → changed t k ≡ unanswered s lent.journal
+    pub no_answer_changes : (r : Called) (t : State) (k : List ℕ) → w ≡ true → changed t k ≡ unanswered s lent.journal
         → r ≡ record { outcome = Quiet; state = t } → result_of r (with_journal k lent) ≡ no_answer s lent
     unfolding no_answer
-    no_answer_changes t k f h q =
-        let b = not_told w (is_waiting s) false g f in
-        goes 0 _ s lent _ _ (last-kept (rules12 s lent) n refl e z 14 (not (is_waiting s)) b) refl (changes _ r t k lent q h)
+    no_answer_changes r t k f h q =
+        let b : is_waiting s ≡ true = sym g ∙ f in
+        goes 0 _ s lent _ _ (last-kept (rules12 s lent) 0 refl z refl 14 (not (is_waiting s)) (rw b)) refl (changes _ r t k lent q h)
 
-  pub power_first-refusal : (n ≡ 0 → ⊥) → r ≡ record { outcome = Refused n; state = s } → result_of r lent ≡ power_returned s lent
-  unfolding power_returned
-  power_first-refusal h q = rw q (refuses n _ s lent _ e h)
-
-  pub power_changes : (t u : State) (k : List ℕ) → n ≡ 0 → changed t k ≡ unanswered s lent.journal → u ≡ signed false t
+  pub power_changes : (r : Called) (t u : State) (k : List ℕ) → changed t k ≡ unanswered s lent.journal → u ≡ signed false t
       → r ≡ record { outcome = Quiet; state = u } → result_of r (with_journal k lent) ≡ power_returned s lent
   unfolding power_returned
-  power_changes t u k z h o q = goes n _ s lent _ _ e z (rw (q, o, ← h))
+  power_changes r t u k h o q = goes 0 _ s lent _ _ z refl (rw (q, o, ← h))
 
-  module _ (b : List ℕ) (good : Bool) where
-    pub answer-first-refusal : (n ≡ 0 → ⊥) → r ≡ record { outcome = Refused n; state = s } → result_of r lent ≡ answer b good s lent
+  module _ (r : Called) (b : List ℕ) (good : Bool) where
+    pub answer-unread : (x : Attempt Message Refusal) → reading_of x ≡ read_message b → ((m : Message) → x ≡ Ok m → ⊥)
+        → r ≡ record { outcome = Refused (refused_by x); state = s } → result_of r lent ≡ answer b good s lent
     unfolding answer
-    answer-first-refusal h q = rw q (refuses n _ s lent _ e h)
+    answer-unread (Ok m) h w q = absurd (w m refl)
+    answer-unread (Err e) h w q = goes 0 _ s lent _ _ z refl (rw (← h, q))
 
-    pub answer-unread : (x : Reading) (i : ℕ) → n ≡ 0 → x ≡ read_message b → x.outcome ≡ Unread i
-        → r ≡ record { outcome = Refused i; state = s } → result_of r lent ≡ answer b good s lent
+    pub answer-read : (x : Attempt Message Refusal) (m : Message) (k : List ℕ) → reading_of x ≡ read_message b → x ≡ Ok m
+        → Gives r lent.journal k (answer_in good m s) → result_of r (with_journal k lent) ≡ answer b good s lent
     unfolding answer
-    answer-unread x i z h w q = goes n _ s lent _ _ e z (rw (← h, w, q))
-
-    pub answer-read : (x : Reading) (k : List ℕ) → n ≡ 0 → x ≡ read_message b → x.outcome ≡ Read
-        → Gives r lent.journal k (answer_in good x.message s) → result_of r (with_journal k lent) ≡ answer b good s lent
-    unfolding answer
-    answer-read x k z h w q = goes n _ s lent _ _ e z (rw (← h, w) (q lent))
+    answer-read x m k h w q = goes 0 _ s lent _ _ z refl (rw (← h, w) (q lent))

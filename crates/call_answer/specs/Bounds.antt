@@ -1,8 +1,6 @@
 -- What the private functions of this crate ask for and promise.
 use Rattle.std.specs.Prelude.{◌≡◌, List, cond, ℕ}
 use Rattle.message.specs.declared.Message.{Message}
-use Rattle.reading.specs.declared.ReadOutcome.{ReadOutcome as Judgement}
-use Rattle.reading.specs.declared.ReadOutcome.TheVariants.{Read, Refused as Unread}
 use Rattle.state.specs.declared.Called.{Called}
 use Rattle.state.specs.declared.Outcome.TheVariants.{Quiet, Refused}
 use Rattle.state.specs.declared.State.{State}
@@ -13,11 +11,6 @@ use Rattle.effect_definitions.specs.StateEffects.{on_sign_on}
 -- a call that is lent the journal j and leaves k there has this result, whatever else is lent; that stays
 abbrev pub Gives : Called → List ℕ → List ℕ → (Lent → Result) → Type 0
 Gives r j k result = (lent : Lent) → result_of r (with_journal k lent) ≡ result (with_journal j lent)
-
--- the number of a reading that is refused, 0 for none
-abbrev pub reading_number : Judgement → ℕ
-reading_number Read = 0
-reading_number (Unread n) = n
 
 -- a message, where the answer to a sign-on is awaited
 unfoldable pub sign_on_answer : Message → State → Called

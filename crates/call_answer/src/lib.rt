@@ -2,27 +2,28 @@
 #![tactic(auto)]
 
 ghost use Rattle.std.specs.Prelude.{◌≡◌};
+ghost use Rattle.checks.specs.Refusals.{refused_by};
 ghost use Rattle.journal.specs.Journal.{entries_of};
 ghost use Rattle.state.specs.Calls.{lend, result_of};
 ghost use Rattle.approval.specs.Approval.{approval_of};
 ghost use Rattle.state.specs.State.{Bookable};
 ghost use Rattle.call_definitions.specs.Answer.{no_answer, power_returned, trace_sent, answer_in, answer};
-ghost use Rattle.call_answer.specs.Bounds.{Gives, reading_number, sign_on_answer};
+ghost use Rattle.call_answer.specs.Bounds.{Gives, sign_on_answer};
 
+use checks::Refusal;
 use message::Message;
-use numbers::{Batch, Trace};
-use state::{Awaited, Called, Phase, Request, Reversal, State};
+use numbers::Trace;
+use state::{Awaited, Called, Phase, State};
 
 // The line has fallen silent.
 pub fn no_answer(s: State, journal: &mut [u8], message: &mut [u8]) -> Called
     ensures { result_of result (lend journal.new message.new) ≡ no_answer s (lend journal.old message.old) }
 {
-    let number = rules::first_refusal(s, journal, message);
-    if number != 0 {
-        return Called::refused(s, number);
+    if let Err(e) = rules::judge(s, journal, message) {
+        return Called::refused(s, e.into());
     }
     if !s.is_waiting() {
-        return Called::refused(s, 14);
+        return Called::refused(s, Refusal::NothingAwaited.into());
     }
     Called::quiet(journal_effects::unanswered(s, journal))
 }
@@ -31,9 +32,8 @@ pub fn no_answer(s: State, journal: &mut [u8], message: &mut [u8]) -> Called
 pub fn power_returned(s: State, journal: &mut [u8], message: &mut [u8]) -> Called
     ensures { result_of result (lend journal.new message.new) ≡ power_returned s (lend journal.old message.old) }
 {
-    let number = rules::first_refusal(s, journal, message);
-    if number != 0 {
-        return Called::refused(s, number);
+    if let Err(e) = rules::judge(s, journal, message) {
+        return Called::refused(s, e.into());
     }
     Called::quiet(journal_effects::unanswered(s, journal).signed(false))
 }
@@ -42,17 +42,14 @@ pub fn power_returned(s: State, journal: &mut [u8], message: &mut [u8]) -> Calle
 pub fn answer(s: State, bytes: &[u8], good: bool, journal: &mut [u8], message: &mut [u8]) -> Called
     ensures { result_of result (lend journal.new message.new) ≡ answer bytes.now good s (lend journal.old message.old) }
 {
-    let number = rules::first_refusal(s, journal, message);
-    if number != 0 {
-        return Called::refused(s, number);
+    if let Err(e) = rules::judge(s, journal, message) {
+        return Called::refused(s, e.into());
     }
     let reading = reading::read(bytes);
-    let judgement = reading.outcome;
-    let reading::ReadOutcome::Read = judgement else {
-        return Called::refused(s, reading_number(judgement));
+    let Ok(m) = reading else {
+        return Called::refused(s, refusal_number(reading));
     };
-    let m = reading.message;
-    answer_in(s, m, good, journal)
+    answer_in(s, &m, good, journal)
 }
 
 // The trace that was sent.
@@ -61,68 +58,49 @@ fn trace_sent(a: Awaited, n: u16, journal: &[u8]) -> Trace
 {
     match a {
         Awaited::Request(q) => q.trace,
-        Awaited::Reversal(v) => {
-            let q = v.request;
-            q.trace
-        }
-        Awaited::Settlement(x) => x,
-        Awaited::Item(i) => {
-            let e = journal::entry_at(journal, n, i);
-            e.trace
-        }
-        Awaited::End(x) => x,
+        Awaited::Reversal(v) => v.request.trace,
+        Awaited::Settlement(x) | Awaited::End(x) => x,
+        Awaited::Item(i) => journal::entry_at(journal, n, i).trace,
     }
 }
 
-// The batch number that was sent.
-fn batch_sent(s: State) -> Batch
-    ensures { result ≡ s.batch }
-{
-    s.batch
-}
-
 // A message that was read.
-fn answer_in(s: State, m: Message, good: bool, journal: &mut [u8]) -> Called
-    requires { Bookable (approval_of m).amount s }
-    ensures { Gives result journal.old journal.new (answer_in good m s) }
+fn answer_in(s: State, m: &Message, good: bool, journal: &mut [u8]) -> Called
+    requires { Bookable (approval_of m.now).amount s }
+    ensures { Gives result journal.old journal.new (answer_in good m.now s) }
 {
-    let chip = s.chip;
-    if chip.approved {
-        return Called::refused(s, 14);
+    if s.chip.approved {
+        return Called::refused(s, Refusal::NothingAwaited.into());
     }
     if s.signs_on() {
         return sign_on_answer(s, m);
     }
-    let phase = s.phase;
-    let Phase::Waiting(a) = phase else {
-        return Called::refused(s, 14);
+    let Phase::Waiting(a) = s.phase else {
+        return Called::refused(s, Refusal::NothingAwaited.into());
     };
-    let settings = s.settings;
     let trace = trace_sent(a, s.entries, journal);
-    if answer_match::is_answer(settings, batch_sent(s), trace, a, m) {
+    if answer_match::is_answer(s.settings, s.batch, trace, a, m) {
         return Called::quiet(journal_effects::answered(s, a, m, good, journal));
     }
-    Called::refused(s, 22)
+    Called::refused(s, Refusal::NoMatch.into())
 }
 
 // A message that was read, where the answer to a sign-on is awaited.
-fn sign_on_answer(s: State, m: Message) -> Called
-    ensures { result ≡ sign_on_answer m s }
+fn sign_on_answer(s: State, m: &Message) -> Called
+    ensures { result ≡ sign_on_answer m.now s }
 {
-    let settings = s.settings;
-    let trace = s.sign_on;
-    if answer_match::is_sign_on_answer(settings, trace, m) {
+    if answer_match::is_sign_on_answer(s.settings, s.sign_on, m) {
         return Called::quiet(state_effects::on_sign_on(s, m));
     }
-    Called::refused(s, 22)
+    Called::refused(s, Refusal::NoMatch.into())
 }
 
-// The number of a reading that is refused.
-fn reading_number(judgement: reading::ReadOutcome) -> u8
-    ensures { result ≡ reading_number judgement }
+// The number of a reading that is refused, 0 for none.
+fn refusal_number(reading: Result<Message, Refusal>) -> u8
+    ensures { result ≡ refused_by reading }
 {
-    match judgement {
-        reading::ReadOutcome::Read => 0,
-        reading::ReadOutcome::Refused(n) => n,
+    match reading {
+        Ok(_) => 0,
+        Err(e) => e.into(),
     }
 }

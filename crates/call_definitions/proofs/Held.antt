@@ -1,4 +1,5 @@
 -- The fields of a request that no rule refuses are held: card and texts are the desk's, or those of an entry in form.
+use Rattle.std.specs.Prelude.{Some, None, Option}
 use mathlib.Core.Path.{◌≡◌, refl, sym, ap, ◌∙◌}
 use mathlib.Core.List.{List}
 use mathlib.Core.Bool.{Bool, true, false, cond, not, ◌||◌, true≢false, and-eq-true_iff}
@@ -14,8 +15,6 @@ use Rattle.entry.specs.Theorems.{Shaped}
 use Rattle.entry.specs.declared.Entry.{Entry}
 use Rattle.entry.proofs.Form.{InForm, in_form_lem}
 use Rattle.journal.specs.Journal.{entries_of, every, is_original, original_for, nowhere}
-use Rattle.journal.specs.declared.Found.{Found}
-use Rattle.journal.specs.declared.Found.TheVariants.{At, Nowhere}
 use Rattle.journal.proofs.Entries.{entry-shaped}
 use Rattle.journal.proofs.Searches.{every-at, first_at}
 use Rattle.state.specs.declared.State.{State}
@@ -32,26 +31,26 @@ use Rattle.call_definitions.specs.Sending.{MaySend}
 use Rattle.call_definitions.proofs.Refusals.{Unbroken}
 
 -- what is found is found for a void, by kind and trace
-pub found_for : (d : Desk) (es : List Entry) (f : Found) → original_of d es ≡ f → nowhere f ≡ false
+pub found_for : (d : Desk) (es : List Entry) (f : Option ℕ) → original_of d es ≡ f → nowhere f ≡ false
     → original_for d.kind d.original.0 es ≡ f
 unfolding original_of
 found_for d es f e h = go (takes_original d.kind) e
   where
-    go : (b : Bool) → cond b (original_for d.kind d.original.0 es) Nowhere ≡ f → original_for d.kind d.original.0 es ≡ f
+    go : (b : Bool) → cond b (original_for d.kind d.original.0 es) None ≡ f → original_for d.kind d.original.0 es ≡ f
     go true e = e
     go false e = absurd (true≢false (ap nowhere e ∙ h))
 
 -- the entry that a void is for is one of the journal's
-pub entry-in_form : (d : Desk) (es : List Entry) → every (λ i e. in_form e) 0 es ≡ true → (f : Found) → original_of d es ≡ f
+pub entry-in_form : (d : Desk) (es : List Entry) → every (λ i e. in_form e) 0 es ≡ true → (f : Option ℕ) → original_of d es ≡ f
     → nowhere f ≡ false → in_form (entry_of f es) ≡ true
-entry-in_form d es a Nowhere q h = absurd (true≢false h)
-entry-in_form d es a (At i) q h =
-    let o = first_at (is_original (original_kind d.kind) d.original.0) 0 es i (found_for d es (At i) q h) in
+entry-in_form d es a None q h = absurd (true≢false h)
+entry-in_form d es a (Some i) q h =
+    let o = first_at (is_original (original_kind d.kind) d.original.0) 0 es i (found_for d es (Some i) q h) in
     every-at (λ i e. in_form e) 0 es a i (omega (arith, o.below))
 
-entry_of-shaped : (f : Found) (n : ℕ) (j : List ℕ) → Shaped (entry_of f (entries_of n j))
-entry_of-shaped (At i) n j = entry-shaped n i j
-entry_of-shaped Nowhere n j =
+entry_of-shaped : (f : Option ℕ) (n : ℕ) (j : List ℕ) → Shaped (entry_of f (entries_of n j))
+entry_of-shaped (Some i) n j = entry-shaped n i j
+entry_of-shaped None n j =
     record { card_length = refl; date_length = refl; authorisation_length = refl; reference_length = refl; reserved_length = refl }
 
 -- what the desk keyed, where the kind sends it

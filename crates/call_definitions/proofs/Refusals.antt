@@ -1,4 +1,5 @@
 -- The rules of start, asked in parts; what follows from none being broken.
+use Rattle.std.specs.Prelude.{Option}
 use mathlib.Core.Path.{◌≡◌, refl, sym, ◌∙◌}
 use mathlib.Core.List.{List, [], ◌∷◌, ◌++◌}
 use mathlib.Core.Bool.{Bool, true, false, not, ◌&&◌, true≢false}
@@ -8,7 +9,6 @@ use Rattle.kinds.specs.Kinds.{takes_original}
 use Rattle.kinds.specs.declared.Totals.{Totals}
 use Rattle.entry.specs.declared.Entry.{Entry}
 use Rattle.journal.specs.Journal.{entries_of, nowhere, totals_of}
-use Rattle.journal.specs.declared.Found.{Found}
 use Rattle.state.specs.declared.State.{State}
 use Rattle.state.specs.Calls.{Lent}
 use Rattle.checks.specs.Checks.{Rule, rule, first_broken}
@@ -23,15 +23,12 @@ use Rattle.desk.specs.DeskRules.{sends_field55, chip_rules, desk_in_form, rest_r
 later : (rs qs : List Rule) (n k : ℕ) → numbered rs ≡ true → n ≡ first_broken rs → n ≡ 0 → k ≡ first_broken qs → k ≡ first_broken (rs ++ qs)
 later rs qs n k w e z h = h ∙ sym (first_goes rs qs n w e z)
 
-module _ (d : Desk) (b : List ℕ) (s : State) (es : List Entry) (place : Found) (e : Entry) (lent : Lent) where
+module _ (d : Desk) (b : List ℕ) (s : State) (es : List Entry) (place : Option ℕ) (e : Entry) (lent : Lent) where
   abbrev after_rest : List Rule
   after_rest = desk_rules d s.settings.refund ++ journal_rules d s (totals_of es) (original_of d es) e
 
   abbrev after_first : List Rule
   after_first = chip_rules d b ++ (rest_rules s ++ after_rest)
-
-  pub stops-first-refusal : (k : ℕ) → k ≡ first_broken (rules12 s lent) → (k ≡ 0 → ⊥) → k ≡ first_broken (start_rules d b s es e lent)
-  stops-first-refusal k h n = first_stops (rules12 s lent) after_first k h n
 
   pub stops-chip : (u k : ℕ) → u ≡ first_broken (rules12 s lent) → u ≡ 0 → k ≡ first_broken (chip_rules d b) → (k ≡ 0 → ⊥)
       → k ≡ first_broken (start_rules d b s es e lent)

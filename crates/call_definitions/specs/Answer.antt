@@ -1,9 +1,7 @@
 -- Document 01, "Calls": answer (bytes, MAC good or bad); no answer; power returned. Document 02, request 1: card agrees; card declines.
 use Rattle.std.specs.Prelude.{List, [], ◌∷◌, ◌++◌, Bool, false, cond, not, ◌||◌, ℕ}
 use Rattle.message.specs.declared.Message.{Message}
-use Rattle.reading.specs.Reading.{read_message}
-use Rattle.reading.specs.declared.ReadOutcome.{ReadOutcome as Judgement}
-use Rattle.reading.specs.declared.ReadOutcome.TheVariants.{Read, Refused as Unread}
+use Rattle.reading.specs.Reading.{read_message, ReadOutcome as Judgement, Read, Refused as Unread}
 use Rattle.numbers.specs.declared.Trace.{Trace}
 use Rattle.numbers.specs.declared.Batch.{Batch}
 use Rattle.entry.specs.declared.Entry.{Entry}

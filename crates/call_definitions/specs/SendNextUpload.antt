@@ -1,11 +1,9 @@
 -- Document 01, "Calls": send next upload.
-use Rattle.std.specs.Prelude.{List, [], ◌∷◌, ◌++◌, not, ℕ}
+use Rattle.std.specs.Prelude.{List, [], ◌∷◌, ◌++◌, not, ℕ, Some, None, Option}
 use Rattle.writing.specs.Writing.{message_bytes}
 use Rattle.numbers.specs.declared.Trace.{Trace}
 use Rattle.entry.specs.declared.Entry.{Entry}
 use Rattle.journal.specs.Journal.{entries_of, entry_at, next_due, taken}
-use Rattle.journal.specs.declared.Found.{Found}
-use Rattle.journal.specs.declared.Found.TheVariants.{At, Nowhere}
 use Rattle.state.specs.declared.Awaited.TheVariants as awaited
 use Rattle.state.specs.declared.Phase.{Phase}
 use Rattle.state.specs.declared.Phase.TheVariants.{Resting, Waiting, Pending, Settling, Uploading}
@@ -29,9 +27,9 @@ abbrev pub sends_end : Trace → State → Lent → Result
 sends_end trace s lent = sends (message_bytes (end_message s.settings s.batch trace)) (ending s trace) lent
 
 -- the first due entry of mark 0 or, where no due one is 0, of mark 1; where there is none, the end
-abbrev pub sends_next : Found → State → Lent → Result
-sends_next (At i) s lent = sends_item i (entry_at (entries_of s.entries lent.journal) i) s lent
-sends_next Nowhere s lent = sends_end (record { 0 = taken (entries_of s.entries lent.journal) s.next.0 }) s lent
+abbrev pub sends_next : Option ℕ → State → Lent → Result
+sends_next (Some i) s lent = sends_item i (entry_at (entries_of s.entries lent.journal) i) s lent
+sends_next None s lent = sends_end (record { 0 = taken (entries_of s.entries lent.journal) s.next.0 }) s lent
 
 -- the next item or the end leaves; the rules let no other phase pass
 abbrev pub upload_from : Phase → State → Lent → Result

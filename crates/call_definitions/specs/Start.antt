@@ -1,5 +1,5 @@
 -- Document 01, "Calls": start (kind and desk data): the request leaves. Document 02, request 1: with the desk's field 55.
-use Rattle.std.specs.Prelude.{List, ◌++◌, cond, ℕ, ◌+◌, ◌*◌}
+use Rattle.std.specs.Prelude.{List, ◌++◌, cond, ℕ, ◌+◌, ◌*◌, Some, None, Option}
 use Rattle.digits.specs.Packed.{packed_number}
 use Rattle.writing.specs.Writing.{message_bytes}
 use Rattle.numbers.specs.declared.Batch.{Batch}
@@ -7,8 +7,6 @@ use Rattle.kinds.specs.Kinds.{takes_original}
 use Rattle.entry.specs.Entry.{blank}
 use Rattle.entry.specs.declared.Entry.{Entry}
 use Rattle.journal.specs.Journal.{entries_of, entry_at, original_for, totals_of, taken}
-use Rattle.journal.specs.declared.Found.{Found}
-use Rattle.journal.specs.declared.Found.TheVariants.{At, Nowhere}
 use Rattle.state.specs.declared.State.{State}
 use Rattle.checks.specs.Checks.{Rule, first_broken}
 use Rattle.state.specs.Calls.{Lent, Result, judged, sends}
@@ -20,12 +18,12 @@ use Rattle.desk.specs.DeskRules.{chip_from, request_of, chip_rules, rest_rules, 
 use Rattle.effect_definitions.specs.StateEffects.{requested}
 
 -- the entry that a void is for, by the trace that the desk gives; no other kind has one
-unfoldable pub original_of : Desk → List Entry → Found
-original_of d es = cond (takes_original d.kind) (original_for d.kind d.original.0 es) Nowhere
+unfoldable pub original_of : Desk → List Entry → Option ℕ
+original_of d es = cond (takes_original d.kind) (original_for d.kind d.original.0 es) None
 
-abbrev pub entry_of : Found → List Entry → Entry
-entry_of (At i) es = entry_at es i
-entry_of Nowhere es = blank
+abbrev pub entry_of : Option ℕ → List Entry → Entry
+entry_of (Some i) es = entry_at es i
+entry_of None es = blank
 
 -- 21 and 23 name their original; the others have batch and trace zero and the desk's date
 abbrev pub named_by : Desk → Batch → Entry → Original

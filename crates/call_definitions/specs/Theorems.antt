@@ -3,8 +3,7 @@ use Rattle.std.specs.Prelude.{◌≡◌, Bool, true, false, List, ℕ, ◌+◌}
 use Rattle.numbers.specs.Numbers.{following}
 use Rattle.checks.specs.Checks.{first_broken}
 use Rattle.kinds.specs.Kinds.{is_never_reversed}
-use Rattle.reading.specs.Reading.{read_message}
-use Rattle.reading.specs.declared.ReadOutcome.TheVariants.{Read}
+use Rattle.reading.specs.Reading.{read_message, Read}
 use Rattle.entry.specs.declared.Entry.{Entry}
 use Rattle.approval.specs.Approval.{approved_entry}
 use Rattle.journal.specs.Journal.{entries_of, put_entry, taken}

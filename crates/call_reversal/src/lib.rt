@@ -7,19 +7,18 @@ ghost use Rattle.state.specs.Calls.{lend, result_of};
 ghost use Rattle.outgoing.specs.Held.{CardHeld};
 ghost use Rattle.call_definitions.specs.SendReversal.{sends_reversal, send_reversal};
 
+use checks::Refusal;
 use state::{Awaited, Called, Phase, Reversal, State};
 
 // Sends the pending reversal.
 pub fn send_reversal(s: State, journal: &mut [u8], message: &mut [u8]) -> Called
     ensures { result_of result (lend journal.new message.new) ≡ send_reversal s (lend journal.old message.old) }
 {
-    let number = rules::idle_refusal(s, journal, message);
-    if number != 0 {
-        return Called::refused(s, number);
+    if let Err(e) = rules::judge_idle(s, journal, message) {
+        return Called::refused(s, e.into());
     }
-    let phase = s.phase;
-    let Phase::Pending(v) = phase else {
-        return Called::refused(s, 14);
+    let Phase::Pending(v) = s.phase else {
+        return Called::refused(s, Refusal::NothingAwaited.into());
     };
     send(s, state_effects::again(v), journal, message)
 }
@@ -29,10 +28,7 @@ fn send(s: State, v: Reversal, journal: &[u8], message: &mut [u8]) -> Called
     requires { CardHeld s.settings s.chip v.request × (largest ≤ length message.old) }
     ensures { result_of result (lend journal.now message.new) ≡ sends_reversal v s (lend journal.now message.old) }
 {
-    let settings = s.settings;
-    let batch = s.batch;
-    let chip = s.chip;
-    let m = outgoing::reversal_message(settings, batch, chip, v);
-    let n = outgoing::write_outgoing(m, message);
+    let m = outgoing::reversal_message(s.settings, s.batch, s.chip, v);
+    let n = outgoing::write_outgoing(&m, message);
     Called::sends(s.in_phase(Phase::Waiting(Awaited::Reversal(v))), n)
 }

@@ -1,4 +1,5 @@
 -- What start gives: refused, or left and awaited.
+use Rattle.std.specs.Prelude.{Option, Ok}
 use mathlib.Core.Path.{◌≡◌, sym, ap, ◌∙◌}
 use mathlib.Core.List.{List, [], ◌++◌}
 use Prim.Native.Nat.{ℕ}
@@ -7,11 +8,9 @@ use Rattle.numbers.specs.declared.Trace.{Trace}
 use Rattle.message.specs.Build.{message_of}
 use Rattle.message.specs.declared.Message.{Message}
 use Rattle.writing.specs.Writing.{write_message, written}
-use Rattle.writing.specs.declared.Writing.TheVariants.{Written}
 use Rattle.kinds.specs.Kinds.{indicator_of}
 use Rattle.entry.specs.declared.Entry.{Entry}
 use Rattle.journal.specs.Journal.{entries_of, taken}
-use Rattle.journal.specs.declared.Found.{Found}
 use Rattle.state.specs.declared.Called.{Called}
 use Rattle.state.specs.declared.Chip.{Chip}
 use Rattle.state.specs.declared.Outcome.TheVariants.{Send}
@@ -35,7 +34,7 @@ use Rattle.call_definitions.proofs.Held.{may_send}
 -- what is written, where the request may send
 module _ (s : State) (c : Chip) (q : Request) (o : Original) (m : List ℕ) (h : MaySend s c q o m) where
   written-request : write_message (request_message s.settings s.batch c q o) m
-      ≡ written (Written (length (request_bytes s c q o))) (request_bytes s c q o ++ drop (length (request_bytes s c q o)) m)
+      ≡ written (Ok (length (request_bytes s c q o))) (request_bytes s c q o ++ drop (length (request_bytes s c q o)) m)
   unfolding request_message request_bytes
   written-request =
       written_is (indicator_of q.kind) (request_fields s.settings s.batch c q o) m (request-listed q.kind)
@@ -47,10 +46,10 @@ module _ (s : State) (c : Chip) (q : Request) (o : Original) (m : List ℕ) (h :
       → HasSent s c q o m (record { outcome = Send n; state = t }) after
   leaves w n after t a b g e =
       let i : w ≡ request_message s.settings s.batch c q o = a ∙ request-is s.settings s.batch c q o h.card h.original in
-      let r : write_message w m ≡ written (Written (length (request_bytes s c q o))) (request_bytes s c q o ++ drop (length (request_bytes s c q o)) m) = ap (λ (x : Message). write_message x m) i ∙ written-request in
+      let r : write_message w m ≡ written (Ok (length (request_bytes s c q o))) (request_bytes s c q o ++ drop (length (request_bytes s c q o)) m) = ap (λ (x : Message). write_message x m) i ∙ written-request in
       record { called = rw (e, b, r); buffer = g ∙ rw r }
 
-module _ (d : Desk) (x : List ℕ) (s : State) (lent : Lent) (place : Found) (e : Entry) (k : ℕ)
+module _ (d : Desk) (x : List ℕ) (s : State) (lent : Lent) (place : Option ℕ) (e : Entry) (k : ℕ)
     (p : place ≡ original_of d (entries_of s.entries lent.journal)) (g : e ≡ entry_of place (entries_of s.entries lent.journal))
     (b : k ≡ first_broken (start_rules d x s (entries_of s.entries lent.journal) e lent)) where
   first : k ≡ first_broken (start_rules d x s (entries_of s.entries lent.journal)

@@ -1,4 +1,5 @@
 -- What an answer says that was read and approves: date, fields 37 and 38 are in form, and the amount is one that may be approved.
+use Rattle.std.specs.Prelude.{Some, None, Option}
 use mathlib.Core.Path.{◌≡◌, refl, ap, sym, ◌∙◌}
 use mathlib.Core.List.{List}
 use mathlib.Core.Bool.{Bool, true, false, cond, ◌&&◌, or-false, and-eq-true_iff, true≢false}
@@ -10,8 +11,6 @@ use Rattle.digits.specs.Digits.{pack}
 use Rattle.digits.specs.Lists.{same_bytes}
 use Rattle.digits.specs.Numbers.{digits_of}
 use Rattle.digits.specs.Packed.{numeral}
-use Rattle.digits.specs.declared.Number.{Number}
-use Rattle.digits.specs.declared.Number.TheVariants.{Is, Not}
 use Rattle.digits.proofs.Lists.{same_list}
 use Rattle.digits.proofs.Numbers.{digits_of_digits}
 use Rattle.field.specs.Bitmap.{names}
@@ -19,8 +18,7 @@ use Rattle.message.specs.Build.{digits}
 use Rattle.message.specs.Message.{field_of}
 use Rattle.message.specs.declared.Message.{Message}
 use Rattle.message_theorems.proofs.Readable.{amount-count, date_packed, reference_printable, reference_length, authorisation_printable}
-use Rattle.reading.specs.Reading.{read_message}
-use Rattle.reading.specs.declared.ReadOutcome.TheVariants.{Read}
+use Rattle.reading.specs.Reading.{read_message, Read}
 use Rattle.parts.specs.Parts.{matches, part_of}
 use Rattle.parts.specs.declared.Part.TheVariants.{Amount}
 use Rattle.parts.proofs.Numbers.{number_at}
@@ -34,11 +32,11 @@ use Rattle.approval.specs.Approval.{approval_of}
 use Rattle.approval.proofs.Approval.{answer-holds}
 
 -- a number within bounds
-value-bounds : (most : ℕ) (x : Number) → is_value_within 1 most x ≡ true → (1 ≤ numeral x) × (numeral x ≤ most)
-value-bounds most (Is x) e =
+value-bounds : (most : ℕ) (x : Option ℕ) → is_value_within 1 most x ≡ true → (1 ≤ numeral x) × (numeral x ≤ most)
+value-bounds most (Some x) e =
     let t = (and-eq-true_iff (leb 1 x) (leb x most)).0 e in
     (leb-true 1 x t.0, leb-true x most t.1)
-value-bounds most Not e = absurd (true≢false (sym e))
+value-bounds most None e = absurd (true≢false (sym e))
 
 -- only 00 approves a request that may not be approved in part
 whole_code : (kind : ℕ) (m : Message) → allows_partial kind ≡ false → approves_request kind m ≡ approves m

@@ -1,4 +1,5 @@
 -- The way back: what follows from rules 1 and 2 having passed makes them pass again.
+use Rattle.std.specs.Prelude.{Option}
 use mathlib.Core.Path.{◌≡◌}
 use mathlib.Core.List.{List}
 use mathlib.Core.Bool.{true, Bool}
@@ -9,7 +10,6 @@ use Rattle.entry.specs.Entry.{entry_size}
 use Rattle.entry.specs.declared.Entry.{Entry}
 use Rattle.journal.specs.Journal.{entries_of, totals_of}
 use Rattle.message.specs.Message.{largest}
-use Rattle.journal.specs.declared.Found.{Found}
 use Rattle.state.specs.declared.State.{State}
 use Rattle.state.specs.Calls.{Lent}
 use Rattle.checks.specs.Checks.{first_broken}
@@ -19,7 +19,7 @@ use Rattle.rules.proofs.InOrder.{JournalHolds, InOrder, Fit, fit}
 use Rattle.state_rules.proofs.Holds.{state_back}
 use Rattle.call_theorems.specs.Ready.{Ready}
 
-pub journal_back : (l : ℕ) (due : Entry → Bool) (uploading : Bool) (item : Found) (es : List Entry)
+pub journal_back : (l : ℕ) (due : Entry → Bool) (uploading : Bool) (item : Option ℕ) (es : List Entry)
     → JournalHolds l due uploading item es → journal_kept l due uploading item es ≡ true
 unfolding journal_kept sums_kept
 journal_back l due uploading item es h =

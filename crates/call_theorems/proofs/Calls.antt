@@ -1,18 +1,15 @@
 -- What the outcome of each call says.
+use Rattle.std.specs.Prelude.{Some, None, Option}
 use mathlib.Core.Path.{◌≡◌, refl}
 use mathlib.Core.List.{List}
 use mathlib.Core.Bool.{Bool, false, not}
 use Prim.Native.Nat.{ℕ}
 use borrow.Author.Tests.{not-false}
 use Rattle.message.specs.declared.Message.{Message}
-use Rattle.reading.specs.Reading.{read_message}
-use Rattle.reading.specs.declared.ReadOutcome.{ReadOutcome as Judgement}
-use Rattle.reading.specs.declared.ReadOutcome.TheVariants.{Read, Refused as Unread}
+use Rattle.reading.specs.Reading.{read_message, ReadOutcome as Judgement, Read, Refused as Unread}
 use Rattle.writing.specs.Writing.{message_bytes}
 use Rattle.numbers.specs.declared.Trace.{Trace}
 use Rattle.journal.specs.Journal.{entries_of, entry_at, next_due, taken}
-use Rattle.journal.specs.declared.Found.{Found}
-use Rattle.journal.specs.declared.Found.TheVariants.{At, Nowhere}
 use Rattle.state.specs.declared.Phase.{Phase}
 use Rattle.state.specs.declared.Phase.TheVariants.{Resting, Waiting, Pending, Settling, Uploading}
 use Rattle.state.specs.declared.State.{State}
@@ -127,12 +124,12 @@ settle-told s lent =
     (λ x. settlement_reads s lent (fits s lent (passed 1 rs refl z) (passed 2 rs refl z)) x.0 trace s.totals))
 
 -- an item, or the end where none is left
-next-told : (s : State) (lent : Lent) → Fit s lent → (f : Found) → next_due (due Uploading) (entries_of s.entries lent.journal) ≡ f
+next-told : (s : State) (lent : Lent) → Fit s lent → (f : Option ℕ) → next_due (due Uploading) (entries_of s.entries lent.journal) ≡ f
     → Told (Shapes send_next_upload_event s) s lent (sends_next f s lent)
-next-told s lent h (At i) e =
+next-told s lent h (Some i) e =
     told-sent (message_bytes (item_message s.settings s.batch (entry_at (entries_of s.entries lent.journal) i)))
     (λ x. item-reads s lent h x.0 i e)
-next-told s lent h Nowhere e =
+next-told s lent h None e =
     let trace : Trace = record { 0 = taken (entries_of s.entries lent.journal) s.next.0 } in
     told-sent (message_bytes (end_message s.settings s.batch trace)) (λ x. end_reads s lent h x.0 trace)
 

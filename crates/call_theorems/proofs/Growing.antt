@@ -1,4 +1,5 @@
 -- Laws of a journal outside the upload whose entries keep rule 2: one is voided, one is written after the last.
+use Rattle.std.specs.Prelude.{Some, None, Option}
 use mathlib.Core.Path.{◌≡◌, refl, ◌∙◌}
 use mathlib.Core.List.{List, [], ◌∷◌, ◌++◌}
 use mathlib.Core.Bool.{Bool, true, false, cond, ◌||◌, and-eq-true_iff, or-true}
@@ -14,8 +15,6 @@ use Rattle.kinds.specs.declared.Side.TheVariants.{Debit, Credit, Neither}
 use Rattle.entry.specs.Form.{in_form, keeps_voided, keeps_unmarked, keeps_resends, keeps_silent, due_entry}
 use Rattle.entry.specs.declared.Entry.{Entry}
 use Rattle.journal.specs.Journal.{entries_of, entry_at, every, first_of, has_trace, is_original, totals_of, absent, distinct, set_byte, with_voided, changed_at}
-use Rattle.journal.specs.declared.Found.{Found}
-use Rattle.journal.specs.declared.Found.TheVariants.{At, Nowhere}
 use Rattle.kinds.specs.declared.Totals.{Totals}
 use Rattle.journal.specs.Sums.{with_entry}
 use Rattle.journal.proofs.Entries.{set-voided, length-set_byte}
@@ -102,7 +101,7 @@ original-kept n l q j h = go (takes_original q.kind) (first_of original 0 (entri
     none : KeepsPlain n l j j
     none = record { room = refl; plain = h; totals = refl; absent_same = λ x. refl }
 
-    one : (i : ℕ) → first_of original 0 (entries_of n j) ≡ At i → KeepsPlain n l j (set_byte i 1 1 j)
+    one : (i : ℕ) → first_of original 0 (entries_of n j) ≡ Some i → KeepsPlain n l j (set_byte i 1 1 j)
     one i e =
         let es = entries_of n j in
         let f = first_at original 0 es i e in
@@ -116,9 +115,9 @@ original-kept n l q j h = go (takes_original q.kind) (first_of original 0 (entri
           absent_same = λ x. rw c (absent-changed (with_voided 1) (voided-trace 1) x i es);
         }
 
-    go : (b : Bool) (f : Found) → first_of original 0 (entries_of n j) ≡ f → KeepsPlain n l j (cond b (voided_at f j) j)
-    go true (At i) e = one i e
-    go true Nowhere e = none
+    go : (b : Bool) (f : Option ℕ) → first_of original 0 (entries_of n j) ≡ f → KeepsPlain n l j (cond b (voided_at f j) j)
+    go true (Some i) e = one i e
+    go true None e = none
     go false f e = none
 
 -- a new entry: nothing of it is voided, marked or resent

@@ -1,4 +1,5 @@
 -- Laws of a terminal in order whose awaited upload item is marked.
+use Rattle.std.specs.Prelude.{Some, None, Option}
 use mathlib.Core.Path.{◌≡◌, refl, sym, ◌∙◌}
 use mathlib.Core.List.{List}
 use mathlib.Core.Bool.{Bool, true, false, cond, not, ◌&&◌, ◌||◌, and-eq-true_iff, true≢false}
@@ -10,8 +11,6 @@ use Rattle.kinds.specs.Kinds.{is_due}
 use Rattle.entry.specs.Form.{in_form, keeps_voided, keeps_unmarked, keeps_resends, keeps_silent, due_entry}
 use Rattle.entry.specs.declared.Entry.{Entry}
 use Rattle.journal.specs.Journal.{entries_of, entry_at, is_at, next_due, with_mark, changed_at}
-use Rattle.journal.specs.declared.Found.{Found}
-use Rattle.journal.specs.declared.Found.TheVariants.{At, Nowhere}
 use Rattle.journal.proofs.Entries.{set_mark, length-set_byte}
 use Rattle.journal.proofs.Marks.{mark_form}
 use Rattle.journal.proofs.Searches.{next-at, every-at, every-after, every-changed}
@@ -55,12 +54,12 @@ module _ (x : ℕ) (e : Entry) where
       go false b p q = refl
 
 -- the awaited item is the next
-pub item-next : (f : Found) (i : ℕ) → is_at f i ≡ true → f ≡ At i
-item-next (At k) i h = rw (eqb-true k i h)
-item-next Nowhere i h = absurd (true≢false (sym h))
+pub item-next : (f : Option ℕ) (i : ℕ) → is_at f i ≡ true → f ≡ Some i
+item-next (Some k) i h = rw (eqb-true k i h)
+item-next None i h = absurd (true≢false (sym h))
 
 -- an entry that is not awaited any more
-not_item : (l i k : ℕ) (e : Entry) → (k ≡ i → ⊥) → keeps_silent l (is_at (At i) k) e ≡ true → keeps_silent l false e ≡ true
+not_item : (l i k : ℕ) (e : Entry) → (k ≡ i → ⊥) → keeps_silent l (is_at (Some i) k) e ≡ true → keeps_silent l false e ≡ true
 not_item l i k e n h = rw (ne_eqb i k (λ q. n (sym q))) at h
 
 pub marked-order : (s : State) (es : List Entry) (i x : ℕ) → InOrder (in_phase (Waiting (awaited.Item i)) s) es → 1 ≤ x → x ≤ 4
@@ -103,7 +102,7 @@ marked-order s es i x h a b c =
                 every-after (λ m e. keeps_resends l e) (λ m e. keeps_resends l e) (with_mark x) 0 i es h.journal.resends (λ m k o p. p)
                 (λ k. mark_resends x (entry_at es i) l a (every-at (λ m e. keeps_resends l e) 0 es h.journal.resends i k));
             silent =
-                every-after (λ m e. keeps_silent l (is_at (At i) m) e) (λ m e. keeps_silent l false e) (with_mark x) 0 i es h.journal.silent
+                every-after (λ m e. keeps_silent l (is_at (Some i) m) e) (λ m e. keeps_silent l false e) (with_mark x) 0 i es h.journal.silent
                 (λ m k o. not_item l i (0 + m) (entry_at es m) (λ q. o (omega arith))) (λ k. mark_silent x (entry_at es i) l c);
           };
       phase_kept = refl;

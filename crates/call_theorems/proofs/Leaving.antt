@@ -1,4 +1,5 @@
 -- What start, send reversal, settle and send next upload let leave reads.
+use Rattle.std.specs.Prelude.{Some}
 use mathlib.Core.Path.{◌≡◌, refl}
 use mathlib.Core.List.{List}
 use mathlib.Core.Bool.{true, and-eq-true_iff}
@@ -8,8 +9,7 @@ use lib.Seq.{take_at}
 use Rattle.field.specs.Table.{among, indicators}
 use Rattle.message.specs.Message.{largest}
 use Rattle.message.specs.Build.{Item, message_of}
-use Rattle.reading.specs.Reading.{read_message}
-use Rattle.reading.specs.declared.ReadOutcome.TheVariants.{Read}
+use Rattle.reading.specs.Reading.{read_message, Read}
 use Rattle.writing.specs.Writing.{message_bytes}
 use Rattle.numbers.specs.declared.Trace.{Trace}
 use Rattle.numbers.specs.declared.Batch.{Batch}
@@ -19,7 +19,6 @@ use Rattle.entry.specs.Theorems.{Shaped}
 use Rattle.entry.specs.declared.Entry.{Entry}
 use Rattle.entry.proofs.Form.{in_form_lem}
 use Rattle.journal.specs.Journal.{entries_of, entry_at, next_due}
-use Rattle.journal.specs.declared.Found.TheVariants.{At}
 use Rattle.kinds.specs.declared.Totals.{Totals}
 use Rattle.journal.proofs.Entries.{entry-shaped}
 use Rattle.journal.proofs.Searches.{every-at, next-at}
@@ -126,7 +125,7 @@ module _ (s : State) (lent : Lent) (h : Fit s lent) (x : SettingsShaped s.settin
       (settlement_held s.settings s.batch (settings-held s.settings x h.order.state.settings) trace t) h.message_room
 
   -- the next due entry
-  pub item-reads : (i : ℕ) → next_due (due Uploading) (entries_of s.entries lent.journal) ≡ At i
+  pub item-reads : (i : ℕ) → next_due (due Uploading) (entries_of s.entries lent.journal) ≡ Some i
       → (read_message (message_bytes (item_message s.settings s.batch (entry_at (entries_of s.entries lent.journal) i)))).outcome ≡ Read
   unfolding item_message
   item-reads i q =

@@ -1,4 +1,5 @@
 -- Laws of the journal's bytes up to the last entry and after it, where a byte of an entry is changed or an entry is written.
+use Rattle.std.specs.Prelude.{Some, None, Option}
 use mathlib.Core.Path.{◌≡◌, refl, sym, ◌∙◌}
 use mathlib.Core.List.{List, ◌++◌, append_assoc}
 use mathlib.Core.Bool.{Bool, true, false, cond}
@@ -13,8 +14,6 @@ use Rattle.entry.specs.Entry.{entry_size, encode}
 use Rattle.entry.specs.Theorems.{Shaped}
 use Rattle.entry.specs.declared.Entry.{Entry}
 use Rattle.journal.specs.Journal.{entries_of, original_for, put_entry, set_byte}
-use Rattle.journal.specs.declared.Found.{Found}
-use Rattle.journal.specs.declared.Found.TheVariants.{At, Nowhere}
 use Rattle.journal.proofs.Entries.{length-entries_le, put_there, put_short, length-set_byte}
 use Rattle.journal.proofs.Searches.{first_at}
 use Rattle.message.specs.declared.Message.{Message}
@@ -93,9 +92,9 @@ module _ (n : ℕ) (i j : List ℕ) (e : up_to n i ≡ up_to n j) where
   unfolding original_voided
   voided_agree q es = go (takes_original q.kind) (original_for q.kind q.original.0 es)
     where
-      go : (b : Bool) (f : Found) → up_to n (cond b (voided_at f i) i) ≡ up_to n (cond b (voided_at f j) j)
-      go true (At k) = set_agree k 1 1
-      go true Nowhere = e
+      go : (b : Bool) (f : Option ℕ) → up_to n (cond b (voided_at f i) i) ≡ up_to n (cond b (voided_at f j) j)
+      go true (Some k) = set_agree k 1 1
+      go true None = e
       go false f = e
 
   pub put_agree : (x : Entry) → length (encode x) ≡ entry_size → entry_size * n + entry_size ≤ length i → entry_size * n + entry_size ≤ length j
@@ -119,16 +118,16 @@ module _ (n : ℕ) (q : Request) (j : List ℕ) where
   unfolding original_voided
   voided-after = go (takes_original q.kind) (original_for q.kind q.original.0 (entries_of n j)) refl
     where
-      go : (b : Bool) (f : Found) → original_for q.kind q.original.0 (entries_of n j) ≡ f → after n (cond b (voided_at f j) j) ≡ after n j
-      go true (At k) e = set_after n k 1 1 j (omega (arith, (first_at _ 0 (entries_of n j) k e).below, length-entries_le n j)) (omega arith)
-      go true Nowhere e = refl
+      go : (b : Bool) (f : Option ℕ) → original_for q.kind q.original.0 (entries_of n j) ≡ f → after n (cond b (voided_at f j) j) ≡ after n j
+      go true (Some k) e = set_after n k 1 1 j (omega (arith, (first_at _ 0 (entries_of n j) k e).below, length-entries_le n j)) (omega arith)
+      go true None e = refl
       go false f e = refl
 
   pub voided-length : (es : List Entry) → length (original_voided q es j) ≡ length j
   unfolding original_voided
   voided-length es = go (takes_original q.kind) (original_for q.kind q.original.0 es)
     where
-      go : (b : Bool) (f : Found) → length (cond b (voided_at f j) j) ≡ length j
-      go true (At k) = length-set_byte k 1 1 j
-      go true Nowhere = refl
+      go : (b : Bool) (f : Option ℕ) → length (cond b (voided_at f j) j) ≡ length j
+      go true (Some k) = length-set_byte k 1 1 j
+      go true None = refl
       go false f = refl

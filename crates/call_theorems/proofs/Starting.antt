@@ -1,4 +1,5 @@
 -- The call start keeps rules 1 and 2.
+use Rattle.std.specs.Prelude.{Some, None, Option}
 use mathlib.Core.Path.{◌≡◌, refl, sym, subst}
 use mathlib.Core.List.{List}
 use mathlib.Core.Bool.{Bool, true, false, cond, not, ◌&&◌, ◌||◌, and-eq-true_iff, true≢false}
@@ -16,8 +17,6 @@ use Rattle.entry.specs.declared.Entry.{Entry}
 use Rattle.entry.proofs.Form.{in_form_lem}
 use Rattle.numbers.proofs.Bounds.{within-bounds, within_yes}
 use Rattle.journal.specs.Journal.{entries_of, entry_at, every, has_trace, is_original, totals_of, absent, taken, nowhere}
-use Rattle.journal.specs.declared.Found.{Found}
-use Rattle.journal.specs.declared.Found.TheVariants.{At, Nowhere}
 use Rattle.journal.proofs.Entries.{length-entries_le}
 use Rattle.journal.proofs.Searches.{first_at}
 use Rattle.traces.proofs.Free.{taken_free, taken_range, following_range}
@@ -111,15 +110,15 @@ original-trace : (k x : ℕ) (e : Entry) → is_original k x e ≡ true → e.tr
 unfolding is_original has_trace
 original-trace k x e h = eqb-true e.trace.0 x ((and-eq-true_iff (eqb e.kind k) (eqb e.trace.0 x)).0 h).1
 
-original-found : (d : Desk) (es : List Entry) → every (λ i e. in_form e) 0 es ≡ true → (f : Found) → original_of d es ≡ f
+original-found : (d : Desk) (es : List Entry) → every (λ i e. in_form e) 0 es ≡ true → (f : Option ℕ) → original_of d es ≡ f
     → nowhere f ≡ false → not (eqb (entry_of f es).voided 0) ≡ false → IsOriginal d es (entry_of f es)
-original-found d es h Nowhere q n v = absurd (true≢false n)
-original-found d es h (At i) q n v =
+original-found d es h None q n v = absurd (true≢false n)
+original-found d es h (Some i) q n v =
     let o = is_original (original_kind d.kind) d.original.0 in
-    let f = first_at o 0 es i (found_for d es (At i) q n) in
+    let f = first_at o 0 es i (found_for d es (Some i) q n) in
     let z : i - 0 ≡ i = omega arith in
     record {
-      is_form = entry-in_form d es h (At i) q n;
+      is_form = entry-in_form d es h (Some i) q n;
       trace = original-trace (original_kind d.kind) d.original.0 (entry_at es i) (rw z at f.holds);
       left = rw q (not-false _ v);
     }
@@ -200,7 +199,7 @@ or-false false b e = (refl, e)
 and-false : (a b : Bool) → (a && b) ≡ false → a ≡ true → b ≡ false
 and-false a b h e = rw e at h
 
-started-fits : (d : Desk) (b : List ℕ) (s : State) (lent : Lent) (f : Found) → Fit s lent → original_of d (entries_of s.entries lent.journal) ≡ f
+started-fits : (d : Desk) (b : List ℕ) (s : State) (lent : Lent) (f : Option ℕ) → Fit s lent → original_of d (entries_of s.entries lent.journal) ≡ f
     → first_broken (start_rules d b s (entries_of s.entries lent.journal) (entry_of f (entries_of s.entries lent.journal)) lent) ≡ 0
     → Fit (requested s (chip_from d b) (request_of d (entry_of f (entries_of s.entries lent.journal)) (taken (entries_of s.entries lent.journal) s.next.0))) lent
 started-fits d b s lent f h q z =

@@ -1,4 +1,5 @@
 -- The settings never change, nor does field 55 of a request that has not ended; of the message buffer a call looks at its length alone.
+use Rattle.std.specs.Prelude.{Some, None, Option}
 use mathlib.Core.Path.{◌≡◌, refl, sym}
 use mathlib.Core.List.{List}
 use mathlib.Core.Bool.{Bool, true, false, cond, true≢false}
@@ -7,15 +8,11 @@ use native.Mathlib.Omega.{arith}
 use lib.Dec.{eqb, leb}
 use lib.ListN.{length}
 use borrow.Author.Tests.{eqb-true}
-use Rattle.reading.specs.Reading.{read_message}
-use Rattle.reading.specs.declared.ReadOutcome.{ReadOutcome as Judgement}
-use Rattle.reading.specs.declared.ReadOutcome.TheVariants.{Read, Refused as Unread}
+use Rattle.reading.specs.Reading.{read_message, ReadOutcome as Judgement, Read, Refused as Unread}
 use Rattle.message.specs.declared.Message.{Message}
 use Rattle.kinds.specs.Kinds.{is_never_reversed}
 use Rattle.entry.specs.declared.Entry.{Entry}
 use Rattle.journal.specs.Journal.{entries_of, next_due}
-use Rattle.journal.specs.declared.Found.{Found}
-use Rattle.journal.specs.declared.Found.TheVariants.{At, Nowhere}
 use Rattle.state.specs.declared.Awaited.{Awaited}
 use Rattle.state.specs.declared.Awaited.TheVariants as awaited
 use Rattle.state.specs.declared.Phase.{Phase}
@@ -184,9 +181,9 @@ send_keeps (Pending v) s lent = keeps refl refl (λ e. e)
 send_keeps Settling s lent = keeps refl refl (λ e. e)
 send_keeps Uploading s lent = keeps refl refl (λ e. e)
 
-next_keeps : (f : Found) (s : State) (lent : Lent) → Keeps s (sends_next f s lent).state
-next_keeps (At i) s lent = keeps refl refl (λ e. e)
-next_keeps Nowhere s lent = keeps refl refl (λ e. e)
+next_keeps : (f : Option ℕ) (s : State) (lent : Lent) → Keeps s (sends_next f s lent).state
+next_keeps (Some i) s lent = keeps refl refl (λ e. e)
+next_keeps None s lent = keeps refl refl (λ e. e)
 
 upload_keeps : (p : Phase) (s : State) (lent : Lent) → Keeps s (upload_from p s lent).state
 upload_keeps Resting s lent = keeps refl refl (λ e. e)
@@ -329,9 +326,9 @@ module _ (s : State) (j m n : List ℕ) (e : length m ≡ length n) where
   send_same Settling = same refl refl refl
   send_same Uploading = same refl refl refl
 
-  next-same : (f : Found) → SameButMessage (sends_next f s (lend j m)) (sends_next f s (lend j n))
-  next-same (At i) = same refl refl refl
-  next-same Nowhere = same refl refl refl
+  next-same : (f : Option ℕ) → SameButMessage (sends_next f s (lend j m)) (sends_next f s (lend j n))
+  next-same (Some i) = same refl refl refl
+  next-same None = same refl refl refl
 
   upload-same : (p : Phase) → SameButMessage (upload_from p s (lend j m)) (upload_from p s (lend j n))
   upload-same Resting = same refl refl refl

@@ -7,8 +7,7 @@ use native.Mathlib.Omega.{arith}
 use lib.Dec.{eqb}
 use lib.ListN.{length, drop}
 use borrow.Author.Tests.{eqb-true}
-use Rattle.reading.specs.Reading.{read_message}
-use Rattle.reading.specs.declared.ReadOutcome.TheVariants.{Read}
+use Rattle.reading.specs.Reading.{read_message, Read}
 use Rattle.state.specs.declared.State.{State}
 use Rattle.state.specs.declared.Outcome.TheVariants.{Send, Quiet, Refused}
 use Rattle.state.specs.Calls.{Lent, with_journal, Result, judged, refused, quiet, sends}

@@ -1,4 +1,5 @@
 -- Bytes after the last entry are not changed, but for the entry that an approval writes.
+use Rattle.std.specs.Prelude.{Some, None, Option}
 use mathlib.Core.Path.{◌≡◌, refl, sym, subst}
 use mathlib.Core.List.{List}
 use mathlib.Core.Bool.{Bool, true, false, cond, not, ◌&&◌}
@@ -8,16 +9,12 @@ use lib.Dec.{leb, eqb}
 use lib.ListN.{length}
 use borrow.Author.Tests.{le-leb, leb-true, eqb-true, not-false}
 use Rattle.message.specs.declared.Message.{Message}
-use Rattle.reading.specs.Reading.{read_message}
-use Rattle.reading.specs.declared.ReadOutcome.{ReadOutcome as Judgement}
-use Rattle.reading.specs.declared.ReadOutcome.TheVariants.{Read, Refused as Unread}
+use Rattle.reading.specs.Reading.{read_message, ReadOutcome as Judgement, Read, Refused as Unread}
 use Rattle.entry.specs.Entry.{entry_size}
 use Rattle.entry.specs.Theorems.{Shaped}
 use Rattle.entry.specs.declared.Entry.{Entry}
 use Rattle.entry.proofs.Theorems.{length-encode}
 use Rattle.journal.specs.Journal.{entries_of, entry_at, next_due, set_byte}
-use Rattle.journal.specs.declared.Found.{Found}
-use Rattle.journal.specs.declared.Found.TheVariants.{At, Nowhere}
 use Rattle.journal.proofs.Entries.{length-entries_le, length-put, length-set_byte}
 use Rattle.journal.proofs.Searches.{next-at}
 use Rattle.state.specs.declared.Awaited.{Awaited}
@@ -221,11 +218,11 @@ module _ (s : State) (lent : Lent) where
       go true = still h
       go false = set-kept s lent.journal 0 k 3 (x.resends + 1) h l (omega arith)
 
-  next-kept : (f : Found) → next_due (due Uploading) (entries_of s.entries lent.journal) ≡ f → KeptIn 0 s lent (sends_next f s lent)
-  next-kept (At k) e =
+  next-kept : (f : Option ℕ) → next_due (due Uploading) (entries_of s.entries lent.journal) ≡ f → KeptIn 0 s lent (sends_next f s lent)
+  next-kept (Some k) e =
       let es = entries_of s.entries lent.journal in
       resent-kept k (entry_at es k) (record { few = omega arith }) (omega (arith, (next-at es k e).below, length-entries_le s.entries lent.journal))
-  next-kept Nowhere e = still (record { few = omega arith })
+  next-kept None e = still (record { few = omega arith })
 
   upload-kept : (p : Phase) → KeptIn 0 s lent (upload_from p s lent)
   upload-kept Resting = still (record { few = omega arith })

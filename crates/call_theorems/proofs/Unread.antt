@@ -1,4 +1,5 @@
 -- Bytes after the last entry are not read.
+use Rattle.std.specs.Prelude.{Some, None, Option}
 use mathlib.Core.Path.{◌≡◌, refl}
 use mathlib.Core.List.{List}
 use mathlib.Core.Bool.{Bool, true, false, cond}
@@ -8,16 +9,12 @@ use lib.Dec.{eqb}
 use lib.ListN.{length}
 use borrow.Author.Tests.{eqb-true, not-false}
 use Rattle.message.specs.declared.Message.{Message}
-use Rattle.reading.specs.Reading.{read_message}
-use Rattle.reading.specs.declared.ReadOutcome.{ReadOutcome as Judgement}
-use Rattle.reading.specs.declared.ReadOutcome.TheVariants.{Read, Refused as Unread}
+use Rattle.reading.specs.Reading.{read_message, ReadOutcome as Judgement, Read, Refused as Unread}
 use Rattle.entry.specs.Entry.{entry_size}
 use Rattle.entry.specs.Theorems.{Shaped}
 use Rattle.entry.specs.declared.Entry.{Entry}
 use Rattle.entry.proofs.Theorems.{length-encode}
 use Rattle.journal.specs.Journal.{entries_of, next_due}
-use Rattle.journal.specs.declared.Found.{Found}
-use Rattle.journal.specs.declared.Found.TheVariants.{At, Nowhere}
 use Rattle.journal.proofs.Entries.{entries-same}
 use Rattle.state.specs.declared.Awaited.{Awaited}
 use Rattle.state.specs.declared.Awaited.TheVariants as awaited
@@ -213,9 +210,9 @@ module _ (s : State) (i j : List ℕ) (l : length i ≡ length j) (e : up_to s.e
     send_same Settling = same refl refl refl e
     send_same Uploading = same refl refl refl e
 
-    next-same : (f : Found) → SameButRest (sends_next f s (lend i m)) (sends_next f s (lend j m))
-    next-same (At k) = rw one (same refl refl refl (resent_agree s.entries i j e k _))
-    next-same Nowhere = rw one (same refl refl refl e)
+    next-same : (f : Option ℕ) → SameButRest (sends_next f s (lend i m)) (sends_next f s (lend j m))
+    next-same (Some k) = rw one (same refl refl refl (resent_agree s.entries i j e k _))
+    next-same None = rw one (same refl refl refl e)
 
     upload-same : (p : Phase) → SameButRest (upload_from p s (lend i m)) (upload_from p s (lend j m))
     upload-same Resting = same refl refl refl e

@@ -1,4 +1,5 @@
 -- The call send next upload keeps rules 1 and 2.
+use Rattle.std.specs.Prelude.{Some, None, Option}
 use mathlib.Core.Path.{◌≡◌, refl, ◌∙◌}
 use mathlib.Core.List.{List}
 use mathlib.Core.Bool.{Bool, true, false, cond, not, ◌&&◌, ◌||◌, and-eq-true_iff, or-true}
@@ -14,8 +15,6 @@ use Rattle.numbers.specs.declared.Trace.{Trace}
 use Rattle.entry.specs.Form.{in_form, keeps_voided, keeps_unmarked, keeps_resends, keeps_silent, due_entry}
 use Rattle.entry.specs.declared.Entry.{Entry}
 use Rattle.journal.specs.Journal.{entries_of, entry_at, is_at, due_with, next_due, set_byte, with_resends, changed_at, taken}
-use Rattle.journal.specs.declared.Found.{Found}
-use Rattle.journal.specs.declared.Found.TheVariants.{At, Nowhere}
 use Rattle.journal.proofs.Entries.{set-resends, length-set_byte}
 use Rattle.journal.proofs.Marks.{resends-form}
 use Rattle.journal.proofs.Searches.{next-at, every-at, every-after, every-changed, every_implies, first-changed}
@@ -92,7 +91,7 @@ resend_left l e k r h =
     go false q m h = let n = eqb-false e.resends l q in omega arith
 
 -- the next item leaves
-module _ (s : State) (lent : Lent) (i : ℕ) (z : s.sign_on.0 ≡ 0) (h : Fit (in_phase Uploading s) lent) (n : next_due (due Uploading) (entries_of s.entries lent.journal) ≡ At i) where
+module _ (s : State) (lent : Lent) (i : ℕ) (z : s.sign_on.0 ≡ 0) (h : Fit (in_phase Uploading s) lent) (n : next_due (due Uploading) (entries_of s.entries lent.journal) ≡ Some i) where
   -- the first time
   first_fit : Fit (in_phase (Waiting (awaited.Item i)) s) lent
   first_fit =
@@ -113,8 +112,8 @@ module _ (s : State) (lent : Lent) (i : ℕ) (z : s.sign_on.0 ≡ 0) (h : Fit (i
               unmarked = h.order.journal.unmarked;
               resends = h.order.journal.resends;
               silent =
-                  every_implies (λ k e. keeps_silent l false e) (λ k e. keeps_silent l (is_at (At i) k) e)
-                  (λ k e. silent-awaited l (is_at (At i) k) e) 0 (entries_of s.entries lent.journal) h.order.journal.silent;
+                  every_implies (λ k e. keeps_silent l false e) (λ k e. keeps_silent l (is_at (Some i) k) e)
+                  (λ k e. silent-awaited l (is_at (Some i) k) e) 0 (entries_of s.entries lent.journal) h.order.journal.silent;
             };
         balance = h.order.state.balance;
         phase_kept = rw n (eq-eqb i i refl);
@@ -166,8 +165,8 @@ module _ (s : State) (lent : Lent) (i : ℕ) (z : s.sign_on.0 ≡ 0) (h : Fit (i
                   every-after (λ k e. keeps_resends l e) (λ k e. keeps_resends l e) (with_resends x) 0 i es o.journal.resends (λ k b d p. p)
                   (λ b. resends-resends x e l left k);
               silent =
-                  every-after (λ k e. keeps_silent l false e) (λ k e. keeps_silent l (is_at (At i) k) e) (with_resends x) 0 i es o.journal.silent
-                  (λ k b d. silent-awaited l (is_at (At i) (0 + k)) (entry_at es k))
+                  every-after (λ k e. keeps_silent l false e) (λ k e. keeps_silent l (is_at (Some i) k) e) (with_resends x) 0 i es o.journal.silent
+                  (λ k b d. silent-awaited l (is_at (Some i) (0 + k)) (entry_at es k))
                   (λ b. rw (eq-eqb i (0 + i) (omega arith)) (silent_here l (with_resends x e)));
             };
         phase_kept = rw (next-resent x i es, n) (eq-eqb i i refl);
@@ -197,7 +196,7 @@ module _ (s : State) (lent : Lent) (i : ℕ) (z : s.sign_on.0 ≡ 0) (h : Fit (i
 
 -- the end leaves: no due entry is 0 or 1
 end_fit : (s : State) (lent : Lent) (x : Trace) → 1 ≤ x.0 → x.0 ≤ last_number → s.sign_on.0 ≡ 0 → Fit (in_phase Uploading s) lent
-    → next_due (due Uploading) (entries_of s.entries lent.journal) ≡ Nowhere → Fit (ending s x) lent
+    → next_due (due Uploading) (entries_of s.entries lent.journal) ≡ None → Fit (ending s x) lent
 end_fit s lent x a b z h n =
     let r = following_range x.0 in
     next_fit (in_phase (Waiting (awaited.End x)) s) lent (record { 0 = following x.0 }) r.0 r.1
@@ -213,12 +212,12 @@ end_fit s lent x a b z h n =
       alone = z;
     }))
 
-next_fits : (s : State) (lent : Lent) → s.sign_on.0 ≡ 0 → Fit (in_phase Uploading s) lent → (f : Found) → next_due (due Uploading) (entries_of s.entries lent.journal) ≡ f
+next_fits : (s : State) (lent : Lent) → s.sign_on.0 ≡ 0 → Fit (in_phase Uploading s) lent → (f : Option ℕ) → next_due (due Uploading) (entries_of s.entries lent.journal) ≡ f
     → Fits (sends_next f (in_phase Uploading s) lent)
-next_fits s lent z h (At i) n =
+next_fits s lent z h (Some i) n =
     sent-fits (message_bytes (item_message s.settings s.batch (entry_at (entries_of s.entries lent.journal) i))) _ (with_journal _ lent)
     (item_fit s lent i z h n)
-next_fits s lent z h Nowhere n =
+next_fits s lent z h None n =
     let es = entries_of s.entries lent.journal in
     let x : Trace = record { 0 = taken es s.next.0 } in
     let t = taken_range es s.next.0 h.order.state.next_least h.order.state.next_most in

@@ -4,8 +4,7 @@ use Rattle.field.specs.Bitmap.{names}
 use Rattle.field.specs.Table.{among}
 use Rattle.message.specs.Message.{field_of}
 use Rattle.message.specs.declared.Message.{Message}
-use Rattle.reading.specs.Reading.{read_message}
-use Rattle.reading.specs.declared.ReadOutcome.TheVariants.{Read}
+use Rattle.reading.specs.Reading.{read_message, Read}
 use Rattle.state.specs.declared.State.{State}
 use Rattle.state.specs.Calls.{Lent}
 use Rattle.call_definitions.specs.Events.{call, answers}

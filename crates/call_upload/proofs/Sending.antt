@@ -1,4 +1,5 @@
 -- Laws of the rules of send next upload, and of the item or the end that leaves.
+use Rattle.std.specs.Prelude.{Some, None, Option}
 use mathlib.Core.Path.{◌≡◌, refl, sym, ap, ◌∙◌}
 use mathlib.Core.List.{List, [], ◌∷◌}
 use mathlib.Core.Bool.{true, false, not, ◌||◌, and-eq-true_iff}
@@ -16,20 +17,21 @@ use Rattle.entry.specs.Form.{in_form, keeps_resends}
 use Rattle.entry.specs.declared.Entry.{Entry}
 use Rattle.entry.proofs.Form.{in_form_lem}
 use Rattle.journal.specs.Journal.{entries_of, entry_at, next_due, taken}
-use Rattle.journal.specs.declared.Found.{Found}
-use Rattle.journal.specs.declared.Found.TheVariants.{At, Nowhere}
 use Rattle.journal.proofs.Entries.{entry-shaped}
 use Rattle.journal.proofs.Searches.{every-at, next-at}
 use Rattle.state.specs.declared.Awaited.TheVariants as awaited
 use Rattle.state.specs.declared.Called.{Called}
-use Rattle.state.specs.declared.Outcome.TheVariants.{Send, Refused}
+use Rattle.state.specs.declared.Outcome.TheVariants.{Send}
 use Rattle.state.specs.declared.Phase.{Phase}
-use Rattle.state.specs.declared.Phase.TheVariants.{Waiting, Uploading}
+use Rattle.state.specs.declared.Phase.TheVariants.{Resting, Waiting, Pending, Settling, Uploading}
 use Rattle.state.specs.declared.State.{State}
-use Rattle.state.specs.State.{in_phase, is_uploading}
+use Rattle.state.specs.State.{in_phase, uploads, is_uploading}
 use Rattle.checks.specs.Checks.{rule, first_broken}
-use Rattle.state.specs.Calls.{Lent, with_journal, with_message, result_of}
-use Rattle.checks.proofs.Choices.{first_stops, last-broken, last-kept}
+use Rattle.checks.specs.Refusals.{number_of}
+use Rattle.checks.specs.declared.Refusal.{Refusal}
+use Rattle.state.specs.Calls.{Lent, with_journal, with_message, result_of, refused}
+use Rattle.rules.proofs.Judged.{first_refuses}
+use Rattle.checks.proofs.Choices.{last-broken, last-kept}
 use Rattle.state.proofs.Judged.{refuses, goes}
 use Rattle.rules.specs.Rules.{idle_rules, due}
 use Rattle.rules.proofs.InOrder.{Fit}
@@ -45,27 +47,34 @@ use Rattle.effect_definitions.specs.StateEffects.{ending}
 use Rattle.batch_messages.proofs.Held.{EntryHeld, item-held, end_held, upload-listed}
 use Rattle.outgoing.specs.Held.{SettingsHeld}
 
-module _ (s : State) (lent : Lent) (n : ℕ) (e : n ≡ first_broken (idle_rules s lent)) where
-  pub turned_down : (r : Called) → (n ≡ 0 → ⊥) → r ≡ record { outcome = Refused n; state = s } → result_of r lent ≡ send_next_upload s lent
-  unfolding send_next_upload
-  turned_down r h q =
-      rw q (refuses n (first_broken (send_next_upload_rules s lent)) s lent (upload_from s.phase s lent)
-      (first_stops (idle_rules s lent) (rule 14 (not (is_uploading s)) ∷ []) n e h) h)
+not_uploading : (p : Phase) → (p ≡ Uploading → ⊥) → uploads p ≡ false
+not_uploading Resting h = refl
+not_uploading (Waiting a) h = refl
+not_uploading (Pending v) h = refl
+not_uploading Settling h = refl
+not_uploading Uploading h = absurd (h refl)
 
+-- rules 1, 2, 10 and 11 refuse
+pub turned_down : (s : State) (lent : Lent) (why : Refusal) → number_of why ≡ first_broken (idle_rules s lent)
+    → refused (number_of why) s lent ≡ send_next_upload s lent
+unfolding send_next_upload
+turned_down s lent why e = first_refuses (idle_rules s lent) (rule 14 (not (is_uploading s)) ∷ []) why s lent (upload_from s.phase s lent) e
+
+-- or pass
+module _ (s : State) (lent : Lent) (z : 0 ≡ first_broken (idle_rules s lent)) where
   -- 14. No upload is under way.
-  pub no_upload : (r : Called) → n ≡ 0 → is_uploading s ≡ false → r ≡ record { outcome = Refused 14; state = s }
-      → result_of r lent ≡ send_next_upload s lent
+  pub no_upload : (s.phase ≡ Uploading → ⊥) → refused 14 s lent ≡ send_next_upload s lent
   unfolding send_next_upload
-  no_upload r z f q =
-      rw q (refuses 14 (first_broken (send_next_upload_rules s lent)) s lent (upload_from s.phase s lent)
-      (last-broken (idle_rules s lent) n refl e z 14 (not (is_uploading s)) (rw f)) (λ x. omega arith))
+  no_upload h =
+      refuses 14 (first_broken (send_next_upload_rules s lent)) s lent (upload_from s.phase s lent)
+      (last-broken (idle_rules s lent) 0 refl z refl 14 (not (is_uploading s)) (rw (not_uploading s.phase h))) (λ x. omega arith)
 
-  pub goes_out : (r : Called) (after : Lent) → n ≡ 0 → s.phase ≡ Uploading
+  pub goes_out : (r : Called) (after : Lent) → s.phase ≡ Uploading
       → result_of r after ≡ sends_next (next_due (due Uploading) (entries_of s.entries lent.journal)) s lent → result_of r after ≡ send_next_upload s lent
   unfolding send_next_upload
-  goes_out r after z f h =
+  goes_out r after f h =
       goes 0 (first_broken (send_next_upload_rules s lent)) s lent (result_of r after) (upload_from s.phase s lent)
-      (last-kept (idle_rules s lent) n refl e z 14 (not (is_uploading s)) (rw f)) refl
+      (last-kept (idle_rules s lent) 0 refl z refl 14 (not (is_uploading s)) (rw f)) refl
       (h ∙ sym (ap (λ (x : Phase). upload_from x s lent) f))
 
 few-resends : (l : ℕ) (e : Entry) → keeps_resends l e ≡ true → e.resends ≤ l
@@ -94,7 +103,7 @@ module _ (s : State) (lent : Lent) (z : first_broken (idle_rules s lent) ≡ 0) 
     pub end_fields_lem : (trace : Trace) → all_held (end_fields s.settings s.batch trace) ≡ true
     end_fields_lem trace = end_held s.settings s.batch settings-held trace
 
-    pub item_fields_lem : (p : Found) (i : ℕ) (e : Entry) → p ≡ next_due (due Uploading) (entries_of s.entries lent.journal) → p ≡ At i
+    pub item_fields_lem : (p : Option ℕ) (i : ℕ) (e : Entry) → p ≡ next_due (due Uploading) (entries_of s.entries lent.journal) → p ≡ Some i
         → e ≡ entry_at (entries_of s.entries lent.journal) i → all_held (item_fields s.settings s.batch e) ≡ true
     item_fields_lem p i e f a q = rw q (item-held s.settings s.batch settings-held _ held)
       where
@@ -113,7 +122,7 @@ module _ (s : State) (lent : Lent) (z : first_broken (idle_rules s lent) ≡ 0) 
               authorisation_printable = w.authorisation_printable;
             }
 
-  pub resends_low : (p : Found) (i : ℕ) (e : Entry) → p ≡ next_due (due Uploading) (entries_of s.entries lent.journal) → p ≡ At i
+  pub resends_low : (p : Option ℕ) (i : ℕ) (e : Entry) → p ≡ next_due (due Uploading) (entries_of s.entries lent.journal) → p ≡ Some i
       → e ≡ entry_at (entries_of s.entries lent.journal) i → e.resends < 255
   resends_low p i e f a q =
       let es = entries_of s.entries lent.journal in
@@ -152,16 +161,16 @@ end_left s t trace lent b k o h r p q w u =
     rw (q, w, u, wr)
 
 -- the item or the end, as what is due says
-pub item-next : (s : State) (lent after : Lent) (p : Found) (i : ℕ) (e : Entry) (r : Called)
-    → p ≡ next_due (due Uploading) (entries_of s.entries lent.journal) → p ≡ At i
+pub item-next : (s : State) (lent after : Lent) (p : Option ℕ) (i : ℕ) (e : Entry) (r : Called)
+    → p ≡ next_due (due Uploading) (entries_of s.entries lent.journal) → p ≡ Some i
     → e ≡ entry_at (entries_of s.entries lent.journal) i → result_of r after ≡ sends_item i e s lent
     → result_of r after ≡ sends_next (next_due (due Uploading) (entries_of s.entries lent.journal)) s lent
 item-next s lent after p i e r f a q h =
-    h ∙ ap (λ (x : Entry). sends_item i x s lent) q ∙ sym (ap (λ (x : Found). sends_next x s lent) (sym f ∙ a))
+    h ∙ ap (λ (x : Entry). sends_item i x s lent) q ∙ sym (ap (λ (x : Option ℕ). sends_next x s lent) (sym f ∙ a))
 
-pub end_next : (s : State) (lent after : Lent) (p : Found) (trace : Trace) (r : Called)
-    → p ≡ next_due (due Uploading) (entries_of s.entries lent.journal) → p ≡ Nowhere
+pub end_next : (s : State) (lent after : Lent) (p : Option ℕ) (trace : Trace) (r : Called)
+    → p ≡ next_due (due Uploading) (entries_of s.entries lent.journal) → p ≡ None
     → trace ≡ record { 0 = taken (entries_of s.entries lent.journal) s.next.0 } → result_of r after ≡ sends_end trace s lent
     → result_of r after ≡ sends_next (next_due (due Uploading) (entries_of s.entries lent.journal)) s lent
 end_next s lent after p trace r f a q h =
-    h ∙ ap (λ (x : Trace). sends_end x s lent) q ∙ sym (ap (λ (x : Found). sends_next x s lent) (sym f ∙ a))
+    h ∙ ap (λ (x : Trace). sends_end x s lent) q ∙ sym (ap (λ (x : Option ℕ). sends_next x s lent) (sym f ∙ a))

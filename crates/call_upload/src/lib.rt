@@ -11,8 +11,8 @@ ghost use Rattle.compose.specs.Compose.{all_held};
 ghost use Rattle.call_definitions.specs.SendNextUpload.{sends_item, sends_end, sends_next, send_next_upload};
 ghost use Rattle.batch_messages.specs.BatchMessages.{item_fields, end_fields};
 
+use checks::Refusal;
 use entry::Entry;
-use journal::Found;
 use numbers::Trace;
 use state::{Awaited, Called, Phase, State};
 
@@ -20,13 +20,11 @@ use state::{Awaited, Called, Phase, State};
 pub fn send_next_upload(s: State, journal: &mut [u8], message: &mut [u8]) -> Called
     ensures { result_of result (lend journal.new message.new) ≡ send_next_upload s (lend journal.old message.old) }
 {
-    let number = rules::idle_refusal(s, journal, message);
-    if number != 0 {
-        return Called::refused(s, number);
+    if let Err(e) = rules::judge_idle(s, journal, message) {
+        return Called::refused(s, e.into());
     }
-    let phase = s.phase;
-    let Phase::Uploading = phase else {
-        return Called::refused(s, 14);
+    let Phase::Uploading = s.phase else {
+        return Called::refused(s, Refusal::NothingAwaited.into());
     };
     send_next(s, journal, message)
 }
@@ -36,10 +34,8 @@ fn send_item(s: State, i: u16, e: Entry, journal: &mut [u8], message: &mut [u8])
     requires { (e.resends < 255) × ((all_held (item_fields s.settings s.batch e) ≡ true) × (largest ≤ length message.old)) }
     ensures { result_of result (lend journal.new message.new) ≡ sends_item i e s (lend journal.old message.old) }
 {
-    let settings = s.settings;
-    let batch = s.batch;
-    let m = batch_messages::item_message(settings, batch, e);
-    let n = outgoing::write_outgoing(m, message);
+    let m = batch_messages::item_message(s.settings, s.batch, e);
+    let n = outgoing::write_outgoing(&m, message);
     journal_effects::resend(i, e, journal);
     Called::sends(s.in_phase(Phase::Waiting(Awaited::Item(i))), n)
 }
@@ -49,10 +45,8 @@ fn send_end(s: State, trace: Trace, journal: &[u8], message: &mut [u8]) -> Calle
     requires { (all_held (end_fields s.settings s.batch trace) ≡ true) × (largest ≤ length message.old) }
     ensures { result_of result (lend journal.now message.new) ≡ sends_end trace s (lend journal.now message.old) }
 {
-    let settings = s.settings;
-    let batch = s.batch;
-    let m = batch_messages::end_message(settings, batch, trace);
-    let n = outgoing::write_outgoing(m, message);
+    let m = batch_messages::end_message(s.settings, s.batch, trace);
+    let n = outgoing::write_outgoing(&m, message);
     Called::sends(state_effects::ending(s, trace), n)
 }
 
@@ -64,13 +58,12 @@ fn send_next(s: State, journal: &mut [u8], message: &mut [u8]) -> Called
 {
     let n = s.entries;
     match journal::next_due(journal, n) {
-        Found::At(i) => {
+        Some(i) => {
             let e = journal::entry_at(journal, n, i);
             send_item(s, i, e, journal, message)
         }
-        Found::Nowhere => {
-            let next = s.next;
-            let trace = traces::take(journal, n, next);
+        None => {
+            let trace = traces::take(journal, n, s.next);
             send_end(s, trace, journal, message)
         }
     }

@@ -1,10 +1,8 @@
 -- The simulated centre: what it answers to a message that left.
-use Rattle.std.specs.Prelude.{List, [], ◌∷◌, ◌++◌, Bool, cond, ◌||◌, ℕ, ◌+◌, ◌*◌, leb, eqb, replicate}
+use Rattle.std.specs.Prelude.{List, [], ◌∷◌, ◌++◌, Bool, cond, ◌||◌, ℕ, ◌+◌, ◌*◌, leb, eqb, replicate, Some, None, Option}
 use Rattle.digits.specs.Digits.{pack}
 use Rattle.digits.specs.Numbers.{digits_of}
 use Rattle.digits.specs.Packed.{numeral}
-use Rattle.digits.specs.declared.Number.{Number}
-use Rattle.digits.specs.declared.Number.TheVariants.{Is, Not}
 use Rattle.message.specs.Message.{field_of}
 use Rattle.message.specs.Build.{Item, digits, bytes, message_of}
 use Rattle.message.specs.declared.Message.{Message}
@@ -32,9 +30,9 @@ abbrev pub own_fields : Message → List Item
 own_fields m = digits_sent 11 6 m ∷ bytes_sent 41 8 m ∷ bytes_sent 42 15 m ∷ []
 
 -- document 02, request 4: how many digits field 60 was sent with: 14 where they say a number, else 11
-abbrev pub codes_count : Number → ℕ
-codes_count (Is x) = 14
-codes_count Not = 11
+abbrev pub codes_count : Option ℕ → ℕ
+codes_count (Some x) = 14
+codes_count None = 11
 
 abbrev pub codes_sent : Message → Item
 codes_sent m = digits_sent 60 (codes_count (number_in m 60 0 14)) m

@@ -1,4 +1,5 @@
 -- An answer that repeats the fields of what left is written, and what is written matches.
+use Rattle.std.specs.Prelude.{Some, Option, Ok}
 use mathlib.Core.Path.{◌≡◌, refl, ◌∙◌}
 use mathlib.Core.List.{List, [], ◌∷◌}
 use mathlib.Core.Bool.{true, ◌||◌, or-true}
@@ -8,8 +9,6 @@ use lib.ListN.{length}
 use borrow.Author.Tests.{eq-eqb}
 use Rattle.digits.specs.Lists.{same_bytes}
 use Rattle.digits.proofs.Lists.{same_bytes_lem}
-use Rattle.digits.specs.declared.Number.{Number}
-use Rattle.digits.specs.declared.Number.TheVariants.{Is}
 use Rattle.field.specs.Bitmap.{names}
 use Rattle.field.specs.Table.{among, formats, indicators, variable, codes}
 use Rattle.field.specs.declared.Class.TheVariants.{Digits, Printable}
@@ -20,7 +19,6 @@ use Rattle.message.specs.Message.{Field, field_of, largest}
 use Rattle.message.specs.declared.Message.{Message}
 use Rattle.reading.specs.Reading.{read_message}
 use Rattle.writing.specs.Writing.{message_bytes, write_message}
-use Rattle.writing.specs.declared.Writing.TheVariants.{Written}
 use Rattle.parts.specs.Parts.{number_in, part_of}
 use Rattle.parts.specs.declared.Part.TheVariants as part
 use Rattle.compose.specs.Compose.{all_held}
@@ -116,7 +114,7 @@ module _ (s : List ℕ) {i : ℕ} {xs : List Item} (r : Reads i xs (read_message
   unfolding number_in
   number_repeated n at k p q h g = rw (r.named n p q, h.0, r.fields n h.0, h.1, g)
 
-same_number_lem : (x y : Number) (n : ℕ) → x ≡ y → y ≡ Is n → same_number x y ≡ true
+same_number_lem : (x y : Option ℕ) (n : ℕ) → x ≡ y → y ≡ Some n → same_number x y ≡ true
 same_number_lem x y n e q = rw (e, q) (eq-eqb n n refl)
 
 -- what is written of an answer to b
@@ -159,7 +157,7 @@ module _ (o : List ℕ) {a : Message} (i : ℕ) (xs : List Item) (e : a ≡ mess
   pub reads_back : Reads i xs (read_message (outgoing_bytes a o))
   reads_back = rw e (sent-reads_back i xs o l h room)
 
-  pub is-written : (write_message a o).outcome ≡ Written (length (message_bytes (message_of i xs)))
+  pub is-written : (write_message a o).outcome ≡ Ok (length (message_bytes (message_of i xs)))
   is-written = rw (e, written_is i xs o l h room)
 
   pub answers : (b : List ℕ) → HasLeft b → i ≡ (message_in b).indicator + 0x10 → Repeats (message_in b) xs

@@ -1,4 +1,5 @@
 -- Fields of a message that was read: sent back as numbers or bytes they are the fields themselves.
+use Rattle.std.specs.Prelude.{Some, None}
 use mathlib.Core.Path.{◌≡◌, refl, sym, ◌∙◌}
 use mathlib.Core.List.{List, [], ◌∷◌}
 use mathlib.Core.Bool.{Bool, true, false, cond, true≢false}
@@ -11,7 +12,6 @@ use borrow.Author.Tests.{eq-eqb, ne_eqb, le-leb, lt-leb}
 use Rattle.digits.specs.Digits.{unpack, is_packed, all_digits}
 use Rattle.digits.specs.Numbers.{value}
 use Rattle.digits.specs.Packed.{numeral}
-use Rattle.digits.specs.declared.Number.TheVariants.{Is, Not}
 use Rattle.digits.proofs.Packing.{length-unpack, digit_at, digits-all, unpack-digits}
 use Rattle.digits.proofs.Numbers.{length_digits_of, value-below, number_is}
 use Rattle.field.specs.Bitmap.{names}
@@ -68,7 +68,7 @@ part-digits i k ds h a =
 module _ (m : Message) (n : ℕ) (named : names m.bitmap n ≡ true) where
   -- the number that a part of a field of digits says
   pub part-is : (c i k : ℕ) → OfDigits c (field_of m n) → i + k ≤ c → k ≤ 19
-      → number_in m n i k ≡ Is (value (take k (drop i (unpack c (field_of m n).bytes))))
+      → number_in m n i k ≡ Some (value (take k (drop i (unpack c (field_of m n).bytes))))
   unfolding number_in
   part-is c i k d h s =
       let ds = unpack c (field_of m n).bytes in
@@ -84,7 +84,7 @@ module _ (m : Message) (n : ℕ) (named : names m.bitmap n ≡ true) where
   pub digits_sent_lem : (k : ℕ) → OfDigits k (field_of m n) → k ≤ 19 → (digits_sent n k m).field ≡ field_of m n
   digits_sent_lem k d s =
       let b = (field_of m n).bytes in
-      let e : number_in m n 0 k ≡ Is (packed_number k b) =
+      let e : number_in m n 0 k ≡ Some (packed_number k b) =
       part-is k 0 k d (omega arith) s
       ∙ rw (take_all k (unpack k b) (rw length-unpack (omega arith)), number-value k b s (unpack-digits k b d.packed)) in
       rw (e, length_digits_of k (packed_number k b), number_packs k b s d.packed, ← d.count)
@@ -99,7 +99,7 @@ module _ (m : Message) (n : ℕ) (named : names m.bitmap n ≡ true) where
 -- field 60 of 11 or 14 digits: only 14 of them say a number of 14
 module _ (m : Message) (named : names m.bitmap 60 ≡ true) (c : ℕ) (d : OfDigits c (field_of m 60)) (l : among c (11 ∷ 14 ∷ []) ≡ true)
     (most : c ≤ 14) where
-  too_few : c < 14 → number_in m 60 0 14 ≡ Not
+  too_few : c < 14 → number_in m 60 0 14 ≡ None
   unfolding number_in
   too_few h = rw (named, d.count, lt-leb 14 c h)
 

@@ -1,4 +1,5 @@
 -- What a call sends: its type and its fields are read from the bytes that leave.
+use Rattle.std.specs.Prelude.{Some, None, Option}
 use mathlib.Core.Path.{◌≡◌, refl, ◌∙◌}
 use mathlib.Core.List.{List}
 use mathlib.Core.Bool.{Bool, true, false, cond}
@@ -11,9 +12,7 @@ use Rattle.field.specs.Table.{formats}
 use Rattle.field.specs.Bitmap.{names}
 use Rattle.message.specs.Build.{Item, has, bitmap_for, message_of}
 use Rattle.message.specs.declared.Message.{Message}
-use Rattle.reading.specs.Reading.{read_message}
-use Rattle.reading.specs.declared.ReadOutcome.{ReadOutcome as Judgement}
-use Rattle.reading.specs.declared.ReadOutcome.TheVariants.{Read, Refused as Unread}
+use Rattle.reading.specs.Reading.{read_message, ReadOutcome as Judgement, Read, Refused as Unread}
 use Rattle.writing.specs.Writing.{fields_bytes, message_bytes}
 use Rattle.message_theorems.proofs.Messages.{read_head}
 use Rattle.numbers.specs.declared.Trace.{Trace}
@@ -22,8 +21,6 @@ use Rattle.kinds.specs.Kinds.{indicator_of}
 use Rattle.kinds.proofs.Types.{each_type}
 use Rattle.entry.specs.declared.Entry.{Entry}
 use Rattle.journal.specs.Journal.{entries_of, entry_at, next_due, taken}
-use Rattle.journal.specs.declared.Found.{Found}
-use Rattle.journal.specs.declared.Found.TheVariants.{At, Nowhere}
 use Rattle.kinds.specs.declared.Totals.{Totals}
 use Rattle.state.specs.declared.Chip.{Chip}
 use Rattle.state.specs.declared.Request.{Request as Asked}
@@ -167,9 +164,9 @@ module _ (s : State) (lent : Lent) where
   send_from_lem Settling = is-quiet
   send_from_lem Uploading = is-quiet
 
-  next-leaves : (f : Found) → Sends (sends_next f s lent)
-  next-leaves (At i) = sends-bytes _ lent (item-sound s.settings s.batch (entry_at (entries_of s.entries lent.journal) i))
-  next-leaves Nowhere = sends-bytes _ lent (end_sound s.settings s.batch (record { 0 = taken (entries_of s.entries lent.journal) s.next.0 }))
+  next-leaves : (f : Option ℕ) → Sends (sends_next f s lent)
+  next-leaves (Some i) = sends-bytes _ lent (item-sound s.settings s.batch (entry_at (entries_of s.entries lent.journal) i))
+  next-leaves None = sends-bytes _ lent (end_sound s.settings s.batch (record { 0 = taken (entries_of s.entries lent.journal) s.next.0 }))
 
   upload_from_lem : (p : Phase) → Sends (upload_from p s lent)
   upload_from_lem Resting = is-quiet

@@ -1,4 +1,5 @@
 -- The theorems on the answers of the simulated centre.
+use Rattle.std.specs.Prelude.{Some, None, Option}
 use mathlib.Core.Path.{◌≡◌, refl, sym, ap, ◌∙◌}
 use mathlib.Core.List.{List, [], ◌∷◌, ◌++◌}
 use mathlib.Core.Bool.{Bool, true, false, cond, not, ◌&&◌, ◌||◌, or-true, and-false, and-eq-true_iff}
@@ -12,8 +13,6 @@ use Rattle.digits.specs.Lists.{same_bytes}
 use Rattle.digits.specs.Digits.{all_digits}
 use Rattle.digits.specs.Numbers.{digits_of}
 use Rattle.digits.specs.Packed.{numeral}
-use Rattle.digits.specs.declared.Number.{Number}
-use Rattle.digits.specs.declared.Number.TheVariants.{Is, Not}
 use Rattle.digits.proofs.Lists.{same_list}
 use Rattle.digits.proofs.Numbers.{digits_of_digits}
 use Rattle.field.specs.Bitmap.{names}
@@ -55,10 +54,10 @@ batch-held : (x : ℕ) → may_hold formats (digits 60 (digits_of 11 x)) ≡ tru
 unfolding formats allowed
 batch-held x = number-held 60 11 x refl
 
-codes-held : (n : Number) (x : ℕ) → may_hold formats (digits 60 (digits_of (codes_count n) x)) ≡ true
+codes-held : (n : Option ℕ) (x : ℕ) → may_hold formats (digits 60 (digits_of (codes_count n) x)) ≡ true
 unfolding formats allowed
-codes-held (Is y) x = number-held 60 14 x refl
-codes-held Not x = number-held 60 11 x refl
+codes-held (Some y) x = number-held 60 14 x refl
+codes-held None x = number-held 60 11 x refl
 
 date-held : (x : ℕ) → may_hold formats (digits 13 (digits_of 4 x)) ≡ true
 unfolding formats allowed

@@ -1,13 +1,11 @@
 -- What is proved of the simulated centre's answers, for every message that left: they are written, and they match.
-use Rattle.std.specs.Prelude.{◌≡◌, List, [], ◌∷◌, true, false, ℕ, ◌≤◌, eqb, length, take}
+use Rattle.std.specs.Prelude.{◌≡◌, List, [], ◌∷◌, true, false, ℕ, ◌≤◌, eqb, length, take, Ok}
 use Rattle.field.specs.Bitmap.{names}
 use Rattle.field.specs.Contents.{all_printable}
 use Rattle.message.specs.Message.{largest}
 use Rattle.message.specs.declared.Message.{Message}
-use Rattle.reading.specs.Reading.{read_message}
-use Rattle.reading.specs.declared.ReadOutcome.TheVariants.{Read}
+use Rattle.reading.specs.Reading.{read_message, Read}
 use Rattle.writing.specs.Writing.{write_message}
-use Rattle.writing.specs.declared.Writing.TheVariants.{Written}
 use Rattle.state.specs.declared.State.{State}
 use Rattle.state.specs.declared.Outcome.TheVariants.{Send}
 use Rattle.state.specs.Calls.{Lent}
@@ -51,7 +49,7 @@ pub record IsCode (code : List ℕ) : Type 0 where
 -- an answer is written, and what is written is a matching answer to the bytes that left
 pub record Answers (b o : List ℕ) (answer : Message) : Type 0 where
   pub size : ℕ
-  pub accepted : (write_message answer o).outcome ≡ Written size
+  pub accepted : (write_message answer o).outcome ≡ Ok size
   pub matching : is_matching (message_in b) (outgoing_bytes answer o) ≡ true
 
 -- document 02, request 4: the amount that a card request is answered with, given or as sent, is for 00 the amount asked for, and for a

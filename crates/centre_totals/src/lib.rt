@@ -9,22 +9,21 @@ use message::Message;
 use parts::Part;
 
 // The digits of field 48 with the totals as sent and this digit.
-pub fn field48_with(sent: Message, digit: u8) -> [u8; parts::FIELD48]
-    ensures { result ≡ field48_with sent digit }
+pub fn field48_with(sent: &Message, digit: u8) -> [u8; parts::FIELD48]
+    ensures { result ≡ field48_with sent.now digit }
 {
-    let mut ds = [0u8; parts::FIELD48];
+    let mut ds = [0; parts::FIELD48];
     put_sent(sent, Part::DebitAmount, &mut ds);
     put_sent(sent, Part::DebitCount, &mut ds);
     put_sent(sent, Part::CreditAmount, &mut ds);
     put_sent(sent, Part::CreditCount, &mut ds);
-    parts::put_part(Part::Reconciliation, digit as u64, &mut ds);
+    parts::put_part(Part::Reconciliation, u64::from(digit), &mut ds);
     ds
 }
 
 // Puts a part as it was sent.
-fn put_sent(sent: Message, p: Part, ds: &mut [u8])
-    ensures { ds.new ≡ with_part p (sent_part p sent) ds.old }
+fn put_sent(sent: &Message, p: Part, ds: &mut [u8])
+    ensures { ds.new ≡ with_part p (sent_part p sent.now) ds.old }
 {
-    let h = message::head_of(sent);
-    parts::put_part(p, digits::numeral(parts::part_of(h, &sent.contents, p)), ds);
+    parts::put_part(p, parts::part_of(sent, p).unwrap_or(0), ds);
 }

@@ -16,13 +16,12 @@ pub enum Left {
 }
 
 // What left, by its type.
+#[tactic(auto, unfolding(crate::specs::Types::left_as))]
 pub fn left_as(indicator: u16) -> Left
     ensures { result ≡ left_as indicator }
 {
     match indicator {
-        0x0100 => Left::Request,
-        0x0200 => Left::Request,
-        0x0220 => Left::Request,
+        0x0100 | 0x0200 | 0x0220 => Left::Request,
         0x0400 => Left::Reversal,
         0x0500 => Left::Settlement,
         0x0320 => Left::Upload,
@@ -32,24 +31,20 @@ pub fn left_as(indicator: u16) -> Left
 }
 
 // The type of the answer.
+#[tactic(auto, unfolding(crate::specs::Types::answer_type))]
 pub fn answer_type(indicator: u16) -> u16
     ensures { result ≡ answer_type indicator }
 {
     match indicator {
-        0x0100 => 0x0110,
-        0x0200 => 0x0210,
-        0x0220 => 0x0230,
-        0x0320 => 0x0330,
-        0x0400 => 0x0410,
-        0x0500 => 0x0510,
-        0x0800 => 0x0810,
+        0x0100 | 0x0200 | 0x0220 | 0x0320 | 0x0400 | 0x0500 | 0x0800 => indicator + 0x10,
         _ => 0,
     }
 }
 
 // Whether the code is 00.
+#[tactic(auto, unfolding(crate::specs::Types::is_approval))]
 pub fn is_approval(code: [u8; 2]) -> bool
     ensures { result ≡ is_approval code }
 {
-    (code[0] == 0x30) & (code[1] == 0x30)
+    code == *b"00"
 }

@@ -1,6 +1,6 @@
 -- The bitmap of a list of items: which fields it names, and the bitmap of one item more.
 use mathlib.Core.Path.{◌≡◌, refl, ap, sym, ◌∙◌, fun_ext}
-use mathlib.Core.List.{List, [], ◌∷◌}
+use mathlib.Core.List.{List, ◌∷◌}
 use mathlib.Core.Bool.{Bool, true, false, cond}
 use Prim.Native.Nat.{ℕ, zero, suc, ◌+◌, ◌-◌, ◌*◌, ◌/◌, ◌%◌, ◌^◌, ◌≤◌, ◌<◌}
 use native.Mathlib.Nat.{div-div-eq-div-mul, pow-suc, pow-succ', pow-zero, not-suc-le-zero}
@@ -16,12 +16,9 @@ use Rattle.field.specs.Bitmap.{bit, names}
 use Rattle.message.specs.Build.{Item, has, bits, bitmap_for}
 use Rattle.compose.specs.Compose.{with_bit}
 
--- the bits of a byte, as code has them
-abbrev pub bit_values : List ℕ
-bit_values = 128 ∷ 64 ∷ 32 ∷ 16 ∷ 8 ∷ 4 ∷ 2 ∷ 1 ∷ []
-
-bit-value : (i : ℕ) → i < 8 → get_or bit_values i 0 ≡ 2 ^ (7 - i)
-bit-value i h = eqb-true _ _ (all-at (λ i. eqb (get_or bit_values i 0) (2 ^ (7 - i))) 8 refl i h)
+-- a bit of a byte, as code has it
+pub bit-value : (k : ℕ) → k < 8 → 1 * 2 ^ k % 256 ≡ 2 ^ k
+bit-value k h = eqb-true _ _ (all-at (λ k. eqb (1 * 2 ^ k % 256) (2 ^ k)) 8 refl k h)
 
 -- a bit that a byte does not have fits into it
 bit-room : (k x : ℕ) → k < 8 → x < 256 → eqb (x / 2 ^ k % 2) 1 ≡ false → x + 2 ^ k < 256
@@ -45,12 +42,12 @@ module _ (bm : List ℕ) (n : ℕ) {t : Bool} (q : t ≡ names bm n) where
     unfolding names bit
     bit-absent = rw v (rw (lt-ltb 0 n p) at (sym q ∙ h))
 
-    pub bit-fits : get_or bm ((i - 1) / 8) 0 < 256 → get_or bm ((i - 1) / 8) 0 + get_or bit_values ((i - 1) % 8) 0 < 256
-    bit-fits b = rw (bit-value ((i - 1) % 8) (omega arith)) (bit-room (7 - (i - 1) % 8) _ (omega arith) b bit-absent)
+    pub bit-fits : get_or bm ((i - 1) / 8) 0 < 256 → get_or bm ((i - 1) / 8) 0 + 1 * 2 ^ (7 - (i - 1) % 8) % 256 < 256
+    bit-fits b = rw (bit-value (7 - (i - 1) % 8) (omega arith)) (bit-room (7 - (i - 1) % 8) _ (omega arith) b bit-absent)
 
-    pub bit-set : set bm ((i - 1) / 8) (get_or bm ((i - 1) / 8) 0 + get_or bit_values ((i - 1) % 8) 0) ≡ with_bit n bm
+    pub bit-set : set bm ((i - 1) / 8) (get_or bm ((i - 1) / 8) 0 + 1 * 2 ^ (7 - (i - 1) % 8) % 256) ≡ with_bit n bm
     unfolding with_bit
-    bit-set = rw (bit-value ((i - 1) % 8) (omega arith), v, sym q ∙ h)
+    bit-set = rw (bit-value (7 - (i - 1) % 8) (omega arith), v, sym q ∙ h)
 
 -- a bitmap goes by which fields a list has
 bits-same : (xs ys : List Item) → ((m : ℕ) → has ys m ≡ has xs m) → (n k : ℕ) → bits ys n k ≡ bits xs n k

@@ -19,8 +19,8 @@ use Rattle.elements.proofs.Elements.{form-none}
 use Rattle.message.specs.Build.{Item, has, find, padded}
 use Rattle.message.specs.Message.{Field}
 use Rattle.message.specs.Located.{located}
-use Rattle.message.specs.declared.Located.{Located as Place-in}
-use Rattle.message.specs.declared.Located.TheVariants.{Found, Missing}
+use Rattle.message.specs.declared.Located.{Located}
+use Rattle.std.specs.Prelude.{Option, Some, None}
 use Rattle.message.proofs.Standing.{standing}
 use Rattle.compose.specs.Compose.{may_hold, chip_kept, all_held}
 use Rattle.compose.proofs.Places.{holds, may_not_hold, length-padded}
@@ -53,9 +53,9 @@ held-listed (f ∷ fs) x h = go (eqb f.number x.number) h (held-listed fs x)
 pub held_number : (x : Item) → may_hold formats x ≡ true → (0 < x.number) × (x.number ≤ 64)
 held_number x h = go (located formats x.number 0 0) refl
   where
-    go : (l : Place-in) → located formats x.number 0 0 ≡ l → (0 < x.number) × (x.number ≤ 64)
-    go (Found row from f) e = let s = standing x.number e in (s.number_positive, s.number_small)
-    go Missing e =
+    go : (l : Option Located) → located formats x.number 0 0 ≡ l → (0 < x.number) × (x.number ≤ 64)
+    go (Some at) e = let s = standing x.number e in (s.number_positive, s.number_small)
+    go None e =
         let b : false ≡ true = sym (may_not_hold formats x 0 0 e) ∙ h in
         let z : ◌≡◌ {A = ℕ} 0 1 = cc in
         absurd (omega arith)

@@ -8,7 +8,7 @@ use native.Mathlib.Omega.{arith}
 use native.Mathlib.Decide.{dec_lt}
 use lib.Dec.{eqb}
 use lib.ListN.{length, get_or, take, drop, set, replicate, length-append, length-drop, length-replicate, get_or-replicate, get_or-append}
-use lib.Seq.{drop-drop, get_or-drop, take-suc, take-add, append_snoc, set_split, ext_get_or, get_or-append-add, length-take-le, length_front}
+use lib.Seq.{drop-drop, get_or-drop, take-suc, take-add, append_snoc, set_split, ext_get_or, get_or-append-add, length-take-le}
 use borrow.Author.Tests.{eq-eqb, lt-leb, eqb-true}
 use Rattle.digits.specs.Lists.{tabulate}
 use Rattle.digits.specs.Digits.{bytes_for, pack, all_digits, packable}
@@ -24,9 +24,9 @@ use Rattle.field.proofs.Formats.{length-formats}
 use Rattle.message.specs.Build.{Item, digits, padded}
 use Rattle.message.specs.Message.{Field, rooms}
 use Rattle.message.specs.declared.Message.{Message}
-use Rattle.message.specs.Located.{located}
-use Rattle.message.specs.declared.Located.{Located as Place-in}
-use Rattle.message.specs.declared.Located.TheVariants.{Found, Missing}
+use Rattle.message.specs.Located.{found, located}
+use Rattle.message.specs.declared.Located.{Located}
+use Rattle.std.specs.Prelude.{Option, Some, None}
 use Rattle.message.proofs.Standing.{standing}
 use Rattle.compose.specs.Compose.{may_hold, with_count, with_contents, with_item}
 use Rattle.compose.specs.Placed.{placed, put_at, item}
@@ -36,32 +36,34 @@ abbrev pub holds : Format → Field → Bool
 holds f v = allowed f v.count && eqb (length v.bytes) (size f.class v.count) && eqb (fault f.class v.count v.bytes) 0
 
 -- an item may be held where the field that is found holds it
-may_hold_lem : (fs : List Format) (x : Item) (row from : ℕ) {r p : ℕ} {f : Format} → located fs x.number row from ≡ Found r p f
+may_hold_lem : (fs : List Format) (x : Item) (row from : ℕ) {r p : ℕ} {f : Format} → located fs x.number row from ≡ Some (found r p f)
     → may_hold fs x ≡ holds f x.field
 unfolding located
 may_hold_lem [] x row from e = let z : ◌≡◌ {A = ℕ} 0 1 = cc in absurd (omega arith)
 may_hold_lem (g ∷ fs) x row from {r} {p} {f} e = go (eqb g.number x.number) e (may_hold_lem fs x (row + 1) (from + room g))
   where
-    go : (t : Bool) → cond t (Found row from g) (located fs x.number (row + 1) (from + room g)) ≡ Found r p f
-        → (located fs x.number (row + 1) (from + room g) ≡ Found r p f → may_hold fs x ≡ holds f x.field)
+    go : (t : Bool) → cond t (Some (found row from g)) (located fs x.number (row + 1) (from + room g)) ≡ Some (found r p f)
+        → (located fs x.number (row + 1) (from + room g) ≡ Some (found r p f) → may_hold fs x ≡ holds f x.field)
         → cond t (holds g x.field) (may_hold fs x) ≡ holds f x.field
-    go true e ih = let c : g ≡ f = cc in rw c
+    go true e ih =
+        let s : found row from g ≡ found r p f = cc in
+        rw (ap (λ (l : Located). l.form) s)
     go false e ih = ih e
 
-pub may_not_hold : (fs : List Format) (x : Item) (row from : ℕ) → located fs x.number row from ≡ Missing → may_hold fs x ≡ false
+pub may_not_hold : (fs : List Format) (x : Item) (row from : ℕ) → located fs x.number row from ≡ None → may_hold fs x ≡ false
 unfolding located
 may_not_hold [] x row from e = refl
 may_not_hold (g ∷ fs) x row from e = go (eqb g.number x.number) e (may_not_hold fs x (row + 1) (from + room g))
   where
-    go : (t : Bool) → cond t (Found row from g) (located fs x.number (row + 1) (from + room g)) ≡ Missing
-        → (located fs x.number (row + 1) (from + room g) ≡ Missing → may_hold fs x ≡ false)
+    go : (t : Bool) → cond t (Some (found row from g)) (located fs x.number (row + 1) (from + room g)) ≡ None
+        → (located fs x.number (row + 1) (from + room g) ≡ None → may_hold fs x ≡ false)
         → cond t (holds g x.field) (may_hold fs x) ≡ false
     go true e ih = let z : ◌≡◌ {A = ℕ} 0 1 = cc in absurd (omega arith)
     go false e ih = ih e
 
 -- the message with an item, where its field stands
 located-all : (fs : List Format) (x : Item) (row from : ℕ) (cs bs : List ℕ) {r p : ℕ} {f : Format}
-    → located fs x.number row from ≡ Found r p f → row + length fs ≤ length cs
+    → located fs x.number row from ≡ Some (found r p f) → row + length fs ≤ length cs
     → (take row cs ++ with_count fs x (drop row cs) ≡ set cs r x.field.count)
     × (take from bs ++ with_contents fs x (drop from bs) ≡ placed p (room f) x.field.bytes bs)
 unfolding located
@@ -69,8 +71,8 @@ located-all [] x row from cs bs e l = let z : ◌≡◌ {A = ℕ} 0 1 = cc in ab
 located-all (f ∷ fs) x row from cs bs {r} {p} {f = g} e l =
     go (eqb f.number x.number) e (located-all fs x (row + 1) (from + room f) cs bs)
   where
-    go : (t : Bool) → cond t (Found row from f) (located fs x.number (row + 1) (from + room f)) ≡ Found r p g
-        → (located fs x.number (row + 1) (from + room f) ≡ Found r p g → row + 1 + length fs ≤ length cs
+    go : (t : Bool) → cond t (Some (found row from f)) (located fs x.number (row + 1) (from + room f)) ≡ Some (found r p g)
+        → (located fs x.number (row + 1) (from + room f) ≡ Some (found r p g) → row + 1 + length fs ≤ length cs
         → (take (row + 1) cs ++ with_count fs x (drop (row + 1) cs) ≡ set cs r x.field.count)
         × (take (from + room f) bs ++ with_contents fs x (drop (from + room f) bs) ≡ placed p (room g) x.field.bytes bs))
         → (take row cs ++ cond t (x.field.count ∷ drop 1 (drop row cs)) (get_or (drop row cs) 0 0 ∷ with_count fs x (drop 1 (drop row cs)))
@@ -79,9 +81,10 @@ located-all (f ∷ fs) x row from cs bs {r} {p} {f = g} e l =
         (take (room f) (drop from bs) ++ with_contents fs x (drop (room f) (drop from bs)))
         ≡ placed p (room g) x.field.bytes bs)
     go true e ih =
-        let a : row ≡ r = cc in
-        let b : from ≡ p = cc in
-        let c : f ≡ g = cc in
+        let s : found row from f ≡ found r p g = cc in
+        let a : row ≡ r = ap (λ (l : Located). l.row) s in
+        let b : from ≡ p = ap (λ (l : Located). l.from) s in
+        let c : f ≡ g = ap (λ (l : Located). l.form) s in
         (rw (← a, drop-drop 1 row cs, add-one) (sym (set_split cs row x.field.count (omega arith))), rw (← b, ← c))
     go false e ih =
         let z : row + 0 ≡ row = omega arith in
@@ -90,11 +93,11 @@ located-all (f ∷ fs) x row from cs bs {r} {p} {f = g} e l =
           rw (drop-drop (room f) from bs, ← append_assoc (take from bs) (take (room f) (drop from bs)) (with_contents fs x (drop (from + room f) bs)), ← take-add from (room f) bs) t.1,
         )
 
-pub left_out : (m : Message) (x : Item) → located formats x.number 0 0 ≡ Missing → m ≡ with_item x m
+pub left_out : (m : Message) (x : Item) → located formats x.number 0 0 ≡ None → m ≡ with_item x m
 unfolding with_item
 left_out m x e = rw (may_not_hold formats x 0 0 e)
 
-module _ (m : Message) (x : Item) {row from : ℕ} {f : Format} (e : located formats x.number 0 0 ≡ Found row from f) where
+module _ (m : Message) (x : Item) {row from : ℕ} {f : Format} (e : located formats x.number 0 0 ≡ Some (found row from f)) where
   pub not_held : holds f x.field ≡ false → m ≡ with_item x m
   unfolding with_item
   not_held h = rw (may_hold_lem formats x 0 0 e, h)
@@ -127,7 +130,7 @@ padded-is n b h =
         ∙ get_or-replicate (n - length b) (i - length b) 0 0 (omega arith))
 
 -- an item whose field is found and allows its count
-module _ (m : Message) (n count : ℕ) (b : List ℕ) {row from : ℕ} {f : Format} {s : Bool} (e : located formats n 0 0 ≡ Found row from f)
+module _ (m : Message) (n count : ℕ) (b : List ℕ) {row from : ℕ} {f : Format} {s : Bool} (e : located formats n 0 0 ≡ Some (found row from f))
     (q : s ≡ allowed f count) where
   pub not_allowed : s ≡ false → m ≡ with_item (item n count b) m
   not_allowed h = not_held m (item n count b) e (rw (sym q ∙ h))
@@ -139,16 +142,16 @@ module _ (m : Message) (n count : ℕ) (b : List ℕ) {row from : ℕ} {f : Form
     pub not_in_form : s ≡ true → t ≡ false → m ≡ with_item (item n count b) m
     not_in_form h z = not_held m (item n count b) e (rw (sym q ∙ h) (sym g ∙ z))
 
-    module _ {w : ℕ} (h : s ≡ true) (z : t ≡ true) (v : w ≡ room f) where
-      pub put_fits : (0 < n) × (n ≤ 64) × (row < rows) × (from + w ≤ rooms) × (length b ≤ w)
+    module _ (h : s ≡ true) (z : t ≡ true) where
+      pub put_fits : (0 < n) × (n ≤ 64) × (row < rows) × (from + room f ≤ rooms) × (length b ≤ room f)
       put_fits =
           let p = standing n e in
           let l = eqb-true (length b) (size f.class count) ((and-eq-true_iff (eqb (length b) (size f.class count)) (eqb (fault f.class count b) 0)).0 (sym g ∙ z)).0 in
           let k = size_mono f.class count f.high (allowed-bounds f count (sym q ∙ h)).1 in
-          (p.number_positive, p.number_small, p.row_below, omega (arith, p.fits), omega arith)
+          (p.number_positive, p.number_small, p.row_below, p.fits, omega arith)
 
-      pub put_item : {r : Message} → length m.counts ≡ rows → r ≡ put_at m n row from w count b → r ≡ with_item (item n count b) m
-      put_item l p = p ∙ rw v (put_held m (item n count b) e l (rw (sym q ∙ h) (sym g ∙ z)))
+      pub put_item : {r : Message} → length m.counts ≡ rows → r ≡ put_at m n row from (room f) count b → r ≡ with_item (item n count b) m
+      put_item l p = p ∙ put_held m (item n count b) e l (rw (sym q ∙ h) (sym g ∙ z))
 
 over_long : (f : Format) (n : ℕ) → f.high < n → allowed f n ≡ false
 unfolding allowed
@@ -158,9 +161,9 @@ over_long f n h = rw (lt-leb n f.high h, and-false)
 pub too_long : (m : Message) (x : Item) → 255 < x.field.count → m ≡ with_item x m
 too_long m x h = go (located formats x.number 0 0) refl
   where
-    go : (l : Place-in) → located formats x.number 0 0 ≡ l → m ≡ with_item x m
-    go (Found row from f) e = not_allowed m x.number x.field.count x.field.bytes e refl (over_long f _ (omega (arith, (standing x.number e).high_small)))
-    go Missing e = left_out m x e
+    go : (l : Option Located) → located formats x.number 0 0 ≡ l → m ≡ with_item x m
+    go (Some at) e = not_allowed m x.number x.field.count x.field.bytes e refl (over_long at.form _ (omega (arith, (standing x.number e).high_small)))
+    go None e = left_out m x e
 
 -- digits that were packed into the front of an array
 module _ (m : Message) (n : ℕ) (ds : List ℕ) where
@@ -205,7 +208,3 @@ part_filled from k b bs h p =
     let q : from + k - from ≡ k = omega arith in
     let l : length (take k (drop from bs)) ≡ k = length-take-le k (drop from bs) (rw length-drop (omega arith)) in
     rw (p, q, l)
-
--- the front of an array that was lent has come back, and is still as long
-pub front_there : (n : ℕ) (z e : List ℕ) → length e ≡ length (take n z) → n ≤ length z → n ≤ length (e ++ drop n z)
-front_there n z e q h = omega (arith, length_front z e n q)

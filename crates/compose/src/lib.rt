@@ -1,93 +1,100 @@
-// A message put together field by field: each field is put into lent contents, and the head after that is given.
+// A message put together field by field, in place.
 #![tactic(auto)]
 
-ghost use Rattle.std.specs.Prelude.{◌≡◌, cond, ◌&&◌, [], ◌+◌, ◌≤◌, ◌<◌, eqb, length, get_or, set, replicate};
+ghost use Rattle.std.specs.Prelude.{◌≡◌, cond, ◌&&◌, [], ◌+◌, ◌≤◌, ◌<◌, eqb, length};
 ghost use Rattle.digits.specs.Digits.{all_digits};
 ghost use Rattle.digits.specs.Numbers.{digits_of};
 ghost use Rattle.field.specs.Table.{rows};
-ghost use Rattle.field.specs.Contents.{size, fault};
-ghost use Rattle.message.specs.Message.{rooms, whole};
+ghost use Rattle.field.specs.Contents.{size, room, fault};
+ghost use Rattle.message.specs.Message.{rooms};
 ghost use Rattle.message.specs.Build.{digits, bytes, padded, message_of};
 ghost use Rattle.compose.specs.Compose.{with_item, with_bit};
-ghost use Rattle.compose.specs.Placed.{placed, put_at, item};
+ghost use Rattle.compose.specs.Placed.{put_at, item};
 
 use field::Format;
-use message::{Contents, Head, Located};
+use message::{Located, Message};
 
-// The bits of a byte, the top one first.
-const BITS: [u8; 8] = [128, 64, 32, 16, 8, 4, 2, 1];
-
-// The head of a type that names no field; its contents are zeros.
-pub fn typed(indicator: u16) -> Head
-    ensures { whole result (replicate rooms 0) ≡ message_of indicator [] }
+// A message of a type that names no field.
+pub fn typed(indicator: u16) -> Message
+    ensures { result ≡ message_of indicator [] }
 {
-    Head {
-        indicator: indicator,
-        bitmap: [0u8; 8],
-        counts: [0u8; field::ROWS],
+    Message {
+        indicator,
+        ..Message::new()
     }
 }
 
-// The head with field n holding these bytes.
-pub fn with_bytes(h: Head, n: u8, b: &[u8], contents: &mut Contents) -> Head
-    ensures { whole result contents.new ≡ with_item (bytes n b.now) (whole h contents.old) }
+// Puts these bytes into field n, where it may hold them.
+pub fn put_bytes(m: &mut Message, n: u8, b: &[u8])
+    ensures { m.new ≡ with_item (bytes n b.now) m.old }
 {
-    with_item(h, n, b.len(), b, contents)
+    put_item(m, n, b.len(), b);
 }
 
-// The head with field n holding these digits, one a place.
-pub fn with_digits(h: Head, n: u8, ds: &[u8], contents: &mut Contents) -> Head
-    ensures { whole result contents.new ≡ cond (all_digits ds.now) (with_item (digits n ds.now) (whole h contents.old)) (whole h contents.old) }
+// Puts these digits, one a place, into field n, where it may hold them.
+pub fn put_digits(m: &mut Message, n: u8, ds: &[u8])
+    ensures { m.new ≡ cond (all_digits ds.now) (with_item (digits n ds.now) m.old) m.old }
 {
     let count = ds.len();
-    if 255 < count {
-        return h;
+    if count > 255 {
+        return;
     }
-    let end = count / 2 + count % 2;
-    let mut packed = [0u8; 128];
+    let end = count.div_ceil(2);
+    let mut packed = [0; 128];
     if digits::pack_into(ds, &mut packed[..end]) {
-        return with_item(h, n, count, &packed[..end], contents);
+        put_item(m, n, count, &packed[..end]);
     }
-    h
 }
 
-// The head with field n holding the last digits of x, as many as said.
-pub fn with_number(h: Head, n: u8, count: u8, x: u64, contents: &mut Contents) -> Head
-    ensures { whole result contents.new ≡ with_item (digits n (digits_of count x)) (whole h contents.old) }
+// Puts the last digits of x, as many as said, into field n, where it may hold them.
+pub fn put_number(m: &mut Message, n: u8, count: u8, x: u64)
+    ensures { m.new ≡ with_item (digits n (digits_of count x)) m.old }
 {
-    let end = wide(count);
-    let mut ds = [0u8; 255];
+    let end = usize::from(count);
+    let mut ds = [0; 255];
     digits::digits_into(x, &mut ds[..end]);
-    with_digits(h, n, &ds[..end], contents)
+    put_digits(m, n, &ds[..end]);
 }
 
-fn wide(x: u8) -> usize
-    ensures { result ≡ x }
+// Puts count digits or bytes into field n, where it may hold them.
+fn put_item(m: &mut Message, n: u8, count: usize, b: &[u8])
+    ensures { m.new ≡ with_item (item n count b.now) m.old }
 {
-    x as usize
+    if let Some(at) = message::locate(n) {
+        if field::is_allowed(at.form, count) && in_form(at.form, count as u8, b) {
+            put(m, n, at, count as u8, b);
+        }
+    }
 }
 
-fn with_bit(bitmap: [u8; 8], n: u8) -> [u8; 8]
+// Whether b is n digits or bytes of a field, in form.
+fn in_form(f: Format, n: u8, b: &[u8]) -> bool
+    ensures { result ≡ (eqb (length b.now) (size f.class n) && eqb (fault f.class n b.now) 0) }
+{
+    b.len() == field::size_of(f.class, n) && field::judge(f.class, n, b).is_ok()
+}
+
+// Puts count digits or bytes into field n, which stands there.
+fn put(m: &mut Message, n: u8, at: Located, count: u8, b: &[u8])
+    requires { (0 < n) × (n ≤ 64) × (at.row < rows) × (at.from + room at.form ≤ rooms) × (length b.now ≤ room at.form) }
+    ensures counted { length m.old.counts ≡ rows }
+    ensures held { m.new ≡ put_at m.old n at.row at.from (room at.form) count b.now }
+{
+    let end = at.from + field::size_of(at.form.class, at.form.high);
+    set_bit(&mut m.bitmap, n);
+    m.counts[at.row] = count;
+    fill(b, &mut m.contents[at.from..end]);
+}
+
+// Sets the bit of field n.
+fn set_bit(bitmap: &mut [u8; 8], n: u8)
     requires { (0 < n) × (n ≤ 64) }
-    ensures { result ≡ with_bit n bitmap }
+    ensures { bitmap.new ≡ with_bit n bitmap.old }
 {
-    let mut bm = bitmap;
-    if field::named(&bm, n) {
-        return bm;
+    if !field::named(bitmap, n) {
+        let i = usize::from(n) - 1;
+        bitmap[i / 8] += 1 << (7 - i % 8);
     }
-    let i = wide(n) - 1;
-    bm[i / 8] += BITS[i % 8];
-    bm
-}
-
-// Byte i of b; zero past the end.
-fn byte_at(b: &[u8], i: usize) -> u8
-    ensures { result ≡ get_or b.now i 0 }
-{
-    if i < b.len() {
-        return b[i];
-    }
-    0
 }
 
 // Fills out with b and then zeros.
@@ -95,79 +102,7 @@ fn fill(b: &[u8], out: &mut [u8])
     requires { length b.now ≤ length out.old }
     ensures { out.new ≡ padded (length out.old) b.now }
 {
-    let mut i = 0;
-    while i < out.len() {
-        out[i] = byte_at(b, i);
-        i += 1;
-    }
-}
-
-// Fills so many bytes of out, from a place on, with b and then zeros.
-fn fill_part(b: &[u8], from: usize, room: usize, out: &mut [u8])
-    requires { (from + room ≤ length out.old) × (length b.now ≤ room) }
-    ensures { out.new ≡ placed from room b.now out.old }
-{
-    let end = from + room;
-    fill(b, &mut out[from..end]);
-}
-
-fn with_count(counts: [u8; field::ROWS], row: usize, count: u8) -> [u8; field::ROWS]
-    requires { row < rows }
-    ensures { result ≡ set counts row count }
-{
-    let mut out = counts;
-    out[row] = count;
-    out
-}
-
-// Whether b is n digits or bytes of a field, in form.
-fn in_form(f: Format, n: u8, b: &[u8]) -> bool
-    ensures { result ≡ (eqb (length b.now) (size f.class n) && eqb (fault f.class n b.now) 0) }
-{
-    let class = f.class;
-    (b.len() == field::size_of(class, n)) & (field::fault_of(class, n, b) == 0)
-}
-
-// The head with field n, which stands at a row and a place, holding count digits or bytes.
-fn put(
-    h: Head,
-    n: u8,
-    row: usize,
-    from: usize,
-    room: usize,
-    count: u8,
-    b: &[u8],
-    contents: &mut Contents,
-) -> Head
-    requires { (0 < n) × (n ≤ 64) × (row < rows) × (from + room ≤ rooms) × (length b.now ≤ room) }
-    ensures { whole result contents.new ≡ put_at (whole h contents.old) n row from room count b.now }
-{
-    let bitmap = h.bitmap;
-    let counts = h.counts;
-    fill_part(b, from, room, contents);
-    Head {
-        indicator: h.indicator,
-        bitmap: with_bit(bitmap, n),
-        counts: with_count(counts, row, count),
-    }
-}
-
-// The head with field n holding count digits or bytes.
-fn with_item(h: Head, n: u8, count: usize, b: &[u8], contents: &mut Contents) -> Head
-    ensures { whole result contents.new ≡ with_item (item n count b.now) (whole h contents.old) }
-{
-    match message::locate(n) {
-        Located::Found { row, from, form } => {
-            if field::is_allowed(form, count) {
-                let held = count as u8;
-                if in_form(form, held, b) {
-                    let class = form.class;
-                    let room = field::size_of(class, form.high);
-                    return put(h, n, row, from, room, held, b, contents);
-                }
-            }
-            h
-        }
-        Located::Missing => h,
+    for (i, x) in out.iter_mut().enumerate() {
+        *x = b.get(i).copied().unwrap_or(0);
     }
 }

@@ -2,36 +2,38 @@
 #![tactic(auto)]
 
 ghost use Rattle.std.specs.Prelude.{◌≡◌, true, length};
+ghost use Rattle.checks.specs.Refusals.{refused_by};
 ghost use Rattle.digits.specs.Digits.{is_packed};
 ghost use Rattle.field.specs.Contents.{all_printable};
 ghost use Rattle.contents.specs.Taken.{Taken};
 
+use checks::Refusal;
 use field::Class;
 
-// Copies contents b of n digits or bytes to out, where they are in form and fill it.
-// The number is what they are refused for: 6, 8, 3 where they do not fill out, or 0 for nothing.
-pub fn take(class: Class, n: u8, b: &[u8], out: &mut [u8]) -> u8
-    ensures { Taken class n b.now (length out.old) result out.new }
+// Copies contents b of n digits or bytes to out, where they are in form and fill it: else they are refused by 6 or 8, or by 3 where they
+// do not fill it.
+pub fn take(class: Class, n: u8, b: &[u8], out: &mut [u8]) -> Result<(), Refusal>
+    ensures { Taken class n b.now (length out.old) (refused_by result) out.new }
 {
     if out.len() != b.len() {
-        return 3;
+        return Err(Refusal::EndsEarly);
     }
     match class {
         Class::Digits => {
             if take_digits(n, b, out) {
-                return 0;
+                return Ok(());
             }
-            6
+            Err(Refusal::BadDigit)
         }
         Class::Printable => {
             if take_printable(b, out) {
-                return 0;
+                return Ok(());
             }
-            8
+            Err(Refusal::NotPrintable)
         }
         Class::Any => {
             digits::copy(b, out);
-            0
+            Ok(())
         }
     }
 }
@@ -45,8 +47,7 @@ fn take_digits(n: u8, b: &[u8], out: &mut [u8]) -> bool
     if b.len() != (count + 1) / 2 {
         return false;
     }
-    let mut i = 0;
-    while i < b.len() {
+    for i in 0..b.len() {
         let x = b[i];
         if 0x9F < x {
             return false;
@@ -55,7 +56,6 @@ fn take_digits(n: u8, b: &[u8], out: &mut [u8]) -> bool
             return false;
         }
         out[i] = x;
-        i += 1;
     }
     if count % 2 == 0 {
         return true;
@@ -68,8 +68,7 @@ fn take_printable(b: &[u8], out: &mut [u8]) -> bool
     requires { length out.old ≡ length b.now }
     ensures { (result ≡ all_printable b.now) × (result ≡ true → out.new ≡ b.now) }
 {
-    let mut i = 0;
-    while i < b.len() {
+    for i in 0..b.len() {
         let x = b[i];
         if x < 0x20 {
             return false;
@@ -78,7 +77,6 @@ fn take_printable(b: &[u8], out: &mut [u8]) -> bool
             return false;
         }
         out[i] = x;
-        i += 1;
     }
     true
 }

@@ -1,5 +1,5 @@
 -- Document 01, "Calls" and "Why a call is turned down": what the desk keys, and the rules of start that need no look at a journal's bytes.
-use Rattle.std.specs.Prelude.{Bool, cond, not, ◌&&◌, ◌||◌, List, [], ◌∷◌, ℕ, leb, ltb, eqb}
+use Rattle.std.specs.Prelude.{Bool, cond, not, ◌&&◌, ◌||◌, List, [], ◌∷◌, ℕ, leb, ltb, eqb, Option}
 use Rattle.approval.specs.Cards.{card_of}
 use Rattle.desk.specs.declared.Desk.{Desk}
 use Rattle.checks.specs.Checks.{Rule, rule}
@@ -7,7 +7,6 @@ use Rattle.elements.specs.Elements.{chip_in_form}
 use Rattle.entry.specs.declared.Entry.{Entry}
 use Rattle.field.specs.Contents.{all_printable}
 use Rattle.journal.specs.Journal.{nowhere}
-use Rattle.journal.specs.declared.Found.{Found}
 use Rattle.kinds.specs.Kinds.{is_kind, takes_original, keys_reference, keys_authorisation, keys_date, is_refund, sends_chip}
 use Rattle.numbers.specs.Limits.{most_requests}
 use Rattle.numbers.specs.Numbers.{within, is_amount}
@@ -67,7 +66,7 @@ desk_rules d refund =
     ∷ []
 
 -- rules 18 to 21: what the journal has left, by its totals, the place of the original and the original
-abbrev pub journal_rules : Desk → State → Totals → Found → Entry → List Rule
+abbrev pub journal_rules : Desk → State → Totals → Option ℕ → Entry → List Rule
 journal_rules d s totals place e =
     rule 18 (leb s.settings.limit s.entries || leb most_requests s.counts.sent)
     ∷ rule 19 (takes_original d.kind && nowhere place)

@@ -33,10 +33,10 @@ field_lines [] bm cs bs = []
 field_lines (f ∷ fs) bm cs bs = named_line f bm (get_or cs 0 0) bs ++ field_lines fs bm (drop 1 cs) (drop (room f) bs)
 
 -- the four digits of a type
-unfoldable pub type_line : ℕ → List ℕ
+abbrev pub type_line : ℕ → List ℕ
 type_line i = text "type " ++ to_hex (i / 256 ∷ i % 256 ∷ []) ++ feed
 
-unfoldable pub end_line : ℕ → List ℕ
+abbrev pub end_line : ℕ → List ℕ
 end_line n = text "end " ++ decimal n ++ feed
 
 -- a message of n bytes

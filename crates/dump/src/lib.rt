@@ -1,6 +1,6 @@
 // Fields and messages as text. Each function adds to a text of `at` bytes in out, as far as out has room, and gives the new
 // number of bytes.
-#![tactic(auto)]
+#![tactic(auto, unfolding(templates::specs::Template::filled, templates::specs::Template::meant, templates::specs::Template::taken))]
 
 ghost use Rattle.std.specs.Prelude.{◌++◌};
 ghost use Rattle.field.specs.Table.{formats};
@@ -8,17 +8,14 @@ ghost use Rattle.texts.specs.Text.{text, Adds};
 ghost use Rattle.dump.specs.Shown.{contents_text, field_line, named_line, field_lines, type_line, end_line, message_text};
 
 use field::{Class, Format};
-use message::{Contents, Message};
+use message::Message;
 
 // Adds a message of n bytes.
-pub fn add_message(m: Message, n: u64, at: usize, out: &mut [u8]) -> usize
-    ensures { Adds (message_text m n) at out.old result out.new }
+pub fn add_message(m: &Message, n: u64, at: usize, out: &mut [u8]) -> usize
+    ensures { Adds (message_text m.now n) at out.old result out.new }
 {
-    let bitmap = m.bitmap;
-    let counts = m.counts;
-    let contents = m.contents;
     let mut end = add_type(m.indicator, at, out);
-    end = add_lines(bitmap, counts, contents, end, out);
+    end = add_lines(m, end, out);
     add_end(n, end, out)
 }
 
@@ -42,41 +39,37 @@ fn add_quoted(b: &[u8], at: usize, out: &mut [u8]) -> usize
 fn add_line(f: Format, n: u8, b: &[u8], at: usize, out: &mut [u8]) -> usize
     ensures { Adds (field_line f n b.now) at out.old result out.new }
 {
-    let class = f.class;
-    let mut end = templates::add_filled(b"# ", &[f.number as u64], b"", at, out);
-    end = add_contents(class, f.number == 2, n, b, end, out);
+    let mut end = templates::add_filled(b"# ", &[u64::from(f.number)], b"", at, out);
+    end = add_contents(f.class, f.number == 2, n, b, end, out);
     texts::add(b"\n", end, out)
 }
 
-fn add_named(f: Format, bitmap: [u8; 8], n: u8, bs: &[u8], at: usize, out: &mut [u8]) -> usize
-    ensures { Adds (named_line f bitmap n bs.now) at out.old result out.new }
+#[tactic(auto, using(texts::proofs::Texts::nothing), unfolding(crate::specs::Shown::named_line))]
+fn add_named(f: Format, bitmap: &[u8; 8], n: u8, b: &[u8], at: usize, out: &mut [u8]) -> usize
+    ensures { Adds (named_line f bitmap.now n b.now) at out.old result out.new }
 {
-    if field::named(&bitmap, f.number) {
-        let class = f.class;
-        return add_line(f, n, texts::front(bs, field::size_of(class, n)), at, out);
+    if !field::named(bitmap, f.number) {
+        return at;
     }
-    at
+    add_line(f, n, texts::front(b, field::size_of(f.class, n)), at, out)
 }
 
-fn add_lines(
-    bitmap: [u8; 8],
-    counts: [u8; field::ROWS],
-    contents: Contents,
-    at: usize,
-    out: &mut [u8],
-) -> usize
-    ensures { Adds (field_lines formats bitmap counts contents) at out.old result out.new }
+fn add_lines(m: &Message, at: usize, out: &mut [u8]) -> usize
+    ensures { Adds (field_lines formats m.now.bitmap m.now.counts m.now.contents) at out.old result out.new }
 {
     let table = field::table();
+    let places = field::places();
     let mut end = at;
-    let mut from = 0;
-    let mut k = 0;
-    while k < field::ROWS {
-        let f = table[k];
-        let class = f.class;
-        end = add_named(f, bitmap, counts[k], &contents[from..], end, out);
-        from += field::size_of(class, f.high);
-        k += 1;
+    for k in 0..field::ROWS {
+        let from = usize::from(places[k]);
+        end = add_named(
+            table[k],
+            &m.bitmap,
+            m.counts[k],
+            &m.contents[from..],
+            end,
+            out,
+        );
     }
     end
 }
@@ -84,8 +77,7 @@ fn add_lines(
 fn add_type(indicator: u16, at: usize, out: &mut [u8]) -> usize
     ensures { Adds (type_line indicator) at out.old result out.new }
 {
-    let digits = [(indicator / 256) as u8, (indicator % 256) as u8];
-    templates::add_filled(b"type @\n", &[], &digits, at, out)
+    templates::add_filled(b"type @\n", &[], &indicator.to_be_bytes(), at, out)
 }
 
 fn add_end(n: u64, at: usize, out: &mut [u8]) -> usize

@@ -1,4 +1,5 @@
 -- What is proved of the echo of a line.
+use Rattle.std.specs.Prelude.{Some, None}
 use mathlib.Core.Path.{◌≡◌, refl, sym, ◌∙◌}
 use mathlib.Core.List.{List, [], ◌∷◌, ◌++◌, append_assoc, append-nil}
 use mathlib.Core.Bool.{Bool, true, false, cond, ◌&&◌, true≢false, and-eq-true_iff}
@@ -12,7 +13,6 @@ use lib.Seq.{length-take-le, get_or-take, get_or-drop, get_or-append-add}
 use Rattle.digits.specs.Lists.{tabulate}
 use Rattle.digits.specs.Digits.{half, pack, all_digits}
 use Rattle.digits.specs.Numbers.{value, number_of}
-use Rattle.digits.specs.declared.Number.TheVariants.{Is, Not}
 use Rattle.digits.proofs.Lists.{length-tabulate, get_d_tabulate, tabulate_get_d}
 use Rattle.digits.proofs.Packing.{digit_at, half-pack}
 use Rattle.masking.specs.Masking.{symbol, digits_text}
@@ -71,10 +71,10 @@ tabulate_ext (suc n) f g h = rw (tabulate_ext n f g (λ i l. h i (omega arith)),
 abbrev digits_in : List ℕ → List ℕ
 digits_in w = tabulate (length w) (λ i. digit_of (get_or w i 0))
 
-said-digits : (a b : Bool) (ds : List ℕ) → is_number (cond a (cond (b && all_digits ds) (Is (value ds)) Not) Not) ≡ true → all_digits ds ≡ true
+said-digits : (a b : Bool) (ds : List ℕ) → is_number (cond a (cond (b && all_digits ds) (Some (value ds)) None) None) ≡ true → all_digits ds ≡ true
 said-digits true true ds e = go (all_digits ds) e
   where
-    go : (c : Bool) → is_number (cond c (Is (value ds)) Not) ≡ true → c ≡ true
+    go : (c : Bool) → is_number (cond c (Some (value ds)) None) ≡ true → c ≡ true
     go true e = refl
     go false e = e
 said-digits true false ds e = absurd (true≢false (sym e))

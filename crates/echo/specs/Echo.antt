@@ -1,13 +1,11 @@
 -- A line of a script as it is echoed, its card numbers masked.
-use Rattle.std.specs.Prelude.{List, [], ◌∷◌, ◌++◌, Bool, true, false, cond, ◌&&◌, ℕ, ◌+◌, ◌-◌, leb, eqb, length, get_or, take, drop, replicate}
-use Rattle.digits.specs.declared.Number.{Number}
-use Rattle.digits.specs.declared.Number.TheVariants.{Is, Not}
+use Rattle.std.specs.Prelude.{List, [], ◌∷◌, ◌++◌, Bool, true, false, cond, ◌&&◌, ℕ, ◌+◌, ◌-◌, leb, eqb, length, get_or, take, drop, replicate, Some, None, Option}
 use Rattle.texts.specs.Text.{text, space, feed}
 use Rattle.word_values.specs.Values.{number_in}
 
-abbrev pub is_number : Number → Bool
-is_number (Is x) = true
-is_number Not = false
+abbrev pub is_number : Option ℕ → Bool
+is_number (Some x) = true
+is_number None = false
 
 -- a word is 13 to 19 digits
 unfoldable pub is_card_number : List ℕ → Bool

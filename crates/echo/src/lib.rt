@@ -4,9 +4,7 @@
 
 ghost use Rattle.std.specs.Prelude.{◌≡◌, ◌≤◌, ◌<◌, length};
 ghost use Rattle.texts.specs.Text.{Adds};
-ghost use Rattle.echo.specs.Echo.{is_number, is_card_number, masked, shown_word, shown_line, ended_word, start_after, echo_line};
-
-use digits::Number;
+ghost use Rattle.echo.specs.Echo.{is_card_number, masked, shown_word, shown_line, ended_word, start_after, echo_line};
 
 // Adds the line s after `> `, and a line feed.
 pub fn add_echo(s: &[u8], n: usize, out: &mut [u8]) -> usize
@@ -23,16 +21,15 @@ fn add_words(s: &[u8], n: usize, out: &mut [u8]) -> usize
 {
     let mut at = n;
     let mut from = 0;
-    let mut i = 0;
-    while i < s.len() {
+    for i in 0..s.len() {
         at = add_ended(s, from, i, at, out);
         from = start_after(s, from, i);
-        i += 1;
     }
     add_word(&s[from..], at, out)
 }
 
 // Adds the word that begins at `from`, and a space, where byte i is the space that ends it.
+#[tactic(auto, unfolding(crate::specs::Echo::ended_word))]
 fn add_ended(s: &[u8], from: usize, i: usize, n: usize, out: &mut [u8]) -> usize
     requires { (from ≤ i) × (i < length s.now) }
     ensures { Adds (ended_word s.now from i) n out.old result out.new }
@@ -45,16 +42,15 @@ fn add_ended(s: &[u8], from: usize, i: usize, n: usize, out: &mut [u8]) -> usize
 }
 
 // Where the word begins that byte i belongs to, or the next where byte i is a space.
+#[tactic(auto, unfolding(crate::specs::Echo::start_after))]
 fn start_after(s: &[u8], from: usize, i: usize) -> usize
     requires { i < length s.now }
     ensures { result ≡ start_after s.now from i }
 {
-    if s[i] != b' ' {
-        return from;
-    }
-    i + 1
+    if s[i] == b' ' { i + 1 } else { from }
 }
 
+#[tactic(auto, using(crate::proofs::Lines::card_length), unfolding(crate::specs::Echo::shown_word))]
 fn add_word(w: &[u8], n: usize, out: &mut [u8]) -> usize
     ensures { Adds (shown_word w.now) n out.old result out.new }
 {
@@ -71,24 +67,15 @@ fn add_masked(w: &[u8], n: usize, out: &mut [u8]) -> usize
 {
     let hidden = w.len() - 10;
     let last = w.len() - 4;
-    let stars = [b'*'; 9];
     let at = texts::add(&w[..6], n, out);
-    let next = texts::add(&stars[..hidden], at, out);
+    let next = texts::add(&[b'*'; 9][..hidden], at, out);
     texts::add(&w[last..], next, out)
 }
 
 // Whether a word is 13 to 19 digits.
+#[tactic(auto, unfolding(crate::specs::Echo::is_card_number))]
 fn is_card_number(w: &[u8]) -> bool
     ensures { result ≡ is_card_number w.now }
 {
-    (13 <= w.len()) & (w.len() <= 19) & is_number(word_values::decimal_in(19, w))
-}
-
-fn is_number(x: Number) -> bool
-    ensures { result ≡ is_number x }
-{
-    match x {
-        Number::Is(_) => true,
-        Number::Not => false,
-    }
+    (13..=19).contains(&w.len()) && word_values::decimal_in(19, w).is_some()
 }

@@ -1,12 +1,10 @@
 -- Document 01, "Calls": what silence, an answer and a resend leave of state and journal.
-use Rattle.std.specs.Prelude.{Bool, cond, List, ℕ, ◌+◌, eqb, leb}
+use Rattle.std.specs.Prelude.{Bool, cond, List, ℕ, ◌+◌, eqb, leb, Some, None, Option}
 use Rattle.answer_match.specs.Match.{approves, approves_request, good_mac}
 use Rattle.approval.specs.Approval.{approval_of, approved_entry}
 use Rattle.entry.specs.Entry.{resends_offset, voided_offset, mark_offset}
 use Rattle.entry.specs.declared.Entry.{Entry}
 use Rattle.journal.specs.Journal.{entries_of, entry_at, set_byte, original_for, put_entry}
-use Rattle.journal.specs.declared.Found.{Found}
-use Rattle.journal.specs.declared.Found.TheVariants.{At, Nowhere}
 use Rattle.kinds.specs.Kinds.{takes_original}
 use Rattle.message.specs.declared.Message.{Message}
 use Rattle.state.specs.State.{has_chip, approved_by, approval_in, in_phase, with_chip, signs_on}
@@ -57,9 +55,9 @@ unfoldable pub unanswered : State → List ℕ → Changed
 unanswered s j = cond (signs_on s) (changed (sign_on_ended s) j) (silent_in s.phase s j)
 
 -- a 21 or 23 marks its original voided, an 11 marks nothing
-abbrev pub voided_at : Found → List ℕ → List ℕ
-voided_at (At i) j = set_byte i voided_offset 1 j
-voided_at Nowhere j = j
+abbrev pub voided_at : Option ℕ → List ℕ → List ℕ
+voided_at (Some i) j = set_byte i voided_offset 1 j
+voided_at None j = j
 
 unfoldable pub original_voided : Request → List Entry → List ℕ → List ℕ
 original_voided q es j =

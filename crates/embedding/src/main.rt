@@ -43,15 +43,12 @@ fn opened(journal: &mut [u8], message: &mut [u8]) -> Terminal {
 // Sends the pending reversal, and waits in vain, until it has ended.
 fn reverse(t: Terminal, journal: &mut [u8], message: &mut [u8]) {
     let mut terminal = t;
-    let mut left = Terminal::MOST_SENDINGS;
-    while left > 0 {
-        let state = terminal.state;
-        if !state.is_pending() {
+    for _ in 0..Terminal::MOST_SENDINGS {
+        if !terminal.state.is_pending() {
             break;
         }
         let sent = send_reversal(terminal, journal, message);
         terminal = fall_silent(sent, journal, message);
-        left -= 1;
     }
 }
 
@@ -64,7 +61,7 @@ fn sign_on(t: Terminal, journal: &mut [u8], message: &mut [u8]) -> Terminal {
 fn hear(t: Terminal, journal: &mut [u8], message: &mut [u8]) -> Terminal {
     let text = ANSWER;
     let mut answer = [0u8; 72];
-    hexadecimal::hex_into(&text, &mut answer);
+    let _ = hexadecimal::hex_into(&text, &mut answer);
     let step = t.answer(&answer, true, journal, message);
     told(b"answer: ", step, message)
 }
@@ -111,8 +108,8 @@ fn sale() -> Desk {
         original: Trace(0),
         month: 0,
         day: 0,
-        authorisation: [0u8; 6],
-        reference: [0u8; 12],
+        authorisation: [0; 6],
+        reference: [0; 12],
         chip: false,
     }
 }

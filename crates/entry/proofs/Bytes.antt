@@ -1,17 +1,17 @@
 -- Laws of an entry's bytes: parts of them, and bytes written one part after the other.
 use mathlib.Core.Path.{◌≡◌, refl, ap, sym, ◌∙◌}
-use mathlib.Core.List.{List, [], ◌∷◌, ◌++◌, append_assoc, append-nil}
+use mathlib.Core.List.{List, [], ◌∷◌, ◌++◌, append_assoc}
 use Prim.Native.Nat.{ℕ, ◌+◌, ◌*◌, ◌-◌, ◌≤◌, ◌<◌}
 use native.Mathlib.Omega.{arith}
-use lib.ListN.{length, get_or, take, drop, replicate, length-append, length-drop, drop_of_length-le}
-use lib.Seq.{take-length, take_all, take_at, drop-drop, length-take-le}
+use lib.ListN.{length, take, drop, set, length-set, length-append, length-drop}
+use native.Mathlib.Numerals.{add-one}
+use lib.Seq.{take-suc-set, take_all, take_at, drop-drop, length-take-le}
 use Rattle.digits.specs.Digits.{pack}
 use Rattle.digits.specs.Numbers.{digits_of}
 use Rattle.digits.specs.Packed.{packed_number}
 use Rattle.digits.proofs.Packed.{number-below, length-number}
-use Rattle.numbers.specs.declared.Trace.{Trace}
 use Rattle.entry.specs.declared.Entry.{Entry}
-use Rattle.entry.specs.Entry.{part, decode, encode, entry_size}
+use Rattle.entry.specs.Entry.{part, encode, entry_size}
 use Rattle.entry.specs.Theorems.{Shaped}
 
 pub length_part : (at k : ℕ) (s : List ℕ) → at + k ≤ length s → length (part at k s) ≡ k
@@ -22,52 +22,11 @@ pub part-number : (at k : ℕ) (s : List ℕ) → at + k ≤ length s
     → packed_number (2 * length (part at k s)) (part at k s) ≡ packed_number (2 * k) (part at k s)
 part-number at k s h = rw (length_part at k s h)
 
-pub amount-number : (s : List ℕ) → length s ≡ entry_size
-    → packed_number (2 * length (part 7 6 s)) (part 7 6 s) ≡ packed_number 12 (part 7 6 s)
-amount-number s l = part-number 7 6 s (omega arith)
-
 pub trace-small : (s : List ℕ) → packed_number 6 (part 4 3 s) < 1000000
 trace-small s = number-below 6 (part 4 3 s)
 
 pub amount_small : (s : List ℕ) → packed_number 12 (part 7 6 s) < 1000000000000
 amount_small s = number-below 12 (part 7 6 s)
-
--- the values that are read or copied one by one
-pub decode-copied : (s : List ℕ) {t : Trace} {a : ℕ} {card date authorisation reference reserved : List ℕ} → length s ≡ entry_size
-    → t ≡ record { 0 = packed_number 6 (part 4 3 s) } → a ≡ packed_number (2 * length (part 7 6 s)) (part 7 6 s)
-    → card ≡ part 14 10 s
-    → date ≡ part 24 2 s
-    → authorisation ≡ part 26 6 s
-    → reference ≡ part 32 12 s
-    → reserved ≡ part 44 4 s
-    → ◌≡◌ {A = Entry}
-    (record {
-      kind = get_or s 0 0;
-      voided = get_or s 1 0;
-      mark = get_or s 2 0;
-      resends = get_or s 3 0;
-      trace = t;
-      amount = a;
-      digits = get_or s 13 0;
-      card = card;
-      date = date;
-      authorisation = authorisation;
-      reference = reference;
-      reserved = reserved;
-    })
-    (decode s)
-unfolding decode
-decode-copied s l p q r u v w x =
-    rw (
-      p,
-      q,
-      amount-number s l,
-      r,
-      u,
-      v,
-      w,
-      x,
-    )
 
 -- a part written into a buffer
 pub put_is : (at : ℕ) (s out : List ℕ) {e : List ℕ} → at + length s ≤ length out
@@ -82,9 +41,6 @@ pub record Begun (done : List ℕ) (at : ℕ) (b : List ℕ) : Type 0 where
   pub count : length done ≡ at
   pub front : take at b ≡ done
 
-pub begun-none : (b : List ℕ) → Begun [] 0 b
-begun-none b = record { count = refl; front = refl }
-
 pub begun_more : {done : List ℕ} {at : ℕ} {b c : List ℕ} (n : ℕ) (s : List ℕ) → Begun done at b → length s ≡ n
     → c ≡ take at b ++ (s ++ drop (at + length s) b) → Begun (done ++ s) (at + n) c
 begun_more {done} {at} {b} {c} n s r l e =
@@ -97,61 +53,61 @@ begun_more {done} {at} {b} {c} n s r l e =
 pub begun-done : {done : List ℕ} {at : ℕ} {b : List ℕ} → Begun done at b → length b ≤ at → b ≡ done
 begun-done {at = at} {b} r h = sym (take_all at b h) ∙ r.front
 
--- the bytes before the card
-abbrev pub head : Entry → List ℕ
-head e =
-    (e.kind ∷ e.voided ∷ e.mark ∷ e.resends ∷ [])
-    ++ (pack (digits_of 6 e.trace.0) ++ (pack (digits_of 12 e.amount) ++ (e.digits ∷ [])))
+-- 48 bytes whose front is written
+pub record Written (done : List ℕ) (at : ℕ) (b : List ℕ) : Type 0 where
+  pub whole : length b ≡ entry_size
+  pub front : take at b ≡ done
 
-three : (n l : List ℕ) → length n ≡ 3 → get_or n 0 0 ∷ get_or n 1 0 ∷ get_or n 2 0 ∷ l ≡ n ++ l
-three [] l h = absurd (omega arith)
-three (x ∷ []) l h = absurd (omega arith)
-three (x ∷ y ∷ []) l h = absurd (omega arith)
-three (x ∷ y ∷ z ∷ []) l h = refl
-three (x ∷ y ∷ z ∷ w ∷ n) l h = absurd (omega arith)
+-- k bytes in the place of those from an offset on
+abbrev pub put : ℕ → ℕ → List ℕ → List ℕ → List ℕ
+put at k b s = take at b ++ (s ++ drop k (drop at b))
 
-six : (n l : List ℕ) → length n ≡ 6
-    → get_or n 0 0 ∷ get_or n 1 0 ∷ get_or n 2 0 ∷ get_or n 3 0 ∷ get_or n 4 0 ∷ get_or n 5 0 ∷ l ≡ n ++ l
-six [] l h = absurd (omega arith)
-six (x ∷ []) l h = absurd (omega arith)
-six (x ∷ y ∷ []) l h = absurd (omega arith)
-six (x ∷ y ∷ z ∷ n) l h = ap (λ (k : List ℕ). x ∷ y ∷ z ∷ k) (three n l (omega arith))
+module _ {done : List ℕ} {at : ℕ} {b : List ℕ} (r : Written done at b) where
+  written_byte : (x : ℕ) → at < entry_size → Written (done ++ (x ∷ [])) (at + 1) (set b at x)
+  written_byte x h =
+      let l : at < length b = omega (arith, r.whole) in
+      record { whole = length-set b at x ∙ r.whole; front = rw (add-one at) (take-suc-set b at x l ∙ rw r.front) }
 
-pub head-is : (e : Entry) {n a : List ℕ} → n ≡ pack (digits_of 6 e.trace.0) → a ≡ pack (digits_of 12 e.amount)
-    → e.kind ∷ e.voided ∷ e.mark ∷ e.resends ∷ get_or n 0 0 ∷ get_or n 1 0 ∷ get_or n 2 0 ∷ get_or a 0 0 ∷ get_or a 1 0 ∷ get_or a 2 0 ∷ get_or a 3 0
-    ∷ get_or a 4 0 ∷ get_or a 5 0 ∷ e.digits ∷ []
-    ≡ head e
-head-is e {n} {a} p q =
-    let l₂ : length n ≡ 3 = rw p (length-number 6 e.trace.0) in
-    let l₃ : length a ≡ 6 = rw q (length-number 12 e.amount) in
-    rw (← p, ← q)
-    (ap (λ (k : List ℕ). e.kind ∷ e.voided ∷ e.mark ∷ e.resends ∷ k)
-    (three n _ l₂ ∙ ap (λ (k : List ℕ). n ++ k) (six a (e.digits ∷ []) l₃)))
+  written-part : {s : List ℕ} (t : List ℕ) (k : ℕ) → s ≡ t → length t ≡ k → at + k ≤ entry_size → Written (done ++ t) (at + k) (put at k b s)
+  written-part t k e l h =
+      let m : length (take at b) ≡ at = length-take-le at b (omega (arith, r.whole)) in
+      let n : length (take at b ++ t) ≡ at + k = length-append (take at b) t ∙ rw (m, l) in
+      rw e
+      (record {
+        whole = simp (length-append, length-drop) (omega (arith, r.whole));
+        front =
+            ap (take (at + k)) (sym (append_assoc (take at b) t (drop k (drop at b))))
+            ∙ take_at (take at b ++ t) (drop k (drop at b)) (at + k) n
+            ∙ rw r.front;
+      })
 
-length-head : (e : Entry) → length (head e) ≡ 14
-length-head e =
-    let l₂ = length-number 6 e.trace.0 in
-    let l₃ = length-number 12 e.amount in
-    simp length-append (omega arith)
+-- the four bytes before the numbers
+abbrev pub four : Entry → List ℕ → List ℕ
+four e b = set (set (set (set b 0 e.kind) 1 e.voided) 2 e.mark) 3 e.resends
 
 regroup : (x n a d c t u r z : List ℕ)
-    → ((((((x ++ (n ++ (a ++ d))) ++ c) ++ t) ++ u) ++ r) ++ z) ≡ x ++ (n ++ (a ++ (d ++ (c ++ (t ++ (u ++ (r ++ z)))))))
+    → ((((((((x ++ n) ++ a) ++ d) ++ c) ++ t) ++ u) ++ r) ++ z) ≡ x ++ (n ++ (a ++ (d ++ (c ++ (t ++ (u ++ (r ++ z)))))))
 regroup x n a d c t u r z = simp append_assoc
 
--- an entry's parts, written one after the other
-pub written : (e : Entry) (b : List ℕ) {h b₁ b₂ b₃ b₄ b₅ b₆ : List ℕ} → Shaped e → h ≡ head e
-    → b₁ ≡ take 0 b ++ (h ++ drop (0 + length h) b)
-    → b₂ ≡ take 14 b₁ ++ (e.card ++ drop (14 + length e.card) b₁)
-    → b₃ ≡ take 24 b₂ ++ (e.date ++ drop (24 + length e.date) b₂)
-    → b₄ ≡ take 26 b₃ ++ (e.authorisation ++ drop (26 + length e.authorisation) b₃)
-    → b₅ ≡ take 32 b₄ ++ (e.reference ++ drop (32 + length e.reference) b₄)
-    → b₆ ≡ take 44 b₅ ++ (e.reserved ++ drop (44 + length e.reserved) b₅)
-    → length b₆ ≡ entry_size → b₆ ≡ encode e
+-- an entry's values, written one after the other
+pub written : (e : Entry) (b : List ℕ) {t : ℕ} {n a c d u r z : List ℕ} → length b ≡ entry_size → Shaped e → t ≡ e.trace.0
+    → n ≡ pack (digits_of (2 * length (part 4 3 (four e b))) t)
+    → a ≡ pack (digits_of (2 * length (part 7 6 (put 4 3 (four e b) n))) e.amount)
+    → c ≡ e.card → d ≡ e.date → u ≡ e.authorisation → r ≡ e.reference → z ≡ e.reserved
+    → put 44 4 (put 32 12 (put 26 6 (put 24 2 (put 14 10 (set (put 7 6 (put 4 3 (four e b) n) a) 13 e.digits) c) d) u) r) z ≡ encode e
 unfolding encode
-written e b {h} s p e₁ e₂ e₃ e₄ e₅ e₆ l =
-    let r₁ = begun_more 14 h (begun-none b) (ap length p ∙ length-head e) e₁ in
-    let r₃ = begun_more 2 e.date (begun_more 10 e.card r₁ s.card_length e₂) s.date_length e₃ in
-    let r₅ = begun_more 12 e.reference (begun_more 6 e.authorisation r₃ s.authorisation_length e₄) s.reference_length e₅ in
-    begun-done (begun_more 4 e.reserved r₅ s.reserved_length e₆) (omega arith)
-    ∙ rw p (regroup (e.kind ∷ e.voided ∷ e.mark ∷ e.resends ∷ []) (pack (digits_of 6 e.trace.0)) (pack (digits_of 12 e.amount))
-    (e.digits ∷ []) e.card e.date e.authorisation e.reference e.reserved)
+written e b {n = n} l s q p₁ p₂ p₃ p₄ p₅ p₆ p₇ =
+    let none : Written [] 0 b = record { whole = l; front = refl } in
+    let voided = written_byte (written_byte none e.kind (omega arith)) e.voided (omega arith) in
+    let resends = written_byte (written_byte voided e.mark (omega arith)) e.resends (omega arith) in
+    let k₁ = length_part 4 3 (four e b) (omega (arith, resends.whole)) in
+    let trace = written-part resends (pack (digits_of 6 e.trace.0)) 3 (p₁ ∙ rw (k₁, q)) (length-number 6 e.trace.0) (omega arith) in
+    let k₂ = length_part 7 6 (put 4 3 (four e b) n) (omega (arith, trace.whole)) in
+    let amount = written-part trace (pack (digits_of 12 e.amount)) 6 (p₂ ∙ rw k₂) (length-number 12 e.amount) (omega arith) in
+    let card = written-part (written_byte amount e.digits (omega arith)) e.card 10 p₃ s.card_length (omega arith) in
+    let texts = written-part (written-part card e.date 2 p₄ s.date_length (omega arith)) e.authorisation 6 p₅ s.authorisation_length (omega arith) in
+    let all = written-part (written-part texts e.reference 12 p₆ s.reference_length (omega arith)) e.reserved 4 p₇ s.reserved_length (omega arith) in
+    sym (take_all entry_size _ (omega (arith, all.whole)))
+    ∙ all.front
+    ∙ regroup (e.kind ∷ e.voided ∷ e.mark ∷ e.resends ∷ []) (pack (digits_of 6 e.trace.0)) (pack (digits_of 12 e.amount))
+    (e.digits ∷ []) e.card e.date e.authorisation e.reference e.reserved

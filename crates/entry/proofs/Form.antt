@@ -1,10 +1,16 @@
 -- Laws of an entry's form.
-use mathlib.Core.Path.{◌≡◌}
+use Rattle.std.specs.List.{list_all}
+use Rattle.std.proofs.lemmas.List.Folds.{list_all_more}
+use mathlib.Core.Path.{◌≡◌, refl, ◌∙◌}
 use mathlib.Core.List.{List}
 use mathlib.Core.Bool.{Bool, true, and-eq-true_iff}
-use Prim.Native.Nat.{ℕ, ◌≤◌}
+use Prim.Native.Nat.{ℕ, zero, suc, ◌≤◌}
+use native.Mathlib.Numerals.{add-one}
+use native.Mathlib.Omega.{arith}
 use lib.Dec.{eqb}
-use lib.ListN.{get_or}
+use lib.ListN.{length, get_or, take}
+use lib.Seq.{take_all}
+use Rattle.digits.specs.Lists.{all}
 use borrow.Author.Tests.{leb-true}
 use Rattle.numbers.specs.Limits.{largest_amount, last_number}
 use Rattle.numbers.proofs.Bounds.{within-bounds}
@@ -18,6 +24,14 @@ use Rattle.entry.specs.Form.{card_in_form, in_form}
 -- place i holds a zero
 abbrev pub is_nought : List ℕ → ℕ → Bool
 is_nought b i = eqb (get_or b i 0) 0
+
+-- a test of each byte, one after the other and by their places
+each_front : (p : ℕ → Bool) (b : List ℕ) (i : ℕ) → i ≤ length b → list_all p (take i b) ≡ all i (λ k. p (get_or b k 0))
+each_front p b zero h = refl
+each_front p b (suc i) h = rw (add-one i) at (list_all_more p b i 0 (omega arith)) ∙ rw (each_front p b i (omega arith))
+
+pub each_byte : (p : ℕ → Bool) (b : List ℕ) → list_all p b ≡ all (length b) (λ k. p (get_or b k 0))
+each_byte p b = rw (take_all (length b) b (omega arith)) at (each_front p b (length b) (omega arith))
 
 -- the digits of a card in form
 pub card-bounds : (n : ℕ) (card : List ℕ) → card_in_form n card ≡ true → (13 ≤ n) × (n ≤ 19)

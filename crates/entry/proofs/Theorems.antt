@@ -12,7 +12,7 @@ use Rattle.digits.proofs.Packed.{packed_number_lem, number_packs, number-form, l
 use Rattle.entry.specs.declared.Entry.{Entry}
 use Rattle.entry.specs.Entry.{part, decode, encode, entry_size}
 use Rattle.entry.specs.Theorems.{Shaped, WrittenReadsBack, ReadWritesBack}
-use Rattle.entry.proofs.Bytes.{length_part, amount_small, trace-small}
+use Rattle.entry.proofs.Bytes.{length_part, amount_small}
 use Rattle.entry.proofs.Form.{in_form_lem}
 
 -- parts past the first list, and the first list itself
@@ -158,10 +158,6 @@ read-writes_back b l s f =
 pub decode-amount : (b : List ℕ) → (decode b).amount < 1000000000000
 unfolding decode
 decode-amount b = amount_small b
-
-pub decode-trace : (b : List ℕ) → (decode b).trace.0 < 1000000
-unfolding decode
-decode-trace b = trace-small b
 
 pub decode-shaped : (b : List ℕ) → length b ≡ entry_size → Shaped (decode b)
 unfolding decode

@@ -1,12 +1,9 @@
 // An entry of the journal: its bytes and its values (document 01, "State and journal").
 #![tactic(auto)]
 
-ghost use Rattle.std.specs.Prelude.{◌≡◌, [], ◌∷◌, ◌++◌, ◌+◌, ◌≤◌, length, take, drop};
-ghost use Rattle.digits.specs.Digits.{pack};
-ghost use Rattle.digits.specs.Numbers.{digits_of};
-ghost use Rattle.digits.specs.Packed.{packed_number};
+ghost use Rattle.std.specs.Prelude.{◌≡◌, ◌+◌, ◌≤◌, length};
 ghost use Rattle.field.specs.Contents.{all_printable};
-ghost use Rattle.entry.specs.Entry.{decode, encode, part, all_zero, blank, entry_size, trace_offset};
+ghost use Rattle.entry.specs.Entry.{decode, encode, part, all_zero, blank, entry_size};
 ghost use Rattle.entry.specs.Form.{card_in_form, in_form, fits};
 
 use numbers::Trace;
@@ -55,67 +52,59 @@ impl Entry {
 }
 
 // The values that 48 bytes hold.
+#[tactic(auto, unfolding(crate::specs::Entry::decode))]
 pub fn entry_of(b: &[u8; Entry::SIZE]) -> Entry
     ensures { result ≡ decode b.now }
 {
-    let s: &[u8] = b;
-    let mut card = [0u8; 10];
-    let mut date = [0u8; 2];
-    let mut authorisation = [0u8; 6];
-    let mut reference = [0u8; 12];
-    let mut reserved = [0u8; 4];
-    digits::copy(&s[14..24], &mut card);
-    digits::copy(&s[24..26], &mut date);
-    digits::copy(&s[26..32], &mut authorisation);
-    digits::copy(&s[32..44], &mut reference);
-    digits::copy(&s[44..48], &mut reserved);
-    let trace = trace_in(s);
     Entry {
-        kind: s[0],
-        voided: s[1],
-        mark: s[2],
-        resends: s[3],
-        trace: trace,
-        amount: digits::packed_number(&s[Entry::AMOUNT..13]),
-        digits: s[13],
-        card: card,
-        date: date,
-        authorisation: authorisation,
-        reference: reference,
-        reserved: reserved,
+        kind: b[0],
+        voided: b[1],
+        mark: b[2],
+        resends: b[3],
+        trace: trace_of(b),
+        amount: amount_of(b),
+        digits: b[13],
+        card: part(b, 14),
+        date: part(b, 24),
+        authorisation: part(b, 26),
+        reference: part(b, 32),
+        reserved: part(b, 44),
     }
+}
+
+// The trace and the amount that they hold.
+#[tactic(auto, unfolding(crate::specs::Entry::decode))]
+pub fn trace_of(b: &[u8; Entry::SIZE]) -> Trace
+    ensures { result ≡ (decode b.now).trace }
+{
+    Trace(digits::packed_number(&b[Entry::TRACE..Entry::AMOUNT]) as u32)
+}
+
+#[tactic(auto, unfolding(crate::specs::Entry::decode))]
+pub fn amount_of(b: &[u8; Entry::SIZE]) -> u64
+    ensures { result ≡ (decode b.now).amount }
+{
+    digits::packed_number(&b[Entry::AMOUNT..13])
 }
 
 // The 48 bytes that hold an entry's values.
 pub fn bytes_of(e: Entry) -> [u8; Entry::SIZE]
     ensures { result ≡ encode e }
 {
-    let card = e.card;
-    let date = e.date;
-    let authorisation = e.authorisation;
-    let reference = e.reference;
-    let reserved = e.reserved;
-    let head = head_of(e);
-    let to14 = put(&head, 0, [0u8; Entry::SIZE]);
-    let to24 = put(&card, 14, to14);
-    let to26 = put(&date, 24, to24);
-    let to32 = put(&authorisation, 26, to26);
-    let to44 = put(&reference, 32, to32);
-    put(&reserved, 44, to44)
+    let mut b = [0; Entry::SIZE];
+    write(e, &mut b);
+    b
 }
 
 // Whether the entry that 48 bytes hold keeps the clauses of rule 2 that are about it alone.
 pub fn fits(b: &[u8; Entry::SIZE], sendings: u8, uploading: bool, awaited: bool) -> bool
     ensures { result ≡ fits sendings uploading awaited (decode b.now) }
 {
-    let s: &[u8] = b;
-    let kind = s[0];
-    let mark = s[2];
-    let resends = s[3];
-    is_in_form(s)
-        & ((s[1] == 0) | kinds::is_voidable(kind))
+    let (kind, mark, resends) = (b[0], b[2], b[3]);
+    is_in_form(b)
+        & ((b[1] == 0) | kinds::is_voidable(kind))
         & ((uploading & kinds::is_due(kind)) | ((mark == 0) & (resends == 0)))
-        & ((resends <= sendings) & (!(mark == 0) | (resends == 0)))
+        & ((resends <= sendings) & ((mark != 0) | (resends == 0)))
         & (!((mark == 1) & (resends == sendings)) | awaited)
 }
 
@@ -123,113 +112,94 @@ pub fn fits(b: &[u8; Entry::SIZE], sendings: u8, uploading: bool, awaited: bool)
 pub fn blank() -> Entry
     ensures { result ≡ blank }
 {
-    let none = Trace(0);
     Entry {
         kind: 0,
         voided: 0,
         mark: 0,
         resends: 0,
-        trace: none,
+        trace: Trace(0),
         amount: 0,
         digits: 0,
-        card: [0u8; 10],
-        date: [0u8; 2],
-        authorisation: [0u8; 6],
-        reference: [0u8; 12],
-        reserved: [0u8; 4],
+        card: [0; 10],
+        date: [0; 2],
+        authorisation: [0; 6],
+        reference: [0; 12],
+        reserved: [0; 4],
     }
 }
 
-fn trace_in(s: &[u8]) -> Trace
-    requires { length s.now ≡ entry_size }
-    ensures { result ≡ record { 0 = packed_number 6 (part trace_offset 3 s.now) } }
+// Writes an entry's values over 48 bytes.
+fn write(e: Entry, b: &mut [u8; Entry::SIZE])
+    ensures { b.new ≡ encode e }
 {
-    Trace(digits::packed_number(&s[Entry::TRACE..Entry::AMOUNT]) as u32)
+    b[0] = e.kind;
+    b[1] = e.voided;
+    b[2] = e.mark;
+    b[3] = e.resends;
+    digits::put_number(u64::from(e.trace.0), &mut b[Entry::TRACE..Entry::AMOUNT]);
+    digits::put_number(e.amount, &mut b[Entry::AMOUNT..13]);
+    b[13] = e.digits;
+    digits::copy(&e.card, &mut b[14..24]);
+    digits::copy(&e.date, &mut b[24..26]);
+    digits::copy(&e.authorisation, &mut b[26..32]);
+    digits::copy(&e.reference, &mut b[32..44]);
+    digits::copy(&e.reserved, &mut b[44..48]);
+}
+
+// N of the bytes, from an offset on.
+fn part<const N: usize>(b: &[u8; Entry::SIZE], at: usize) -> [u8; N]
+    requires { at + N ≤ entry_size }
+    ensures { result ≡ part at N b.now }
+{
+    let mut out = [0; N];
+    digits::copy(&b[at..at + N], &mut out);
+    out
 }
 
 // Whether each value is in its range and form.
-fn is_in_form(s: &[u8]) -> bool
-    requires { length s.now ≡ entry_size }
-    ensures { result ≡ in_form (decode s.now) }
+#[tactic(auto, unfolding(crate::specs::Entry::decode, crate::specs::Form::in_form))]
+fn is_in_form(b: &[u8; Entry::SIZE]) -> bool
+    ensures { result ≡ in_form (decode b.now) }
 {
-    let trace = trace_in(s);
-    kinds::is_kind(s[0])
-        & (s[1] <= 1)
-        & (s[2] <= 4)
-        & numbers::is_number(trace.0)
-        & numbers::is_within(
-            1,
-            digits::packed_number(&s[Entry::AMOUNT..13]),
-            numbers::LARGEST_AMOUNT,
-        )
-        & is_card(s[13], &s[14..24])
-        & digits::is_packed(&s[24..26], 4)
-        & is_printable(&s[26..32])
-        & is_printable(&s[32..44])
-        & is_zero(&s[44..48])
-}
-
-// The bytes before the card.
-fn head_of(e: Entry) -> [u8; 14]
-    ensures { result ≡ (e.kind ∷ e.voided ∷ e.mark ∷ e.resends ∷ []) ++ (pack (digits_of 6 e.trace.0) ++ (pack (digits_of 12 e.amount) ++ (e.digits ∷ []))) }
-{
-    let trace = e.trace;
-    let mut n = [0u8; 3];
-    let mut a = [0u8; 6];
-    digits::put_number(trace.0 as u64, &mut n);
-    digits::put_number(e.amount, &mut a);
-    [
-        e.kind, e.voided, e.mark, e.resends, n[0], n[1], n[2], a[0], a[1], a[2], a[3], a[4], a[5],
-        e.digits,
-    ]
-}
-
-// The bytes with s from an offset on.
-fn put(s: &[u8], at: usize, b: [u8; Entry::SIZE]) -> [u8; Entry::SIZE]
-    requires { at + length s.now ≤ entry_size }
-    ensures { result ≡ take at b ++ (s.now ++ drop (at + length s.now) b) }
-{
-    let mut out = b;
-    let end = at + s.len();
-    digits::copy(s, &mut out[at..end]);
-    out
+    kinds::is_kind(b[0])
+        & (b[1] <= 1)
+        & (b[2] <= 4)
+        & numbers::is_number(trace_of(b).0)
+        & numbers::is_within(1, amount_of(b), numbers::LARGEST_AMOUNT)
+        & is_card(b[13], &b[14..24])
+        & digits::is_packed(&b[24..26], 4)
+        & is_printable(&b[26..32])
+        & is_printable(&b[32..44])
+        & is_zero(&b[44..48])
 }
 
 fn is_zero(s: &[u8]) -> bool
     ensures { result ≡ all_zero s.now }
 {
-    let mut i = 0;
-    while i < s.len() {
-        if s[i] != 0 {
-            return false;
-        }
-        i += 1;
-    }
-    true
+    s.iter().all(|b| *b == 0)
 }
 
 // Whether each byte is 20 to 7E; without an exit, so that the machine tests several at once.
+#[tactic(auto, unfolding(field::specs::Contents::all_printable))]
 fn is_printable(s: &[u8]) -> bool
     ensures { result ≡ all_printable s.now }
 {
     let mut good = true;
-    let mut i = 0;
-    while i < s.len() {
-        let b = s[i];
-        good = good & ((0x20 <= b) & (b <= 0x7E));
-        i += 1;
+    for b in s {
+        good &= (0x20..=0x7E).contains(b);
     }
     good
 }
 
+// Whether n packed digits stand in a card's ten bytes, zero filled.
 fn is_card(n: u8, card: &[u8]) -> bool
     requires { length card.now ≡ 10 }
     ensures { result ≡ card_in_form n card.now }
 {
-    if numbers::is_within(13, n as u64, 19) {
-        let count = n as usize;
-        let size = (count + 1) / 2;
-        return digits::is_packed(&card[..size], count) & is_zero(&card[size..]);
+    if !numbers::is_within(13, u64::from(n), 19) {
+        return false;
     }
-    false
+    let count = usize::from(n);
+    let size = count.div_ceil(2);
+    digits::is_packed(&card[..size], count) & is_zero(&card[size..])
 }

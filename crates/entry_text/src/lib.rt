@@ -21,14 +21,13 @@ pub fn add_entry(i: u16, e: Entry, n: usize, out: &mut [u8]) -> usize
 fn add_marks(i: u16, e: Entry, n: usize, out: &mut [u8]) -> usize
     ensures { Adds (text "entry " ++ decimal i ++ entry_marks e) n out.old result out.new }
 {
-    let trace = e.trace;
     let values = [
-        i as u64,
-        e.kind as u64,
-        e.voided as u64,
-        e.mark as u64,
-        e.resends as u64,
-        trace.0 as u64,
+        u64::from(i),
+        u64::from(e.kind),
+        u64::from(e.voided),
+        u64::from(e.mark),
+        u64::from(e.resends),
+        u64::from(e.trace.0),
         e.amount,
     ];
     templates::add_filled(
@@ -44,14 +43,10 @@ fn add_marks(i: u16, e: Entry, n: usize, out: &mut [u8]) -> usize
 fn add_approval(e: Entry, n: usize, out: &mut [u8]) -> usize
     ensures { Adds (entry_approval e ++ feed) n out.old result out.new }
 {
-    let card = e.card;
-    let date = e.date;
-    let authorisation = e.authorisation;
-    let reference = e.reference;
     let mut at = texts::add(b" card ", n, out);
-    at = masking::add_digits(true, e.digits, &card, at, out);
+    at = masking::add_digits(true, e.digits, &e.card, at, out);
     at = texts::add(b" date ", at, out);
-    at = masking::add_digits(false, 4, &date, at, out);
-    at = templates::add_filled(b" authorisation \"$\"", &[], &authorisation, at, out);
-    templates::add_filled(b" reference \"$\"\n", &[], &reference, at, out)
+    at = masking::add_digits(false, 4, &e.date, at, out);
+    at = templates::add_filled(b" authorisation \"$\"", &[], &e.authorisation, at, out);
+    templates::add_filled(b" reference \"$\"\n", &[], &e.reference, at, out)
 }

@@ -8,49 +8,38 @@ ghost use Rattle.field.specs.Contents.{size, skip, kept};
 ghost use Rattle.span.specs.Span.{field_bytes};
 ghost use Rattle.field_writing.specs.Placing.{held_fault, put_fault, Placing};
 
+use checks::Refusal;
 use field::{Format, Prefix};
 
-// What some bytes are refused for, 0 for nothing, and how many were written.
-#[derive(Clone, Copy)]
-pub struct Placed {
-    pub fault: u8,
-    pub size: usize,
-}
-
-// Writes a field of n digits or bytes, with its contents at the front of bs, at the front of out.
-pub fn put_field(f: Format, n: u8, bs: &[u8], out: &mut [u8]) -> Placed
+// Writes a field of n digits or bytes, with its contents at the front of bs, at the front of out, and gives how many bytes it takes.
+pub fn put_field(f: Format, n: u8, bs: &[u8], out: &mut [u8]) -> Result<usize, Refusal>
     ensures { Placing (put_fault f n bs.now out.old) (field_bytes f (kept f n) (take (size f.class (kept f n)) bs.now)) result out.new }
 {
-    if field::is_allowed(f, n as usize) {
+    if field::is_allowed(f, usize::from(n)) {
         return put_held(f, n, bs, out);
     }
     if field::is_late(f) {
         return put_held(f, 0, bs, out);
     }
-    Placed { fault: 7, size: 0 }
+    Err(Refusal::BadLength)
 }
 
 // Writes a field of n digits or bytes, whatever it may have.
-fn put_held(f: Format, n: u8, bs: &[u8], out: &mut [u8]) -> Placed
+fn put_held(f: Format, n: u8, bs: &[u8], out: &mut [u8]) -> Result<usize, Refusal>
     ensures { Placing (held_fault f n bs.now out.old) (field_bytes f n (take (size f.class n) bs.now)) result out.new }
 {
-    let class = f.class;
-    let prefix = f.prefix;
-    let size = field::size_of(class, n);
-    let skip = span::skip_of(prefix);
+    let size = field::size_of(f.class, n);
+    let skip = span::skip_of(f.prefix);
     let end = skip + size;
     if bs.len() < size {
-        return Placed { fault: 3, size: 0 };
+        return Err(Refusal::EndsEarly);
     }
     if out.len() < end {
-        return Placed { fault: 1, size: 0 };
+        return Err(Refusal::TooSmall);
     }
-    put_count(prefix, n, &mut out[..skip]);
-    let e = contents::take(class, n, &bs[..size], &mut out[skip..end]);
-    Placed {
-        fault: e,
-        size: end,
-    }
+    put_count(f.prefix, n, &mut out[..skip]);
+    contents::take(f.class, n, &bs[..size], &mut out[skip..end])?;
+    Ok(end)
 }
 
 // A count's last two digits, packed.

@@ -1,18 +1,10 @@
 -- Laws of what a table holds.
-use mathlib.Core.Path.{◌≡◌, refl}
-use mathlib.Core.List.{List, [], ◌∷◌}
-use Prim.Native.Nat.{ℕ, zero, suc, ◌≤◌, ◌<◌}
-use native.Mathlib.Omega.{arith}
-use native.Mathlib.Nat.{not-suc-le-zero}
-use lib.ListN.{length, get_or}
+use Rattle.std.proofs.Common.{◌≡◌, ℕ, ◌<◌, ◌≤◌, List, length, get_or, arith, Option, Some, None, MatchOption, HoldsAt, option_copied, Bor}
+use Rattle.std.specs.Prelude.{unwrap_or}
+use Rattle.std.proofs.lemmas.Grind.{common_steps}
 
--- an entry of a list, whatever is read past its end
-pub entry_at : {A : Type 0} (xs : List A) (k : ℕ) (d e : A) → k < length xs → get_or xs k d ≡ get_or xs k e
-entry_at [] k d e h = absurd (not-suc-le-zero h)
-entry_at (x ∷ xs) zero d e h = refl
-entry_at (x ∷ xs) (suc k) d e h = entry_at xs k d e (omega arith)
-
-pub past-entries : {A : Type 0} (xs : List A) (k : ℕ) (d : A) → length xs ≤ k → d ≡ get_or xs k d
-past-entries [] k d h = refl
-past-entries (x ∷ xs) zero d h = absurd (not-suc-le-zero h)
-past-entries (x ∷ xs) (suc k) d h = past-entries xs k d (omega arith)
+-- the entry that `get` finds, or d past the end
+pub entry_or : {X : Type 0} (xs : List X) (k : ℕ) (d : X) (r : Option (Bor X))
+    → MatchOption r (length xs ≤ k) (λ x. (k < length xs) × HoldsAt (λ y. x.now ≡ y) xs k) → unwrap_or (option_copied r) d ≡ get_or xs k d
+entry_or xs k d None h = grind (arith, common_steps)
+entry_or xs k d (Some x) h = grind (arith, common_steps)

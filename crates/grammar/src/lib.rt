@@ -35,9 +35,3 @@ pub enum Fault {
     Count,
     Word(u8),
 }
-
-#[derive(Clone, Copy)]
-pub enum Verdict {
-    Fine,
-    Wrong(Fault),
-}

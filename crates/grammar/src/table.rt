@@ -97,26 +97,20 @@ const SHAPES: [Shape; 25] = [
 pub fn row_of(w: &[u8]) -> usize
     ensures { result ≡ row_named 29 w.now commands }
 {
-    let table = COMMANDS;
-    words::row_named(29, w, &table)
+    words::row_named(29, w, &COMMANDS)
 }
 
 // What word i of a line must be, the first being 0, where the line has row k.
+#[tactic(auto, unfolding(crate::specs::Table::shape_at))]
 pub fn shape_at(k: usize, i: u8) -> Shape
     ensures { result ≡ shape_at k i }
 {
-    let table = COMMANDS;
-    shape_named(words::word(words::row(&table, k), i))
+    shape_named(words::word(words::row(&COMMANDS, k), i))
 }
 
 fn shape_named(w: &[u8]) -> Shape
     ensures { result ≡ shape_named w.now }
 {
-    let names = SHAPE_NAMES;
-    let shapes = SHAPES;
-    let k = words::row_named(24, w, &names);
-    if k < 25 {
-        return shapes[k];
-    }
-    Shape::End
+    let k = words::row_named(24, w, &SHAPE_NAMES);
+    SHAPES.get(k).copied().unwrap_or(Shape::End)
 }

@@ -1,4 +1,5 @@
 -- A good approval, and the entries with its own.
+use Rattle.std.specs.Prelude.{Some, None, Option}
 use mathlib.Core.Path.{◌≡◌, refl}
 use mathlib.Core.List.{List, [], ◌∷◌, ◌++◌}
 use mathlib.Core.Bool.{Bool, true, false, cond, and-eq-true_iff}
@@ -12,8 +13,6 @@ use Rattle.entry.specs.Entry.{entry_size}
 use Rattle.entry.specs.Form.{in_form}
 use Rattle.entry.specs.declared.Entry.{Entry}
 use Rattle.journal.specs.Journal.{entries_of, first_of, is_original}
-use Rattle.journal.specs.declared.Found.{Found}
-use Rattle.journal.specs.declared.Found.TheVariants.{At, Nowhere}
 use Rattle.journal.proofs.Entries.{put_appends, length-set_byte}
 use Rattle.state.specs.declared.Approval.{Approval}
 use Rattle.state.specs.declared.Request.{Request}
@@ -35,9 +34,9 @@ length-voided : (q : Request) (es : List Entry) (j : List ℕ) → length (origi
 unfolding original_voided
 length-voided q es j = go (takes_original q.kind) (first_of (is_original (original_kind q.kind) q.original.0) 0 es)
   where
-    go : (b : Bool) (f : Found) → length (cond b (voided_at f j) j) ≡ length j
-    go true (At i) = length-set_byte i 1 1 j
-    go true Nowhere = refl
+    go : (b : Bool) (f : Option ℕ) → length (cond b (voided_at f j) j) ≡ length j
+    go true (Some i) = length-set_byte i 1 1 j
+    go true None = refl
     go false f = refl
 
 -- an awaited request has a place

@@ -1,15 +1,13 @@
 -- An answer that the terminal accepts is one that the history finds matching what left; both read it alike.
+use Rattle.std.specs.Prelude.{Some, None, Option}
 use mathlib.Core.Path.{◌≡◌, refl}
 use mathlib.Core.List.{List}
 use mathlib.Core.Bool.{Bool, true, false, ◌&&◌, and-eq-true_iff, and-true, or-false}
 use Prim.Native.Nat.{ℕ}
 use lib.Dec.{eqb, leb}
-use Rattle.digits.specs.declared.Number.{Number}
-use Rattle.digits.specs.declared.Number.TheVariants.{Is, Not}
 use Rattle.digits.specs.Packed.{numeral}
 use Rattle.message.specs.declared.Message.{Message}
-use Rattle.reading.specs.Reading.{read_message}
-use Rattle.reading.specs.declared.ReadOutcome.TheVariants.{Read}
+use Rattle.reading.specs.Reading.{read_message, Read}
 use Rattle.parts.specs.Parts.{matches, part_of}
 use Rattle.parts.specs.declared.Part.TheVariants as part
 use Rattle.numbers.specs.declared.Trace.{Trace}
@@ -25,17 +23,17 @@ use Rattle.history.specs.Words.{message_in, kind_in, amount_in, is_sign_on, same
 use Rattle.history.proofs.Said.{Says}
 use Rattle.history.proofs.Sent.{Typed, SignsOn, Asks}
 
-same-value : (b : ℕ) (n : Number) → is_value b n ≡ same_number n (Is b)
-same-value b (Is x) = refl
-same-value b Not = refl
+same-value : (b : ℕ) (n : Option ℕ) → is_value b n ≡ same_number n (Some b)
+same-value b (Some x) = refl
+same-value b None = refl
 
-value-is : (n : Number) → is_value 1 n ≡ eqb (numeral n) 1
-value-is (Is x) = refl
-value-is Not = refl
+value-is : (n : Option ℕ) → is_value 1 n ≡ eqb (numeral n) 1
+value-is (Some x) = refl
+value-is None = refl
 
-value-within : (most : ℕ) (n : Number) → is_value_within 1 most n ≡ (leb 1 (numeral n) && leb (numeral n) most)
-value-within most (Is x) = refl
-value-within most Not = refl
+value-within : (most : ℕ) (n : Option ℕ) → is_value_within 1 most n ≡ (leb 1 (numeral n) && leb (numeral n) most)
+value-within most (Some x) = refl
+value-within most None = refl
 
 -- what an answer must repeat stands in the message that left
 pub matches_alike : {x : Settings} {batch : Batch} {trace : Trace} {i kind code : ℕ} {m : Message} → Says x batch trace i kind code m

@@ -1,4 +1,5 @@
 -- From a fresh terminal with settings in range and buffers large enough, no call is refused by rules 1 or 2.
+use Rattle.std.specs.Prelude.{Some, None, Option}
 use mathlib.Core.Path.{◌≡◌, refl}
 use mathlib.Core.List.{List, [], ◌∷◌, ◌++◌}
 use mathlib.Core.Bool.{Bool, true, false, cond, ◌&&◌, and-eq-true_iff}
@@ -9,9 +10,7 @@ use lib.ListN.{length, drop}
 use borrow.Author.Tests.{leb-true, eqb-false}
 use Rattle.message.specs.Message.{largest}
 use Rattle.message.specs.declared.Message.{Message}
-use Rattle.reading.specs.Reading.{read_message}
-use Rattle.reading.specs.declared.ReadOutcome.{ReadOutcome as Judgement}
-use Rattle.reading.specs.declared.ReadOutcome.TheVariants.{Read, Refused as Unread}
+use Rattle.reading.specs.Reading.{read_message, ReadOutcome as Judgement, Read, Refused as Unread}
 use Rattle.message_theorems.specs.Order.{reading_rules}
 use Rattle.message_theorems.proofs.Numbers.{among-each}
 use Rattle.message_theorems.proofs.Order.{read-judged_by}
@@ -19,8 +18,6 @@ use Rattle.effect_definitions.specs.JournalEffects.{heard}
 use Rattle.entry.specs.Entry.{entry_size}
 use Rattle.kinds.specs.Sums.{together}
 use Rattle.journal.specs.Journal.{entries_of, next_due, sums_of}
-use Rattle.journal.specs.declared.Found.{Found}
-use Rattle.journal.specs.declared.Found.TheVariants.{At, Nowhere}
 use Rattle.state.specs.State.{no_sign_on, fresh}
 use Rattle.checks.specs.Checks.{Rule, first_broken}
 use Rattle.state.specs.Calls.{Lent, lend, with_message, Result, judged, refused}
@@ -106,9 +103,9 @@ send_above (Pending v) s lent = tt
 send_above Settling s lent = tt
 send_above Uploading s lent = tt
 
-next_above : (f : Found) (s : State) (lent : Lent) → Above (sends_next f s lent).outcome
-next_above (At i) s lent = tt
-next_above Nowhere s lent = tt
+next_above : (f : Option ℕ) (s : State) (lent : Lent) → Above (sends_next f s lent).outcome
+next_above (Some i) s lent = tt
+next_above None s lent = tt
 
 upload_above : (p : Phase) (s : State) (lent : Lent) → Above (upload_from p s lent).outcome
 upload_above Resting s lent = tt

@@ -1,4 +1,5 @@
 -- What leaves reads back: what a message says that was read from the bytes that left.
+use Rattle.std.specs.Prelude.{Some}
 use mathlib.Core.Path.{◌≡◌, refl, ap, ◌∙◌}
 use mathlib.Core.List.{List, ◌++◌}
 use mathlib.Core.Bool.{true}
@@ -7,7 +8,6 @@ use native.Mathlib.Omega.{arith}
 use lib.ListN.{length, take, drop}
 use Rattle.digits.specs.Digits.{pack, all_digits}
 use Rattle.digits.specs.Numbers.{digits_of}
-use Rattle.digits.specs.declared.Number.TheVariants.{Is}
 use Rattle.digits.proofs.Packing.{digits_append}
 use Rattle.field.specs.Table.{among, indicators}
 use Rattle.message.specs.Build.{Item, has, find, digits, bytes, message_of}
@@ -48,15 +48,15 @@ pub record Says (x : Settings) (batch : Batch) (trace : Trace) (i kind code : �
   pub trace_bytes : (field_of m 11).bytes ≡ pack (digits_of 6 trace.0)
   pub terminal_bytes : (field_of m 41).bytes ≡ x.terminal
   pub merchant_bytes : (field_of m 42).bytes ≡ x.merchant
-  pub batch_number : part_of m part.Batch ≡ Is batch.0
-  pub kind_number : part_of m part.Kind ≡ Is kind
-  pub code_number : part_of m part.Management ≡ Is code
+  pub batch_number : part_of m part.Batch ≡ Some batch.0
+  pub kind_number : part_of m part.Kind ≡ Some kind
+  pub code_number : part_of m part.Management ≡ Some code
 
 module _ (b : List ℕ) (i : ℕ) (xs : List Item) (r : Reads i xs (read_message b)) where
   -- a number in a field of what was read
   pub number_read : (n : ℕ) (ds : List ℕ) → 0 < n → n ≤ 64 → has xs n ≡ true → find xs n ≡ (digits n ds).field → all_digits ds ≡ true
       → (at k x : ℕ) → at + k ≤ length ds → take k (drop at ds) ≡ digits_of k x → k ≤ 19 → x < 10 ^ k
-      → number_in (message_in b) n at k ≡ Is x
+      → number_in (message_in b) n at k ≡ Some x
   number_read n ds p q h f a = number_at (message_in b) n ds (r.named n p q ∙ h) (r.fields n h ∙ f) a
 
   pub says : (x : Settings) (batch : Batch) (trace : Trace) (kind code : ℕ) → Contains xs (digits 11 (digits_of 6 trace.0))

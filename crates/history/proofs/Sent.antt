@@ -1,4 +1,5 @@
 -- The five messages that leave: what each says, and what type the history takes it for.
+use Rattle.std.specs.Prelude.{Some}
 use mathlib.Core.Path.{◌≡◌, refl, ap}
 use mathlib.Core.List.{List, [], ◌∷◌}
 use mathlib.Core.Bool.{Bool, true, false}
@@ -9,7 +10,6 @@ use lib.ListN.{length}
 use Rattle.numbers.specs.Limits.{largest_total, last_number}
 use Rattle.digits.specs.Digits.{pack, all_digits}
 use Rattle.digits.specs.Numbers.{digits_of}
-use Rattle.digits.specs.declared.Number.TheVariants.{Is}
 use Rattle.digits.proofs.Numbers.{digits_of_digits}
 use Rattle.field.specs.Table.{among}
 use Rattle.message.specs.Message.{largest, field_of}
@@ -69,12 +69,12 @@ pub settlement_typed : (m : Message) → m.indicator ≡ 0x0500 → Typed false 
 unfolding is_request is_reversal is_settlement is_end is_sign_on
 settlement_typed m e = record { is_request = rw e; is_reversal = rw e; is_settlement = rw e; is_end = rw e; is_sign_on = rw e }
 
-pub item-typed : (m : Message) → m.indicator ≡ 0x0320 → part_of m part.Management ≡ Is 201 → Typed false false false false m
+pub item-typed : (m : Message) → m.indicator ≡ 0x0320 → part_of m part.Management ≡ Some 201 → Typed false false false false m
 unfolding is_request is_reversal is_settlement is_end is_sign_on
 item-typed m e c =
     record { is_request = rw e; is_reversal = rw e; is_settlement = rw e; is_end = rw (c, e); is_sign_on = rw e }
 
-pub end_typed : (m : Message) → m.indicator ≡ 0x0320 → part_of m part.Management ≡ Is 202 → Typed false false false true m
+pub end_typed : (m : Message) → m.indicator ≡ 0x0320 → part_of m part.Management ≡ Some 202 → Typed false false false true m
 unfolding is_request is_reversal is_settlement is_end is_sign_on
 end_typed m e c =
     record { is_request = rw e; is_reversal = rw e; is_settlement = rw e; is_end = rw (c, e); is_sign_on = rw e }
@@ -94,10 +94,10 @@ sign_on-typed m e = record { is_request = rw e; is_reversal = rw e; is_settlemen
 -- a settlement's message: what an answer has to repeat, and the totals
 pub record Settles (x : Settings) (batch : Batch) (trace : Trace) (t : Totals) (m : Message) : Type 0 where
   pub said : Says x batch trace 0x0500 0 201 m
-  pub debit_amount : part_of m part.DebitAmount ≡ Is t.debit
-  pub debit_count : part_of m part.DebitCount ≡ Is t.debits
-  pub credit_amount : part_of m part.CreditAmount ≡ Is t.credit
-  pub credit_count : part_of m part.CreditCount ≡ Is t.credits
+  pub debit_amount : part_of m part.DebitAmount ≡ Some t.debit
+  pub debit_count : part_of m part.DebitCount ≡ Some t.debits
+  pub credit_amount : part_of m part.CreditAmount ≡ Some t.credit
+  pub credit_count : part_of m part.CreditCount ≡ Some t.credits
 
 -- totals that field 48 can say
 pub record Sayable (t : Totals) : Type 0 where
@@ -119,7 +119,7 @@ kind-said : {x : Settings} {batch : Batch} {trace : Trace} {i kind code : ℕ} {
 unfolding kind_in
 kind-said s = rw s.kind_number
 
-amount-said : (m : Message) (n : ℕ) → number_in m 4 0 12 ≡ Is n → amount_in m ≡ n
+amount-said : (m : Message) (n : ℕ) → number_in m 4 0 12 ≡ Some n → amount_in m ≡ n
 unfolding amount_in
 amount-said m n e = rw e
 

@@ -1,10 +1,10 @@
 -- Settle and send next upload keep the invariant, and what leaves is lawful.
+use Rattle.std.specs.Prelude.{Some, None, Option}
 use mathlib.Core.Path.{◌≡◌, refl, ap, ◌∙◌}
 use mathlib.Core.List.{List}
 use mathlib.Core.Bool.{Bool, true, false}
 use Prim.Native.Nat.{ℕ}
 use native.Mathlib.Omega.{arith}
-use Rattle.digits.specs.declared.Number.TheVariants.{Is}
 use Rattle.message.specs.declared.Message.{Message}
 use Rattle.writing.specs.Writing.{message_bytes}
 use Rattle.numbers.specs.declared.Trace.{Trace}
@@ -12,8 +12,6 @@ use Rattle.numbers.specs.declared.Batch.{Batch}
 use Rattle.entry.specs.Form.{in_form}
 use Rattle.entry.proofs.Form.{InForm, in_form_lem}
 use Rattle.journal.specs.Journal.{entries_of, entry_at, next_due, taken}
-use Rattle.journal.specs.declared.Found.{Found}
-use Rattle.journal.specs.declared.Found.TheVariants.{At, Nowhere}
 use Rattle.kinds.specs.declared.Totals.{Totals}
 use Rattle.journal.proofs.Entries.{length-entries_le, entry-shaped}
 use Rattle.journal.proofs.Searches.{every-at, next-at}
@@ -81,10 +79,10 @@ carries : {x : Settings} {batch : Batch} {trace : Trace} {t : Totals} {m : Messa
     → t ≡ request_sums rs → Carries m rs
 carries w h =
     record {
-      debit_amount = w.debit_amount ∙ ap (λ (t : Totals). Is t.debit) h;
-      debit_count = w.debit_count ∙ ap (λ (t : Totals). Is t.debits) h;
-      credit_amount = w.credit_amount ∙ ap (λ (t : Totals). Is t.credit) h;
-      credit_count = w.credit_count ∙ ap (λ (t : Totals). Is t.credits) h;
+      debit_amount = w.debit_amount ∙ ap (λ (t : Totals). Some t.debit) h;
+      debit_count = w.debit_count ∙ ap (λ (t : Totals). Some t.debits) h;
+      credit_amount = w.credit_amount ∙ ap (λ (t : Totals). Some t.credit) h;
+      credit_count = w.credit_count ∙ ap (λ (t : Totals). Some t.credits) h;
     }
 
 module _ (l : ℕ) (s : State) (a : Account) (h : Tied l s a) (done : AllDone l a.requests) (b : List ℕ) where
@@ -158,7 +156,7 @@ module _ (l : ℕ) (s : State) (lent : Lent) (a : Account) (h : Tied l (in_phase
   held : SettingsHeld s.settings
   held = settings-held l (in_phase Uploading s) lent a h f
 
-  item-after : (i : ℕ) → next_due (due Uploading) (entries_of s.entries lent.journal) ≡ At i → After l send_next_upload_event a (sends_next (At i) (in_phase Uploading s) lent)
+  item-after : (i : ℕ) → next_due (due Uploading) (entries_of s.entries lent.journal) ≡ Some i → After l send_next_upload_event a (sends_next (Some i) (in_phase Uploading s) lent)
   item-after i e =
       let es = entries_of s.entries lent.journal in
       let x = entry_at es i in
@@ -178,7 +176,7 @@ module _ (l : ℕ) (s : State) (lent : Lent) (a : Account) (h : Tied l (in_phase
         lawful = upload-lawful l (in_phase Uploading s) a h h.shape b false t;
       }
 
-  end_after : After l send_next_upload_event a (sends_next Nowhere (in_phase Uploading s) lent)
+  end_after : After l send_next_upload_event a (sends_next None (in_phase Uploading s) lent)
   end_after =
       let trace : Trace = record { 0 = taken (entries_of s.entries lent.journal) s.next.0 } in
       let said = end_says s.settings s.batch lent.message f.message_room f.order.state.batch_most trace held in
@@ -194,9 +192,9 @@ module _ (l : ℕ) (s : State) (lent : Lent) (a : Account) (h : Tied l (in_phase
         lawful = upload-lawful l (in_phase Uploading s) a h h.shape b true t;
       }
 
-  next-after : (n : Found) → next_due (due Uploading) (entries_of s.entries lent.journal) ≡ n → After l send_next_upload_event a (sends_next n (in_phase Uploading s) lent)
-  next-after (At i) e = item-after i e
-  next-after Nowhere e = end_after
+  next-after : (n : Option ℕ) → next_due (due Uploading) (entries_of s.entries lent.journal) ≡ n → After l send_next_upload_event a (sends_next n (in_phase Uploading s) lent)
+  next-after (Some i) e = item-after i e
+  next-after None e = end_after
 
 upload_from_lem : (p : Phase) (l : ℕ) (s : State) (lent : Lent) (a : Account) → Tied l (in_phase p s) a → Fit (in_phase p s) lent
     → After l send_next_upload_event a (upload_from p (in_phase p s) lent)

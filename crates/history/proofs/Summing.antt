@@ -1,4 +1,5 @@
 -- A settlement that leaves carries the journal's five sums.
+use Rattle.std.specs.Prelude.{Some}
 use mathlib.Core.Path.{◌≡◌, refl, ap, sym, ◌∙◌}
 use mathlib.Core.List.{List, ◌++◌}
 use mathlib.Core.Bool.{Bool, true, false, cond}
@@ -7,7 +8,6 @@ use native.Mathlib.Omega.{arith}
 use lib.Dec.{eqb}
 use lib.ListN.{length, take, drop}
 use borrow.Author.Tests.{eqb-true}
-use Rattle.digits.specs.declared.Number.TheVariants.{Is}
 use Rattle.kinds.specs.Sums.{together}
 use Rattle.kinds.specs.declared.sums.Sums.{Sums}
 use Rattle.message.specs.declared.Message.{Message}
@@ -37,10 +37,10 @@ carries : {x : Settings} {batch : Batch} {trace : Trace} {t : Totals} {m : Messa
     → CarriesSums m y
 carries w h =
     record {
-      debit_amount = w.debit_amount ∙ ap (λ (t : Totals). Is t.debit) h;
-      debit_count = w.debit_count ∙ ap (λ (t : Totals). Is t.debits) h;
-      credit_amount = w.credit_amount ∙ ap (λ (t : Totals). Is t.credit) h;
-      credit_count = w.credit_count ∙ ap (λ (t : Totals). Is t.credits) h;
+      debit_amount = w.debit_amount ∙ ap (λ (t : Totals). Some t.debit) h;
+      debit_count = w.debit_count ∙ ap (λ (t : Totals). Some t.debits) h;
+      credit_amount = w.credit_amount ∙ ap (λ (t : Totals). Some t.credit) h;
+      credit_count = w.credit_count ∙ ap (λ (t : Totals). Some t.credits) h;
     }
 
 module _ (s : State) (lent : Lent) (fs : List Entry) (shaped : SettingsShaped s.settings)

@@ -1,6 +1,5 @@
 -- Demand 3, sentence by sentence.
-use Rattle.std.specs.Prelude.{◌≡◌, List, [], ◌∷◌, Bool, true, not, ◌||◌, ℕ, ◌+◌, ◌≤◌, length, take}
-use Rattle.digits.specs.declared.Number.TheVariants.{Is}
+use Rattle.std.specs.Prelude.{◌≡◌, List, [], ◌∷◌, Bool, true, not, ◌||◌, ℕ, ◌+◌, ◌≤◌, length, take, Some}
 use Rattle.message.specs.declared.Message.{Message}
 use Rattle.parts.specs.Parts.{part_of}
 use Rattle.parts.specs.declared.Part.TheVariants as part
@@ -97,10 +96,10 @@ Balanced c w = c.sent ≡ c.approved + c.declined + c.reversed + c.given_up + c.
 
 -- a settlement request carries exactly the debit and credit amounts and counts of the batch's approved requests
 pub record Carries (m : Message) (rs : List Request) : Type 0 where
-  pub debit_amount : part_of m part.DebitAmount ≡ Is (amount approved_debit rs)
-  pub debit_count : part_of m part.DebitCount ≡ Is (count approved_debit rs)
-  pub credit_amount : part_of m part.CreditAmount ≡ Is (amount approved_credit rs)
-  pub credit_count : part_of m part.CreditCount ≡ Is (count approved_credit rs)
+  pub debit_amount : part_of m part.DebitAmount ≡ Some (amount approved_debit rs)
+  pub debit_count : part_of m part.DebitCount ≡ Some (count approved_debit rs)
+  pub credit_amount : part_of m part.CreditAmount ≡ Some (amount approved_credit rs)
+  pub credit_count : part_of m part.CreditCount ≡ Some (count approved_credit rs)
 
 pub record Demand3For (l : ℕ) (r : Run) : Type 0 where
   -- every settlement request that leaves carries exactly the debit and credit amounts and counts of the batch's approved

@@ -1,6 +1,5 @@
 -- Document 02, request 5: what a settlement carries, by the journal's five sums.
-use Rattle.std.specs.Prelude.{◌≡◌, List, ℕ, take}
-use Rattle.digits.specs.declared.Number.TheVariants.{Is}
+use Rattle.std.specs.Prelude.{◌≡◌, List, ℕ, take, Some}
 use Rattle.kinds.specs.Sums.{together}
 use Rattle.kinds.specs.declared.sums.Sums.{Sums}
 use Rattle.message.specs.declared.Message.{Message}
@@ -18,10 +17,10 @@ use Rattle.history.specs.Words.{message_in}
 
 -- debit and credit, amounts and counts, as the sums make them together
 pub record CarriesSums (m : Message) (x : Sums) : Type 0 where
-  pub debit_amount : part_of m part.DebitAmount ≡ Is (together x).debit
-  pub debit_count : part_of m part.DebitCount ≡ Is (together x).debits
-  pub credit_amount : part_of m part.CreditAmount ≡ Is (together x).credit
-  pub credit_count : part_of m part.CreditCount ≡ Is (together x).credits
+  pub debit_amount : part_of m part.DebitAmount ≡ Some (together x).debit
+  pub debit_count : part_of m part.DebitCount ≡ Some (together x).debits
+  pub credit_amount : part_of m part.CreditAmount ≡ Some (together x).credit
+  pub credit_count : part_of m part.CreditCount ≡ Some (together x).credits
 
 -- every settlement that leaves, from any terminal and journal, in whatever order the entries are added up
 abbrev pub SettlementCarriesSums : Type 0

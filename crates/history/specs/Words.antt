@@ -1,17 +1,13 @@
 -- What a message says, in the words of document 01: its type, its fields, and whether an answer matches what was sent.
 -- Nothing here is the terminal's own.
-use Rattle.std.specs.Prelude.{List, [], ◌∷◌, Bool, true, false, cond, not, ◌&&◌, ◌||◌, ℕ, ◌+◌, leb, eqb}
-use Rattle.digits.specs.declared.Number.{Number}
-use Rattle.digits.specs.declared.Number.TheVariants.{Is, Not}
+use Rattle.std.specs.Prelude.{List, [], ◌∷◌, Bool, true, false, cond, not, ◌&&◌, ◌||◌, ℕ, ◌+◌, leb, eqb, Some, None, Option}
 use Rattle.digits.specs.Lists.{same_bytes}
 use Rattle.digits.specs.Packed.{numeral}
 use Rattle.field.specs.Table.{among}
 use Rattle.field.specs.Bitmap.{names}
 use Rattle.message.specs.Message.{field_of}
 use Rattle.message.specs.declared.Message.{Message}
-use Rattle.reading.specs.Reading.{read_message}
-use Rattle.reading.specs.declared.ReadOutcome.{ReadOutcome}
-use Rattle.reading.specs.declared.ReadOutcome.TheVariants.{Read, Refused}
+use Rattle.reading.specs.Reading.{read_message, ReadOutcome, Read, Refused}
 use Rattle.parts.specs.Parts.{number_in, part_of}
 use Rattle.parts.specs.declared.Part.TheVariants as part
 
@@ -55,11 +51,11 @@ carries_chip m = names m.bitmap 55
 unfoldable pub same_field : ℕ → Message → Message → Bool
 same_field n m a = names a.bitmap n && same_bytes (field_of a n).bytes (field_of m n).bytes
 
-abbrev pub same_number : Number → Number → Bool
-same_number (Is x) (Is y) = eqb x y
-same_number (Is x) Not = false
-same_number Not (Is y) = false
-same_number Not Not = false
+abbrev pub same_number : Option ℕ → Option ℕ → Bool
+same_number (Some x) (Some y) = eqb x y
+same_number (Some x) None = false
+same_number None (Some y) = false
+same_number None None = false
 
 -- field 39 is a code
 unfoldable pub code_is : ℕ → ℕ → Message → Bool

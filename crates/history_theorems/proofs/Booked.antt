@@ -1,4 +1,5 @@
 -- The journal is that of the approvals, after each call.
+use Rattle.std.specs.Prelude.{Some, None, Option}
 use mathlib.Core.Path.{◌≡◌, refl, sym, ap, ◌∙◌}
 use mathlib.Core.List.{List, [], ◌∷◌, ◌++◌}
 use mathlib.Core.Bool.{Bool, true, false, cond, not, ◌&&◌, ◌||◌, and-eq-true_iff, true≢false}
@@ -9,14 +10,10 @@ use lib.Dec.{eqb, leb}
 use borrow.Author.Tests.{eqb-true, ne_eqb, not-false}
 use Rattle.field.specs.Bitmap.{names}
 use Rattle.message.specs.declared.Message.{Message}
-use Rattle.reading.specs.Reading.{read_message}
-use Rattle.reading.specs.declared.ReadOutcome.{ReadOutcome}
-use Rattle.reading.specs.declared.ReadOutcome.TheVariants.{Read, Refused}
+use Rattle.reading.specs.Reading.{read_message, ReadOutcome, Read, Refused}
 use Rattle.kinds.specs.Kinds.{is_never_reversed, takes_original, original_kind, allows_partial}
 use Rattle.entry.specs.declared.Entry.{Entry}
 use Rattle.journal.specs.Journal.{entries_of, entry_at, set_byte, original_for, next_due, with_mark, with_resends}
-use Rattle.journal.specs.declared.Found.{Found}
-use Rattle.journal.specs.declared.Found.TheVariants.{At as Place, Nowhere}
 use Rattle.journal.proofs.Entries.{set_mark, set-resends, set-voided}
 use Rattle.state.specs.declared.Awaited.{Awaited}
 use Rattle.state.specs.declared.Awaited.TheVariants as awaited
@@ -141,16 +138,16 @@ module _ (b : List ℕ) (read : (read_message b).outcome ≡ Read) (s : State) (
       go (yes e) = absurd (true≢false (sym (rw e at t)))
       go (no e) = ne_eqb kind 22 e
 
-  repaid : takes_original q.kind ≡ true → (i : ℕ) → original_for q.kind q.original.0 es ≡ Place i → (entry_at es i).amount ≡ amount_in (message_in b)
+  repaid : takes_original q.kind ≡ true → (i : ℕ) → original_for q.kind q.original.0 es ≡ Some i → (entry_at es i).amount ≡ amount_in (message_in b)
   repaid t i f = paid t i f ∙ sym (may.1.whole (not_partial q.kind t)) ∙ answered_alike (message_in b)
 
-  voided-entries : (t : Bool) → takes_original q.kind ≡ t → (f : Found) → original_for q.kind q.original.0 es ≡ f
+  voided-entries : (t : Bool) → takes_original q.kind ≡ t → (f : Option ℕ) → original_for q.kind q.original.0 es ≡ f
       → cond t (unvoided_at f es) true ≡ true
       → WithOne approval (entries_of s.entries (cond t (voided_at f lent.journal) lent.journal)) xs
-  voided-entries true t (Place i) f k =
+  voided-entries true t (Some i) f k =
       rw (set-voided s.entries i 1 lent.journal)
-      (one-voided approval (original_kind q.kind) q.original.0 (voids_alike q r said t) 0 i es xs (f ∙ ap Place (sym (zero-add i))) fits.order.journal.apart (repaid t i f) h)
-  voided-entries true t Nowhere f k = absurd (true≢false (sym k))
+      (one-voided approval (original_kind q.kind) q.original.0 (voids_alike q r said t) 0 i es xs (f ∙ ap Some (sym (zero-add i))) fits.order.journal.apart (repaid t i f) h)
+  voided-entries true t None f k = absurd (true≢false (sym k))
   voided-entries false t f e k = none-voided approval es xs (voids-none q r said t) h
 
   -- the journal had an original left that was not voided
@@ -277,9 +274,9 @@ module _ (s : State) (lent : Lent) (y : Standing) (xs : List Approval) (d : Stan
       go true q = f (eqb-true n 0 q)
       go false q = h
 
-  next-booked : (f : Found) (t : State) → t.entries ≡ s.entries → BookedAfter send_next_upload_event y xs (sends_next f t lent)
-  next-booked (Place i) t e = rw e (resent-booked s.entries i _ lent.journal xs h)
-  next-booked Nowhere t e = rw e h
+  next-booked : (f : Option ℕ) (t : State) → t.entries ≡ s.entries → BookedAfter send_next_upload_event y xs (sends_next f t lent)
+  next-booked (Some i) t e = rw e (resent-booked s.entries i _ lent.journal xs h)
+  next-booked None t e = rw e h
 
   send_booked : (p : Phase) → BookedAfter send_reversal_event y xs (send_from p s lent)
   send_booked Resting = h

@@ -22,9 +22,7 @@ use Rattle.message.specs.Located.{located}
 use Rattle.message.specs.Message.{Field, field_of}
 use Rattle.message.specs.declared.Message.{Message}
 use Rattle.message_theorems.proofs.Readable.{read_keeps_formats}
-use Rattle.reading.specs.Reading.{read_message}
-use Rattle.reading.specs.declared.ReadOutcome.{ReadOutcome}
-use Rattle.reading.specs.declared.ReadOutcome.TheVariants.{Read, Refused}
+use Rattle.reading.specs.Reading.{read_message, ReadOutcome, Read, Refused}
 use Rattle.numbers.specs.declared.Batch.{Batch}
 use Rattle.entry.specs.declared.Entry.{Entry}
 use Rattle.journal.specs.Journal.{entry_at}

@@ -13,8 +13,7 @@ use Rattle.digits.proofs.Packing.{length-pack}
 use Rattle.field.specs.Bitmap.{names}
 use Rattle.message.specs.Message.{Field, field_of}
 use Rattle.message.specs.declared.Message.{Message}
-use Rattle.reading.specs.Reading.{read_message}
-use Rattle.reading.specs.declared.ReadOutcome.TheVariants.{Read}
+use Rattle.reading.specs.Reading.{read_message, Read}
 use Rattle.message_theorems.proofs.Readable.{date_length, reference_length, authorisation_length}
 use Rattle.parts.specs.Parts.{copies}
 use Rattle.kinds.specs.Kinds.{takes_original, original_kind}

@@ -1,4 +1,5 @@
 -- What an upload sends, and the marks of the journal after each call.
+use Rattle.std.specs.Prelude.{Some, None, Option}
 use mathlib.Core.Path.{◌≡◌, refl, sym, ap, subst, ◌∙◌}
 use mathlib.Core.List.{List, [], ◌∷◌, ◌++◌}
 use mathlib.Core.Bool.{Bool, true, false, cond, not, ◌&&◌, ◌||◌, and-eq-true_iff, true≢false}
@@ -13,16 +14,12 @@ use Rattle.numbers.specs.declared.Trace.{Trace}
 use Rattle.message.specs.Build.{Item, digits, bytes}
 use Rattle.message.specs.Message.{Field, largest}
 use Rattle.message.specs.declared.Message.{Message}
-use Rattle.reading.specs.Reading.{read_message}
-use Rattle.reading.specs.declared.ReadOutcome.{ReadOutcome}
-use Rattle.reading.specs.declared.ReadOutcome.TheVariants.{Read, Refused}
+use Rattle.reading.specs.Reading.{read_message, ReadOutcome, Read, Refused}
 use Rattle.writing.specs.Writing.{message_bytes}
 use Rattle.entry.specs.Form.{in_form, keeps_resends, keeps_silent}
 use Rattle.entry.specs.declared.Entry.{Entry}
 use Rattle.entry.proofs.Form.{in_form_lem}
 use Rattle.journal.specs.Journal.{entries_of, entry_at, set_byte, is_at, next_due, taken, with_resends}
-use Rattle.journal.specs.declared.Found.{Found}
-use Rattle.journal.specs.declared.Found.TheVariants.{At as Found_at, Nowhere}
 use Rattle.journal.proofs.Entries.{set-resends}
 use Rattle.journal.proofs.Searches.{every-at, next-at}
 use Rattle.state.specs.declared.Phase.{Phase}
@@ -190,7 +187,7 @@ module _ (l : ℕ) (y : Standing) (xs : List Approval) (u : Upload) where
     abbrev es : List Entry
     es = entries_of t.entries lent.journal
 
-    next-is : (x : Found) → next_due (due Uploading) es ≡ x → next_item xs u.progress ≡ place_of x
+    next-is : (x : Option ℕ) → next_due (due Uploading) es ≡ x → next_item xs u.progress ≡ place_of x
     next-is x e = next_alike es xs u.progress booked h.marks ∙ ap place_of e
 
     same_sent : (b c : List ℕ) → history.sent b ≡ history.sent c → b ≡ c
@@ -202,13 +199,13 @@ module _ (l : ℕ) (y : Standing) (xs : List Approval) (u : Upload) where
     resent-few i k one =
         let x = entry_at es i in
         let a = every-at (λ i e. keeps_resends t.settings.sendings e) 0 es f.order.journal.resends i k in
-        let c = every-at (λ n e. keeps_silent t.settings.sendings (is_at Nowhere n) e) 0 es f.order.journal.silent i k in
+        let c = every-at (λ n e. keeps_silent t.settings.sendings (is_at None n) e) 0 es f.order.journal.silent i k in
         let most = leb-true x.resends t.settings.sendings ((and-eq-true_iff (leb x.resends t.settings.sendings) _).0 a).0 in
         let other : x.resends ≡ t.settings.sendings → ⊥ = λ z. true≢false (sym (rw (one, eq-eqb x.resends t.settings.sendings z) at c)) in
         let same = tied.kept.sendings_set in
         omega arith
 
-    item_uploaded : (i : ℕ) → next_due (due Uploading) es ≡ Found_at i → Uploaded l send_next_upload_event y xs u (sends_next (Found_at i) (in_phase Uploading t) lent)
+    item_uploaded : (i : ℕ) → next_due (due Uploading) es ≡ Some i → Uploaded l send_next_upload_event y xs u (sends_next (Some i) (in_phase Uploading t) lent)
     item_uploaded i e =
         let x = entry_at es i in
         let k = (next-at es i e).below in
@@ -217,19 +214,19 @@ module _ (l : ℕ) (y : Standing) (xs : List Approval) (u : Upload) where
         (entry-held t.entries i lent.journal g) in
         let b = handed_out (message_bytes (item_message t.settings t.batch x)) lent.message in
         record {
-          uploads = rw (next-is (Found_at i) e) (record { marks = resent-marks t.entries i lent.journal u.progress h.marks; item_is = refl });
+          uploads = rw (next-is (Some i) e) (record { marks = resent-marks t.entries i lent.journal u.progress h.marks; item_is = refl });
           sends_next =
               λ c p q.
-              rw (next-is (Found_at i) e, ← same_sent b c q)
+              rw (next-is (Some i) e, ← same_sent b c q)
               (copied-place (λ v. Reads 0x0320 (upload_items t.settings y.batch v) (read_message b)) i es xs booked exact k g.digits_most
               (λ v later w z. rw (items_same t.settings t.batch y.batch x v later d.members.1 w z) at r));
           may_leave =
               λ c p q m z.
-              let same : i ≡ m = let w : at i ≡ at m = sym (next-is (Found_at i) e) ∙ z in cc in
+              let same : i ≡ m = let w : at i ≡ at m = sym (next-is (Some i) e) ∙ z in cc in
               subst (λ (n : ℕ). MayLeaveAt l n u.progress) same (may_leave-at l i es u.progress h.marks (resent-few i k));
         }
 
-    end_uploaded : next_due (due Uploading) es ≡ Nowhere → Uploaded l send_next_upload_event y xs u (sends_next Nowhere (in_phase Uploading t) lent)
+    end_uploaded : next_due (due Uploading) es ≡ None → Uploaded l send_next_upload_event y xs u (sends_next None (in_phase Uploading t) lent)
     end_uploaded e =
         let trace : Trace = record { 0 = taken es t.next.0 } in
         let most = (taken_range es t.next.0 f.order.state.next_least f.order.state.next_most).1 in
@@ -237,14 +234,14 @@ module _ (l : ℕ) (y : Standing) (xs : List Approval) (u : Upload) where
         d.members.1 in
         let b = handed_out (message_bytes (end_message t.settings t.batch trace)) lent.message in
         record {
-          uploads = rw (next-is Nowhere e) (record { marks = h.marks; item_is = tt });
-          sends_next = λ c p q. rw (next-is Nowhere e, ← same_sent b c q) r;
-          may_leave = λ c p q m z. let w : none ≡ at m = sym (next-is Nowhere e) ∙ z in let v : ◌≡◌ {A = ℕ} 0 1 = cc in absurd (omega arith);
+          uploads = rw (next-is None e) (record { marks = h.marks; item_is = tt });
+          sends_next = λ c p q. rw (next-is None e, ← same_sent b c q) r;
+          may_leave = λ c p q m z. let w : none ≡ at m = sym (next-is None e) ∙ z in let v : ◌≡◌ {A = ℕ} 0 1 = cc in absurd (omega arith);
         }
 
-    next_uploaded : (x : Found) → next_due (due Uploading) es ≡ x → Uploaded l send_next_upload_event y xs u (sends_next x (in_phase Uploading t) lent)
-    next_uploaded (Found_at i) e = item_uploaded i e
-    next_uploaded Nowhere e = end_uploaded e
+    next_uploaded : (x : Option ℕ) → next_due (due Uploading) es ≡ x → Uploaded l send_next_upload_event y xs u (sends_next x (in_phase Uploading t) lent)
+    next_uploaded (Some i) e = item_uploaded i e
+    next_uploaded None e = end_uploaded e
 
 upload_from_lem : (p : Phase) (l : ℕ) (t : State) (lent : Lent) (a : Account) (y : Standing) (xs : List Approval) (u : Upload) → Tied l (in_phase p t) a
     → Stands (in_phase p t) lent.journal y → Booked t lent.journal xs → EachExact xs → Uploads (in_phase p t) lent.journal u → Fit (in_phase p t) lent

@@ -1,4 +1,5 @@
 -- The rules of start after 13: each test of the terminal is the history's.
+use Rattle.std.specs.Prelude.{Some, None, Option}
 use mathlib.Core.Path.{◌≡◌, refl, sym, ap, ◌∙◌}
 use mathlib.Core.List.{List, [], ◌∷◌, ◌++◌}
 use mathlib.Core.Bool.{Bool, true, false, cond, not, ◌&&◌, ◌||◌, and_assoc, or-false, not-not, true≢false}
@@ -18,8 +19,6 @@ use Rattle.entry.specs.declared.Entry.{Entry}
 use Rattle.journal.specs.Journal.{entry_at, first_of, totals_of, is_original, original_for, nowhere}
 use Rattle.journal.specs.Sums.{debit_entry, credit_entry}
 use Rattle.journal.proofs.Sums.{sides_add_up}
-use Rattle.journal.specs.declared.Found.{Found}
-use Rattle.journal.specs.declared.Found.TheVariants.{At, Nowhere}
 use Rattle.journal.proofs.Searches.{first_at}
 use Rattle.checks.specs.Checks.{first_broken}
 use Rattle.state.specs.declared.Card.{Card}
@@ -85,9 +84,9 @@ record SameOriginal (d : Desk) (vs : List Approval) (there : Bool) (voided amoun
   voided_is : is_voided d vs ≡ not (eqb voided 0)
   amount_is : amount_named d vs ≡ amount
 
-abbrev FoundAs : Desk → ℕ → Found → List Entry → List Approval → Type 0
-FoundAs d k (At i) es vs = SameOriginal d vs true (entry_at es (i - k)).voided (entry_at es (i - k)).amount
-FoundAs d k Nowhere es vs = SameOriginal d vs false 0 0
+abbrev FoundAs : Desk → ℕ → Option ℕ → List Entry → List Approval → Type 0
+FoundAs d k (Some i) es vs = SameOriginal d vs true (entry_at es (i - k)).voided (entry_at es (i - k)).amount
+FoundAs d k None es vs = SameOriginal d vs false 0 0
 
 flag : (b : Bool) → b ≡ not (eqb (cond b 1 0) 0)
 flag true = refl
@@ -99,7 +98,7 @@ module _ (d : Desk) where
 
   -- the first one
   found_here : (k : ℕ) (e : Entry) (es : List Entry) (v : Approval) (vs : List Approval) → IsEntry e v vs → is_named d v ≡ true
-      → FoundAs d k (At k) (e ∷ es) (v ∷ vs)
+      → FoundAs d k (Some k) (e ∷ es) (v ∷ vs)
   found_here k e es v vs h n =
       let z : k - k ≡ 0 = omega arith in
       rw z
@@ -110,13 +109,13 @@ module _ (d : Desk) where
       })
 
   -- one after it
-  found_after : (k : ℕ) (e : Entry) (es : List Entry) (v : Approval) (vs : List Approval) → is_named d v ≡ false → (f : Found)
+  found_after : (k : ℕ) (e : Entry) (es : List Entry) (v : Approval) (vs : List Approval) → is_named d v ≡ false → (f : Option ℕ)
       → first_of sought (suc k) es ≡ f → FoundAs d (suc k) f es vs → FoundAs d k f (e ∷ es) (v ∷ vs)
-  found_after k e es v vs n (At i) q w =
+  found_after k e es v vs n (Some i) q w =
       let from = (first_at sought (suc k) es i q).from in
       let z : i - k ≡ suc (i - suc k) = omega arith in
       rw z (record { there_is = rw n w.there_is; voided_is = rw n w.voided_is; amount_is = rw n w.amount_is })
-  found_after k e es v vs n Nowhere q w =
+  found_after k e es v vs n None q w =
       record { there_is = rw n w.there_is; voided_is = rw n w.voided_is; amount_is = rw n w.amount_is }
 
   found_as : (k : ℕ) (es : List Entry) (vs : List Approval) → AreEntries es vs → FoundAs d k (first_of sought k es) es vs
@@ -126,7 +125,7 @@ module _ (d : Desk) where
   found_as k (e ∷ es) (v ∷ vs) h = go (found_as (suc k) es vs h.1) (sought e) (sym (named_alike d e v vs h.0))
     where
       go : FoundAs d (suc k) (first_of sought (suc k) es) es vs → (t : Bool) → is_named d v ≡ t
-          → FoundAs d k (cond t (At k) (first_of sought (suc k) es)) (e ∷ es) (v ∷ vs)
+          → FoundAs d k (cond t (Some k) (first_of sought (suc k) es)) (e ∷ es) (v ∷ vs)
       go w true n = found_here k e es v vs h.0 n
       go w false n = found_after k e es v vs n (first_of sought (suc k) es) refl w
 
@@ -174,9 +173,9 @@ module _ (d : Desk) (es : List Entry) (vs : List Approval) (h : AreEntries es vs
   abbrev o : Entry
   o = entry_of (original_of d es) es
 
-  original_as : (f : Found) → FoundAs d 0 f es vs → SameOriginal d vs (not (nowhere f)) (entry_of f es).voided (entry_of f es).amount
-  original_as (At i) w = let z : i - 0 ≡ i = omega arith in rw z at w
-  original_as Nowhere w = w
+  original_as : (f : Option ℕ) → FoundAs d 0 f es vs → SameOriginal d vs (not (nowhere f)) (entry_of f es).voided (entry_of f es).amount
+  original_as (Some i) w = let z : i - 0 ≡ i = omega arith in rw z at w
+  original_as None w = w
 
   same-original : takes_original d.kind ≡ true → SameOriginal d vs (not (nowhere (original_of d es))) o.voided o.amount
   unfolding original_of

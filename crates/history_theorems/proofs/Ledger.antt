@@ -1,4 +1,5 @@
 -- Laws of the entries of approvals: one changed where it says nothing of the approval, one voided, one more.
+use Rattle.std.specs.Prelude.{Some}
 use mathlib.Core.Path.{◌≡◌, refl, sym, ◌∙◌}
 use mathlib.Core.List.{List, [], ◌∷◌, ◌++◌}
 use mathlib.Core.Bool.{Bool, true, false, cond, not, ◌||◌, and-eq-true_iff, and-false, or-false, true≢false}
@@ -8,7 +9,6 @@ use lib.Dec.{eqb}
 use borrow.Author.Tests.{eqb-true}
 use Rattle.entry.specs.declared.Entry.{Entry}
 use Rattle.journal.specs.Journal.{entry_at, first_of, has_trace, is_original, absent, distinct, changed_at, with_voided, with_mark, with_resends}
-use Rattle.journal.specs.declared.Found.TheVariants.{At}
 use Rattle.journal.proofs.Searches.{first_at}
 use Rattle.journal.proofs.Traces.{absent_more}
 use Rattle.message.specs.declared.Message.{Message}
@@ -159,7 +159,7 @@ module _ (v : Approval) (kind trace : ℕ)
       let k = (and-eq-true_iff (not (has_trace trace e)) (absent trace es)).0 (rw (absent_more trace e es) at n) in
       (unvoided v e x xs (alike e x xs h.0 ∙ other_trace e (not-true (has_trace trace e) k.0)) h.0, none_more es xs k.1 h.1)
 
-  pub one-voided : (k i : ℕ) (es : List Entry) (xs : List Approval) → first_of (is_original kind trace) k es ≡ At (k + i) → distinct es ≡ true
+  pub one-voided : (k i : ℕ) (es : List Entry) (xs : List Approval) → first_of (is_original kind trace) k es ≡ Some (k + i) → distinct es ≡ true
       → (entry_at es i).amount ≡ amount_in v.answer → AreEntries es xs → WithOne v (changed_at i (with_voided 1) es) xs
   one-voided k i [] xs f d p h = let z : ◌≡◌ {A = ℕ} 0 1 = cc in absurd (omega arith)
   one-voided k i (e ∷ es) [] f d p h = absurd h
@@ -168,7 +168,7 @@ module _ (v : Approval) (kind trace : ℕ)
       apart : (absent e.trace.0 es ≡ true) × (distinct es ≡ true)
       apart = (and-eq-true_iff (absent e.trace.0 es) (distinct es)).0 d
 
-      go : (b : Bool) → is_original kind trace e ≡ b → cond b (At k) (first_of (is_original kind trace) (suc k) es) ≡ At (k + 0)
+      go : (b : Bool) → is_original kind trace e ≡ b → cond b (Some k) (first_of (is_original kind trace) (suc k) es) ≡ Some (k + 0)
           → WithOne v (changed_at zero (with_voided 1) (e ∷ es)) (x ∷ xs)
       go true q f =
           (now_voided v e x xs (alike e x xs h.0 ∙ q) p h.0, none_more es xs (rw (original-trace kind trace e q) at apart.0) h.1)
@@ -178,9 +178,9 @@ module _ (v : Approval) (kind trace : ℕ)
       apart : (absent e.trace.0 es ≡ true) × (distinct es ≡ true)
       apart = (and-eq-true_iff (absent e.trace.0 es) (distinct es)).0 d
 
-      go : (first_of (is_original kind trace) (suc k) es ≡ At (suc k + i) → distinct es ≡ true → (entry_at es i).amount ≡ amount_in v.answer → AreEntries es xs
+      go : (first_of (is_original kind trace) (suc k) es ≡ Some (suc k + i) → distinct es ≡ true → (entry_at es i).amount ≡ amount_in v.answer → AreEntries es xs
           → WithOne v (changed_at i (with_voided 1) es) xs)
-          → (b : Bool) → is_original kind trace e ≡ b → cond b (At k) (first_of (is_original kind trace) (suc k) es) ≡ At (k + suc i)
+          → (b : Bool) → is_original kind trace e ≡ b → cond b (Some k) (first_of (is_original kind trace) (suc k) es) ≡ Some (k + suc i)
           → WithOne v (changed_at (suc i) (with_voided 1) (e ∷ es)) (x ∷ xs)
       go ih true q f = let z : k ≡ k + suc i = cc in absurd (omega arith)
       go ih false q f =

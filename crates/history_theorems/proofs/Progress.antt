@@ -1,4 +1,5 @@
 -- Laws of the marks of entries and the progress of their approvals.
+use Rattle.std.specs.Prelude.{Some, None, Option}
 use mathlib.Core.Path.{◌≡◌, refl, sym}
 use mathlib.Core.List.{List, [], ◌∷◌, ◌++◌}
 use mathlib.Core.Bool.{Bool, true, false, cond, ◌&&◌}
@@ -10,8 +11,6 @@ use Rattle.kinds.specs.Kinds as kinds
 use Rattle.entry.specs.Form.{due_entry}
 use Rattle.entry.specs.declared.Entry.{Entry}
 use Rattle.journal.specs.Journal.{entry_at, first_of, due_with, otherwise, next_due, changed_at, with_voided}
-use Rattle.journal.specs.declared.Found.{Found}
-use Rattle.journal.specs.declared.Found.TheVariants.{At, Nowhere}
 use Rattle.history.specs.Words.{is_debit, is_credit}
 use Rattle.history_theorems.specs.Approvals.{Approval, IsEntry, AreEntries}
 use Rattle.history_theorems.specs.Uploads.{Progress, unsent, silent, ended, is_unsent, is_silent, is_due, Place, none, at, first_at, or_else, next_item, leaves, falls_silent, change_at, Few, EachFew}
@@ -68,9 +67,9 @@ marks-more n (e ∷ es) [] h k = absurd h
 marks-more n (e ∷ es) (p ∷ ps) h k = (h.0, marks-more n es ps h.1 k)
 
 -- the next item
-abbrev pub place_of : Found → Place
-place_of (At i) = at i
-place_of Nowhere = none
+abbrev pub place_of : Option ℕ → Place
+place_of (Some i) = at i
+place_of None = none
 
 first_alike : (q : Approval → Progress → Bool) (r : Entry → Bool)
     → ((e : Entry) (x : Approval) (later : List Approval) (p : Progress) → IsEntry e x later → IsMarked e p → q x p ≡ r e)
@@ -83,7 +82,7 @@ first_alike q r f i (e ∷ es) (x ∷ xs) [] h m = absurd m
 first_alike q r f i (e ∷ es) (x ∷ xs) (p ∷ ps) h m =
     rw (f e x xs p h.0 m.0, first_alike q r f (suc i) es xs ps h.1 m.1) (go (r e))
   where
-    go : (b : Bool) → cond b (at i) (place_of (first_of r (suc i) es)) ≡ place_of (cond b (At i) (first_of r (suc i) es))
+    go : (b : Bool) → cond b (at i) (place_of (first_of r (suc i) es)) ≡ place_of (cond b (Some i) (first_of r (suc i) es))
     go true = refl
     go false = refl
 
@@ -113,9 +112,9 @@ next_alike es xs ps h m =
     )
     (go (first_of (λ e. due_entry e && eqb e.mark 0) 0 es) (first_of (λ e. due_entry e && eqb e.mark 1) 0 es))
   where
-    go : (f g : Found) → or_else (place_of f) (place_of g) ≡ place_of (otherwise f g)
-    go (At i) g = refl
-    go Nowhere g = refl
+    go : (f g : Option ℕ) → or_else (place_of f) (place_of g) ≡ place_of (otherwise f g)
+    go (Some i) g = refl
+    go None g = refl
 
 -- an item that is sent again has been sent fewer than L times
 abbrev pub MayLeave : ℕ → Progress → Type 0

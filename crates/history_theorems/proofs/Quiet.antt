@@ -12,9 +12,7 @@ use Rattle.numbers.specs.declared.Batch.{Batch}
 use Rattle.numbers.specs.declared.Trace.{Trace}
 use Rattle.field.specs.Bitmap.{names}
 use Rattle.message.specs.declared.Message.{Message}
-use Rattle.reading.specs.Reading.{read_message}
-use Rattle.reading.specs.declared.ReadOutcome.{ReadOutcome}
-use Rattle.reading.specs.declared.ReadOutcome.TheVariants.{Read, Refused}
+use Rattle.reading.specs.Reading.{read_message, ReadOutcome, Read, Refused}
 use Rattle.entry.specs.declared.Entry.{Entry}
 use Rattle.journal.specs.Journal.{entries_of}
 use Rattle.state.specs.declared.Awaited.{Awaited}

@@ -1,18 +1,15 @@
 -- A void that is awaited asks for what the entry of its original holds.
+use Rattle.std.specs.Prelude.{Some, None, Option}
 use mathlib.Core.Path.{◌≡◌, refl}
 use mathlib.Core.List.{List}
 use mathlib.Core.Bool.{Bool, true, false, cond}
 use Prim.Native.Nat.{ℕ}
 use lib.Dec.{eqb, leb}
 use Rattle.message.specs.declared.Message.{Message}
-use Rattle.reading.specs.Reading.{read_message}
-use Rattle.reading.specs.declared.ReadOutcome.{ReadOutcome}
-use Rattle.reading.specs.declared.ReadOutcome.TheVariants.{Read, Refused}
+use Rattle.reading.specs.Reading.{read_message, ReadOutcome, Read, Refused}
 use Rattle.kinds.specs.Kinds.{takes_original, is_never_reversed}
 use Rattle.entry.specs.declared.Entry.{Entry}
 use Rattle.journal.specs.Journal.{entries_of, entry_at, original_for, next_due, taken}
-use Rattle.journal.specs.declared.Found.{Found}
-use Rattle.journal.specs.declared.Found.TheVariants.{At, Nowhere}
 use Rattle.answer_match.specs.Match.{approves, approves_request, good_mac, ends_reversal, closes_batch}
 use Rattle.state.specs.State.{has_chip}
 use Rattle.state.specs.Calls.{Lent, Result, refused, judged}
@@ -37,7 +34,7 @@ use Rattle.call_definitions.specs.Events.{Event, call, sign_on_event, starts, an
 
 abbrev RepaysAwaited : Awaited → List Entry → Type 0
 RepaysAwaited (awaited.Request q) es =
-    takes_original q.kind ≡ true → (i : ℕ) → original_for q.kind q.original.0 es ≡ At i → (entry_at es i).amount ≡ q.amount
+    takes_original q.kind ≡ true → (i : ℕ) → original_for q.kind q.original.0 es ≡ Some i → (entry_at es i).amount ≡ q.amount
 RepaysAwaited (awaited.Reversal v) es = Unit {0}
 RepaysAwaited (awaited.Settlement t) es = Unit {0}
 RepaysAwaited (awaited.Item i) es = Unit {0}
@@ -126,7 +123,7 @@ agreed_in_lem Uploading s j h = h
 -- a void takes the amount of the entry that it is for
 started : (d : Desk) (es : List Entry) (trace : ℕ) → RepaysAwaited (awaited.Request (request_of d (entry_of (original_of d es) es) trace)) es
 unfolding original_of
-started d es trace t i f = let g : original_for d.kind d.original.0 es ≡ At i = rw t at f in rw (t, g)
+started d es trace t i f = let g : original_for d.kind d.original.0 es ≡ Some i = rw t at f in rw (t, g)
 
 judged-after : (n : ℕ) (s : State) (lent : Lent) (done : Result) → Repaying s lent.journal → After done → After (judged n s lent done)
 unfolding judged
@@ -147,9 +144,9 @@ send_after (Pending v) s lent h = tt
 send_after Settling s lent h = h
 send_after Uploading s lent h = h
 
-next-after : (f : Found) (s : State) (lent : Lent) → After (sends_next f s lent)
-next-after (At i) s lent = tt
-next-after Nowhere s lent = tt
+next-after : (f : Option ℕ) (s : State) (lent : Lent) → After (sends_next f s lent)
+next-after (Some i) s lent = tt
+next-after None s lent = tt
 
 upload-after : (p : Phase) (s : State) (lent : Lent) → Repaying s lent.journal → After (upload_from p s lent)
 upload-after Resting s lent h = h

@@ -1,4 +1,5 @@
 -- The message of a start is the one that the history says, field by field.
+use Rattle.std.specs.Prelude.{Some, None, Option}
 use mathlib.Core.Path.{◌≡◌, refl, sym, ap, ◌∙◌}
 use mathlib.Core.List.{List, [], ◌∷◌, ◌++◌, append_assoc, append-nil}
 use mathlib.Core.Bool.{Bool, true, false, cond, not, ◌&&◌, ◌||◌, and-eq-true_iff, and-false, true≢false}
@@ -15,7 +16,7 @@ use Rattle.digits.proofs.Packing.{length-unpack, unpack-digits}
 use Rattle.digits.proofs.Packed.{number-value}
 use Rattle.message.specs.Build.{Item, digits, bytes}
 use Rattle.message.specs.Message.{Field, field_of}
-use Rattle.reading.specs.declared.Reading.{Reading}
+use Rattle.reading.specs.Reading.{Reading, read_message}
 use Rattle.numbers.specs.Numbers.{within}
 use Rattle.numbers.proofs.Bounds.{within-bounds}
 use Rattle.numbers.specs.declared.Batch.{Batch}
@@ -33,11 +34,8 @@ use Rattle.desk.specs.declared.Desk.{Desk}
 use Rattle.desk.specs.DeskRules.{sends_field55, chip_from, chip_rules, desk_in_form, request_of}
 use Rattle.desk.proofs.Chips.{chip-passed, chip-length, chip_bytes_lem}
 use Rattle.call_definitions.specs.Start.{named_by, original_of, entry_of, start_rules}
-use Rattle.reading.specs.Reading.{read_message}
 use Rattle.writing.specs.Writing.{message_bytes}
 use Rattle.journal.specs.Journal.{entries_of, has_trace, is_original, nowhere, taken}
-use Rattle.journal.specs.declared.Found.{Found}
-use Rattle.journal.specs.declared.Found.TheVariants.{At, Nowhere}
 use Rattle.journal.proofs.Searches.{first_at}
 use Rattle.state.specs.declared.Chip.{Chip}
 use Rattle.state.specs.declared.State.{State}
@@ -291,14 +289,14 @@ module _ (l : ℕ) (s : State) (lent : Lent) (a : Account) (y : Standing) (vs : 
       rw (← stands.members.1, trace-said) (in_terms _ (void_fields s.settings s.batch trace d chip o v later t (original_form t) w h)),
     )
 
-    original-says : takes_original d.kind ≡ true → (k : Found) → original_of d es ≡ k → nowhere k ≡ false → (i : ℕ) × AtPlace i Voids vs
-    original-says t (At i) e n =
-        let first = first_at (is_original (original_kind d.kind) d.original.0) 0 es i (found_for d es (At i) e n) in
+    original-says : takes_original d.kind ≡ true → (k : Option ℕ) → original_of d es ≡ k → nowhere k ≡ false → (i : ℕ) × AtPlace i Voids vs
+    original-says t (Some i) e n =
+        let first = first_at (is_original (original_kind d.kind) d.original.0) 0 es i (found_for d es (Some i) e n) in
         let z : i - 0 ≡ i = omega arith in
         let holds = rw z at first.holds in
         let short = rw e at (original_form t).digits_most in
         (i, copied-place Voids i es vs booked exact (omega (arith, first.below)) short (λ v later h w. void_says v later t (rw e h) (rw e holds) (rw e w)))
-    original-says t Nowhere e n = absurd (true≢false n)
+    original-says t None e n = absurd (true≢false n)
 
     pub says-request : SaysRequest s.settings y vs d chip b
     says-request =

@@ -1,4 +1,5 @@
 -- Sign on, send reversal, settle and send next upload keep the invariant, and give what the history says.
+use Rattle.std.specs.Prelude.{Some, Option, None}
 use mathlib.Core.Path.{◌≡◌, refl, sym, ap, ◌∙◌}
 use mathlib.Core.List.{List, [], ◌∷◌, ◌++◌}
 use mathlib.Core.Bool.{Bool, true, false, cond, not, true≢false}
@@ -6,8 +7,6 @@ use Prim.Native.Nat.{ℕ, ◌+◌, ◌≤◌, ◌<◌}
 use native.Mathlib.Omega.{arith}
 use lib.Dec.{eqb}
 use lib.ListN.{length, drop}
-use Rattle.digits.specs.declared.Number.{Number}
-use Rattle.digits.specs.declared.Number.TheVariants.{Is}
 use Rattle.numbers.specs.declared.Batch.{Batch}
 use Rattle.numbers.specs.Limits.{last_number}
 use Rattle.numbers.specs.Numbers.{following}
@@ -18,15 +17,12 @@ use Rattle.field.specs.Bitmap.{names}
 use Rattle.message.specs.Build.{Item, has, digits, bytes, find}
 use Rattle.message.specs.Message.{Field, largest, field_of}
 use Rattle.message.specs.declared.Message.{Message}
-use Rattle.reading.specs.Reading.{read_message}
-use Rattle.reading.specs.declared.Reading.{Reading}
+use Rattle.reading.specs.Reading.{read_message, Reading}
 use Rattle.writing.specs.Writing.{message_bytes}
 use Rattle.entry.specs.Form.{in_form}
 use Rattle.entry.specs.declared.Entry.{Entry}
 use Rattle.entry.proofs.Form.{in_form_lem}
 use Rattle.journal.specs.Journal.{entries_of, entry_at, next_due, set_byte, taken, with_resends}
-use Rattle.journal.specs.declared.Found.{Found}
-use Rattle.journal.specs.declared.Found.TheVariants.{At as Place, Nowhere}
 use Rattle.journal.proofs.Entries.{set-resends}
 use Rattle.journal.proofs.Searches.{changed-same, every-at, next-at}
 use Rattle.state.specs.declared.Chip.{Chip}
@@ -106,8 +102,8 @@ unfolding is_upload
 upload_type m e = rw e
 
 -- field 60 has the number of the batch
-pub numbered : (s : State) (y : Standing) {x : Number} → x ≡ Is s.batch.0 → Members s y → x ≡ Is y.batch
-numbered s y e h = e ∙ ap Is h.1
+pub numbered : (s : State) (y : Standing) {x : Option ℕ} → x ≡ Some s.batch.0 → Members s y → x ≡ Some y.batch
+numbered s y e h = e ∙ ap Some h.1
 
 -- what reuses a trace is not counted and takes none
 pub sent-members : (s : State) (m : Message) (y : Standing) (end : Bool) → Typed false end false false m → s.chip.approved ≡ false → Members s y
@@ -257,7 +253,7 @@ module _ (l : ℕ) (t : State) (lent : Lent) (a : Account) (y : Standing) (n : �
   reversal_goes Uploading tied h f w = absurd (true≢false w)
 
   pub item_goes : (i : ℕ) → Tied l (in_phase Uploading t) a → Stands (in_phase Uploading t) lent.journal y → Fit (in_phase Uploading t) lent
-      → next_due (due Uploading) (entries_of t.entries lent.journal) ≡ Place i → Said send_next_upload_event y n (sends_next (Place i) (in_phase Uploading t) lent)
+      → next_due (due Uploading) (entries_of t.entries lent.journal) ≡ Some i → Said send_next_upload_event y n (sends_next (Some i) (in_phase Uploading t) lent)
   item_goes i tied h f e =
       let es = entries_of t.entries lent.journal in
       let x = entry_at es i in
@@ -267,7 +263,7 @@ module _ (l : ℕ) (t : State) (lent : Lent) (a : Account) (y : Standing) (n : �
       (settings-held l (in_phase Uploading t) lent a tied f) (entry-held t.entries i lent.journal g) g.kind_listed in
       let k = item-typed (message_in b) said.indicator said.code_number in
       let r = resent-entry t.entries i lent.journal (next-at es i e).below in
-      goes send_next_upload_event y n (sends_next (Place i) (in_phase Uploading t) lent) none
+      goes send_next_upload_event y n (sends_next (Some i) (in_phase Uploading t) lent) none
       (record {
         members = sent-members t (message_in b) y false k (unapproved Uploading t.chip f.order.state.chip refl) h.members;
         phase_is = (sent_at (message_in b) y uploading (rw k.is_settlement h.phase_is.stage_is), rw (r.0, r.1) said);
@@ -276,7 +272,7 @@ module _ (l : ℕ) (t : State) (lent : Lent) (a : Account) (y : Standing) (n : �
       (upload_type (message_in b) said.indicator, numbered t y said.batch_number h.members)
 
   pub end_goes : Tied l (in_phase Uploading t) a → Stands (in_phase Uploading t) lent.journal y → Fit (in_phase Uploading t) lent
-      → Said send_next_upload_event y n (sends_next Nowhere (in_phase Uploading t) lent)
+      → Said send_next_upload_event y n (sends_next None (in_phase Uploading t) lent)
   end_goes tied h f =
       let trace : Trace = record { 0 = taken (entries_of t.entries lent.journal) t.next.0 } in
       let b = handed_out (message_bytes (end_message t.settings t.batch trace)) lent.message in
@@ -286,7 +282,7 @@ module _ (l : ℕ) (t : State) (lent : Lent) (a : Account) (y : Standing) (n : �
       let number = management_trace t.settings t.batch trace b 0x0320 202
       (end_sent t.settings t.batch lent.message trace (settings-held l (in_phase Uploading t) lent a tied f) f.message_room)
       (taken_range (entries_of t.entries lent.journal) t.next.0 f.order.state.next_least f.order.state.next_most).1 in
-      goes send_next_upload_event y n (sends_next Nowhere (in_phase Uploading t) lent) none
+      goes send_next_upload_event y n (sends_next None (in_phase Uploading t) lent) none
       (record {
         members = new-members t (message_in b) y trace k.is_request (end_new (message_in b) k) number (unapproved Uploading t.chip f.order.state.chip refl) h.members;
         phase_is = (sent_at (message_in b) y uploading (rw k.is_settlement h.phase_is.stage_is), said);
@@ -294,10 +290,10 @@ module _ (l : ℕ) (t : State) (lent : Lent) (a : Account) (y : Standing) (n : �
       })
       (upload_type (message_in b) said.indicator, numbered t y said.batch_number h.members)
 
-  next_goes : (x : Found) → next_due (due Uploading) (entries_of t.entries lent.journal) ≡ x → Tied l (in_phase Uploading t) a
+  next_goes : (x : Option ℕ) → next_due (due Uploading) (entries_of t.entries lent.journal) ≡ x → Tied l (in_phase Uploading t) a
       → Stands (in_phase Uploading t) lent.journal y → Fit (in_phase Uploading t) lent → Said send_next_upload_event y n (sends_next x (in_phase Uploading t) lent)
-  next_goes (Place i) e tied h f = item_goes i tied h f e
-  next_goes Nowhere e tied h f = end_goes tied h f
+  next_goes (Some i) e tied h f = item_goes i tied h f e
+  next_goes None e tied h f = end_goes tied h f
 
   upload_goes : (p : Phase) → Tied l (in_phase p t) a → Stands (in_phase p t) lent.journal y → Fit (in_phase p t) lent → not (state.uploads p) ≡ false
       → Said send_next_upload_event y n (upload_from p (in_phase p t) lent)

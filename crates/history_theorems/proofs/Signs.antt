@@ -1,4 +1,5 @@
 -- The invariant of sign-ons: the one that is awaited is the one that was sent last.
+use Rattle.std.specs.Prelude.{Some, None, Option}
 use mathlib.Core.Path.{◌≡◌, refl, sym, ap, ◌∙◌}
 use mathlib.Core.List.{List}
 use mathlib.Core.Bool.{Bool, true, false, cond, ◌&&◌, and-true, and_assoc, true≢false}
@@ -6,8 +7,6 @@ use Prim.Native.Nat.{ℕ}
 use native.Mathlib.Omega.{arith}
 use lib.Dec.{leb, eqb}
 use borrow.Author.Tests.{eqb-true, ne_eqb, not-false}
-use Rattle.digits.specs.declared.Number.{Number}
-use Rattle.digits.specs.declared.Number.TheVariants.{Is, Not}
 use Rattle.digits.specs.Packed.{numeral}
 use Rattle.numbers.specs.Numbers.{within, is_number}
 use Rattle.numbers.specs.declared.Batch.{Batch}
@@ -15,9 +14,7 @@ use Rattle.numbers.specs.declared.Trace.{Trace}
 use Rattle.field.specs.Bitmap.{names}
 use Rattle.message.specs.Message.{empty}
 use Rattle.message.specs.declared.Message.{Message}
-use Rattle.reading.specs.Reading.{read_message}
-use Rattle.reading.specs.declared.ReadOutcome.{ReadOutcome}
-use Rattle.reading.specs.declared.ReadOutcome.TheVariants.{Read, Refused as Unread}
+use Rattle.reading.specs.Reading.{read_message, ReadOutcome, Read, Refused as Unread}
 use Rattle.parts.specs.Parts.{matches, part_of}
 use Rattle.parts.specs.declared.Part.TheVariants as part
 use Rattle.journal.specs.Journal.{entries_of, taken}
@@ -108,22 +105,22 @@ unfolding within
 kept-number x true e = e
 kept-number x false e = refl
 
-brings_alike : (n : Number) → is_number (brought_by n) ≡ (leb 1 (numeral n) && leb (numeral n) 999999)
+brings_alike : (n : Option ℕ) → is_number (brought_by n) ≡ (leb 1 (numeral n) && leb (numeral n) 999999)
 unfolding within
-brings_alike (Is x) = kept-number x (is_number x) refl
-brings_alike Not = refl
+brings_alike (Some x) = kept-number x (is_number x) refl
+brings_alike None = refl
 
 pub number_alike : (a : Message) → (match.batch_in a).0 ≡ cond (is_number (match.batch_in a).0) (batch_in a) 0
 unfolding match.batch_in batch_in within
 number_alike a = go (part_of a part.Batch)
   where
-    go : (n : Number) → brought_by n ≡ cond (is_number (brought_by n)) (numeral n) 0
-    go (Is x) = inner (is_number x) refl
+    go : (n : Option ℕ) → brought_by n ≡ cond (is_number (brought_by n)) (numeral n) 0
+    go (Some x) = inner (is_number x) refl
       where
         inner : (b : Bool) → is_number x ≡ b → cond b x 0 ≡ cond (is_number (cond b x 0)) x 0
         inner true e = rw e
         inner false e = refl
-    go Not = refl
+    go None = refl
 
 -- the answer to a sign-on is accepted exactly where it matches
 module _ {x : Settings} {batch : Batch} {trace : Trace} {m : Message} (h : Says x batch trace 0x0800 0 3 m) (a : Message) where

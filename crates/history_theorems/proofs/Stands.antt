@@ -8,9 +8,7 @@ use Rattle.digits.specs.Numbers.{digits_of}
 use Rattle.message.specs.Build.{Item, digits, bytes, has, find}
 use Rattle.message.specs.Message.{field_of}
 use Rattle.message.specs.declared.Message.{Message}
-use Rattle.reading.specs.Reading.{read_message}
-use Rattle.reading.specs.declared.Reading.{Reading}
-use Rattle.reading.specs.declared.ReadOutcome.TheVariants.{Read}
+use Rattle.reading.specs.Reading.{read_message, Reading, Read}
 use Rattle.answer_match.specs.Match.{approves_request, approval_holds}
 use Rattle.approval.specs.Approval.{approval_of}
 use Rattle.numbers.specs.declared.Batch.{Batch}

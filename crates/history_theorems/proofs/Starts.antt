@@ -1,4 +1,5 @@
 -- Start keeps the invariant, and gives what the history says.
+use Rattle.std.specs.Prelude.{Some, None, Option}
 use mathlib.Core.Path.{◌≡◌, refl, sym, ap, ◌∙◌}
 use mathlib.Core.List.{List, [], ◌∷◌, ◌++◌}
 use mathlib.Core.Bool.{Bool, true, false, cond, not, ◌&&◌, ◌||◌, and-eq-true_iff, true≢false}
@@ -11,8 +12,6 @@ use Rattle.numbers.specs.declared.Batch.{Batch}
 use Rattle.writing.specs.Writing.{message_bytes}
 use Rattle.entry.specs.declared.Entry.{Entry}
 use Rattle.journal.specs.Journal.{entries_of, entry_at, is_original, original_for, nowhere, taken, totals_of}
-use Rattle.journal.specs.declared.Found.{Found}
-use Rattle.journal.specs.declared.Found.TheVariants.{At, Nowhere}
 use Rattle.journal.proofs.Searches.{first_at}
 use Rattle.elements.specs.Elements.{chip_in_form}
 use Rattle.field.specs.Table.{among}
@@ -29,7 +28,6 @@ use Rattle.checks.specs.Checks.{Rule, first_broken}
 use Rattle.rules.proofs.InOrder.{Fit}
 use Rattle.state_rules.proofs.Holds.{request-holds}
 use Rattle.digits.specs.Numbers.{digits_of}
-use Rattle.digits.specs.declared.Number.TheVariants.{Is}
 use Rattle.digits.proofs.Numbers.{digits_of_digits}
 use Rattle.message.specs.declared.Message.{Message}
 use Rattle.parts.specs.Parts.{part_of}
@@ -129,11 +127,11 @@ request-members : (s : State) (m : Message) (y : Standing) (c : Chip) (q : Reque
 unfolding is_new next following
 request-members s m y c q e t u h = (h.0, h.1, rw e (ap (λ (n : ℕ). n + 1) h.2), rw (e, t), u)
 
-trace-said : (m : Message) (n : ℕ) → part_of m part.Trace ≡ Is n → trace_in m ≡ n
+trace-said : (m : Message) (n : ℕ) → part_of m part.Trace ≡ Some n → trace_in m ≡ n
 unfolding trace_in
 trace-said m n e = rw e
 
-original-said : (m : Message) (n : ℕ) → part_of m part.OriginalTrace ≡ Is n → original_in m ≡ n
+original-said : (m : Message) (n : ℕ) → part_of m part.OriginalTrace ≡ Some n → original_in m ≡ n
 unfolding original_in
 original-said m n e = rw e
 
@@ -147,11 +145,11 @@ original_there x batch c q o t =
     c (λ e. (rw t, rw t)) (λ e. (rw t, rw t))
 
 -- an original that is found has the trace by which it was looked for
-found-trace : (kind x : ℕ) (es : List Entry) (f : Found) → original_for kind x es ≡ f → nowhere f ≡ false → (entry_of f es).trace.0 ≡ x
-found-trace kind x es (At i) e n =
+found-trace : (kind x : ℕ) (es : List Entry) (f : Option ℕ) → original_for kind x es ≡ f → nowhere f ≡ false → (entry_of f es).trace.0 ≡ x
+found-trace kind x es (Some i) e n =
     let z : i - 0 ≡ i = omega arith in
     original-trace (original_kind kind) x (entry_at es i) (rw z at (first_at (is_original (original_kind kind) x) 0 es i e).holds)
-found-trace kind x es Nowhere e n = absurd (true≢false n)
+found-trace kind x es None e n = absurd (true≢false n)
 
 -- what a request names of an earlier one is no field 55
 no_chip_lem : (kind : ℕ) (o : Original) → has (original_fields kind o) 55 ≡ false

@@ -1,4 +1,5 @@
 -- Each new message takes the first trace after the last one taken that no approved request of the batch has.
+use Rattle.std.specs.Prelude.{Some, None, Option}
 use mathlib.Core.Path.{◌≡◌, refl, sym, ap, ◌∙◌}
 use mathlib.Core.List.{List, [], ◌∷◌, ◌++◌}
 use mathlib.Core.Bool.{Bool, true, false, cond, not, ◌&&◌, ◌||◌, true≢false}
@@ -11,8 +12,6 @@ use Rattle.numbers.specs.Numbers.{following}
 use Rattle.entry.specs.declared.Entry.{Entry}
 use Rattle.numbers.specs.declared.Trace.{Trace}
 use Rattle.journal.specs.Journal.{entries_of, next_due, has_trace, absent, taken, taken_from}
-use Rattle.journal.specs.declared.Found.{Found}
-use Rattle.journal.specs.declared.Found.TheVariants.{At as Place, Nowhere}
 use Rattle.journal.proofs.Entries.{length-entries_le}
 use Rattle.journal.proofs.Traces.{absent_more}
 use Rattle.traces.proofs.Absent.{absent_none}
@@ -213,20 +212,20 @@ module _ (l : ℕ) (s : State) (lent : Lent) (a : Account) (y : Standing) (xs : 
 
 item-traced : (l : ℕ) (t : State) (lent : Lent) (a : Account) (y : Standing) (xs : List Approval) (i : ℕ) → Tied l (in_phase Uploading t) a
     → Stands (in_phase Uploading t) lent.journal y → Fit (in_phase Uploading t) lent
-    → next_due (due Uploading) (entries_of t.entries lent.journal) ≡ Place i → Traced y xs (sends_next (Place i) (in_phase Uploading t) lent)
+    → next_due (due Uploading) (entries_of t.entries lent.journal) ≡ Some i → Traced y xs (sends_next (Some i) (in_phase Uploading t) lent)
 unfolding is_new
 item-traced l t lent a y xs i tied d f e =
     let said = (item_goes l t lent a y 0 refl i tied d f e).stands.phase_is.1 in
     let k = item-typed _ said.indicator said.code_number in
-    reuses y xs (sends_next (Place i) (in_phase Uploading t) lent) _ refl (rw (k.is_request, k.is_settlement, k.is_end, k.is_sign_on))
+    reuses y xs (sends_next (Some i) (in_phase Uploading t) lent) _ refl (rw (k.is_request, k.is_settlement, k.is_end, k.is_sign_on))
 
-next-traced : (x : Found) (l : ℕ) (t : State) (lent : Lent) (a : Account) (y : Standing) (xs : List Approval)
+next-traced : (x : Option ℕ) (l : ℕ) (t : State) (lent : Lent) (a : Account) (y : Standing) (xs : List Approval)
     → next_due (due Uploading) (entries_of t.entries lent.journal) ≡ x → Tied l (in_phase Uploading t) a
     → Stands (in_phase Uploading t) lent.journal y → Booked t lent.journal xs → Fit (in_phase Uploading t) lent
     → Traced y xs (sends_next x (in_phase Uploading t) lent)
-next-traced (Place i) l t lent a y xs e tied d h f = item-traced l t lent a y xs i tied d f e
-next-traced Nowhere l t lent a y xs e tied d h f =
-    takes-trace y xs (sends_next Nowhere (in_phase Uploading t) lent) _ (taken (entries_of t.entries lent.journal) t.next.0) refl
+next-traced (Some i) l t lent a y xs e tied d h f = item-traced l t lent a y xs i tied d f e
+next-traced None l t lent a y xs e tied d h f =
+    takes-trace y xs (sends_next None (in_phase Uploading t) lent) _ (taken (entries_of t.entries lent.journal) t.next.0) refl
     (end_goes l t lent a y 0 refl tied d f).stands.details (takes (in_phase Uploading t) lent y xs f d h)
 
 upload_from_lem : (p : Phase) (l : ℕ) (t : State) (lent : Lent) (a : Account) (y : Standing) (xs : List Approval) → Tied l (in_phase p t) a

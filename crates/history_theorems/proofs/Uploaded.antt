@@ -1,4 +1,5 @@
 -- The marks of the journal are the progress of the upload, after each call; what an upload sends is the next item.
+use Rattle.std.specs.Prelude.{Some, None, Option}
 use mathlib.Core.Path.{◌≡◌, refl, sym}
 use mathlib.Core.List.{List, [], ◌∷◌, ◌++◌}
 use mathlib.Core.Bool.{Bool, true, false, cond, not, ◌&&◌, ◌||◌, and-eq-true_iff, and-false, true≢false}
@@ -8,13 +9,10 @@ use lib.Dec.{eqb, leb}
 use borrow.Author.Tests.{eqb-true}
 use Rattle.field.specs.Bitmap.{names}
 use Rattle.message.specs.declared.Message.{Message}
-use Rattle.reading.specs.Reading.{read_message}
-use Rattle.reading.specs.declared.ReadOutcome.TheVariants.{Read}
+use Rattle.reading.specs.Reading.{read_message, Read}
 use Rattle.kinds.specs.Kinds.{is_never_reversed, takes_original}
 use Rattle.entry.specs.declared.Entry.{Entry}
 use Rattle.journal.specs.Journal.{entries_of, entry_at, original_for, is_at, next_due, with_mark}
-use Rattle.journal.specs.declared.Found.{Found}
-use Rattle.journal.specs.declared.Found.TheVariants.{At as Found_at, Nowhere}
 use Rattle.journal.proofs.Entries.{set_mark, set-voided}
 use Rattle.journal.proofs.Searches.{next-at}
 use Rattle.state.specs.declared.Awaited.{Awaited}
@@ -92,9 +90,9 @@ silent-marked l e (uploads.silent n) h m = rw (h.0, ← h.1) (go (leb l e.resend
 silent-marked l e ended h m = absurd (omega arith)
 
 -- an awaited item is not decided yet
-item_mark : (es : List Entry) (i : ℕ) (f : Found) → next_due (due Uploading) es ≡ f → is_at f i ≡ true → (entry_at es i).mark ≤ 1
-item_mark es i (Found_at k) e h = rw (eqb-true k i h) at (next-at es k e).mark_most
-item_mark es i Nowhere e h = absurd (true≢false (sym h))
+item_mark : (es : List Entry) (i : ℕ) (f : Option ℕ) → next_due (due Uploading) es ≡ f → is_at f i ≡ true → (entry_at es i).mark ≤ 1
+item_mark es i (Some k) e h = rw (eqb-true k i h) at (next-at es k e).mark_most
+item_mark es i None e h = absurd (true≢false (sym h))
 
 -- which messages are items
 item-said : (m : Message) → Typed false false false false m → m.indicator ≡ 0x0320 → is_item m ≡ true
@@ -182,9 +180,9 @@ voided-marks : (n : ℕ) (q : Request) (j : List ℕ) (ps : List Progress) → M
 unfolding original_voided
 voided-marks n q j ps h = go (takes_original q.kind) (original_for q.kind q.original.0 (entries_of n j))
   where
-    go : (b : Bool) (f : Found) → Marks (entries_of n (cond b (voided_at f j) j)) ps
-    go true (Found_at i) = rw (set-voided n i 1 j) (marks-voided i (entries_of n j) ps h)
-    go true Nowhere = h
+    go : (b : Bool) (f : Option ℕ) → Marks (entries_of n (cond b (voided_at f j) j)) ps
+    go true (Some i) = rw (set-voided n i 1 j) (marks-voided i (entries_of n j) ps h)
+    go true None = h
     go false f = h
 
 approved-unsent : (q : Request) (v : Approval) → IsMarked (approved_entry q v) unsent

@@ -1,14 +1,11 @@
 -- Which calls are refused, by which number, and what the others give: for every list of calls, from where the history says that the
 -- terminal stands. Nothing here is the terminal's own but the reading of messages.
-use Rattle.std.specs.Prelude.{◌≡◌, List, [], ◌∷◌, ◌++◌, Bool, true, false, cond, not, ◌&&◌, ◌||◌, ℕ, ◌≤◌, ◌<◌, ltb, eqb}
+use Rattle.std.specs.Prelude.{◌≡◌, List, [], ◌∷◌, ◌++◌, Bool, true, false, cond, not, ◌&&◌, ◌||◌, ℕ, ◌≤◌, ◌<◌, ltb, eqb, Some}
 use Rattle.field.specs.Table.{among}
 use Rattle.field.specs.Bitmap.{names}
 use Rattle.message.specs.Message.{field_of}
 use Rattle.message.specs.declared.Message.{Message}
-use Rattle.reading.specs.Reading.{read_message}
-use Rattle.reading.specs.declared.ReadOutcome.{ReadOutcome}
-use Rattle.reading.specs.declared.ReadOutcome.TheVariants.{Read, Refused}
-use Rattle.digits.specs.declared.Number.TheVariants.{Is}
+use Rattle.reading.specs.Reading.{read_message, ReadOutcome, Read, Refused}
 use Rattle.parts.specs.Parts.{part_of}
 use Rattle.parts.specs.declared.Part.TheVariants as part
 use Rattle.state.specs.declared.Settings.{Settings}
@@ -79,7 +76,7 @@ is_upload m = eqb m.indicator 0x0320
 
 -- a message of this type leaves, and field 60 has the number of the batch
 abbrev pub Sends : (Message → Bool) → ℕ → Given → Type 0
-Sends p batch (sent b) = (p (message_in b) ≡ true) × (part_of (message_in b) part.Batch ≡ Is batch)
+Sends p batch (sent b) = (p (message_in b) ≡ true) × (part_of (message_in b) part.Batch ≡ Some batch)
 Sends p batch quiet = ⊥
 Sends p batch (refused n) = ⊥
 
@@ -106,7 +103,7 @@ pub record Reverses (m : Message) (x : Standing) : Type 0 where
   pub same : EachOf (λ n. field_of m n ≡ field_of x.request n) card_fields
   pub chip_same : carries_chip x.request ≡ true → field_of m 55 ≡ field_of x.request 55
   pub reason_is : (field_of m 39).bytes ≡ x.reason
-  pub batch_is : part_of m part.Batch ≡ Is x.batch
+  pub batch_is : part_of m part.Batch ≡ Some x.batch
 
 abbrev pub SendsReversal : Standing → Given → Type 0
 SendsReversal x (sent b) = Reverses (message_in b) x

@@ -1,2 +1,3 @@
 -- Laws of the image's code.
 pub mod Region
+pub mod Rows

@@ -2,13 +2,11 @@
 // number of the state. After the rows stands a region of bytes, those of the chip.
 #![tactic(auto)]
 
-ghost use Rattle.std.specs.Prelude.{◌≡◌, ◌++◌, ◌+◌, ◌%◌, ◌^◌, ◌≤◌, length, take, drop};
-ghost use Rattle.digits.specs.Lists.{same_bytes};
+ghost use Rattle.std.specs.Prelude.{◌≡◌, ◌+◌, ◌≤◌, length};
 ghost use Rattle.field.specs.Bitmap.{word_of};
-ghost use Rattle.image_definitions.specs.Layout.{widths, region_offset, size, bytes_of, numbers_in};
-ghost use Rattle.image_definitions.specs.Image.{reason_value, request_values, reversal_values, plain_values, awaited_values, phase_values, flag_value, member_values, settings_values, counts_values, totals_values, chip_values, values_of, row_bytes, region_of, image, merchant_of, settings_of, counts_of, totals_in, request_of, reason_of, reversal_of, phase_of, chip_in, state_of, refused, read_image};
+ghost use Rattle.image_definitions.specs.Layout.{widths, region_offset, size, bytes_of, laid_in, numbers_in};
+ghost use Rattle.image_definitions.specs.Image.{reason_value, request_values, reversal_values, plain_values, awaited_values, phase_values, member_values, settings_values, counts_values, totals_values, chip_values, values_of, region_of, image, settings_of, counts_of, totals_in, request_of, reason_of, reversal_of, phase_of, chip_in, state_of, reading_of, read_image};
 
-use image_definitions::Reading;
 use kinds::Totals;
 use numbers::{Batch, Trace};
 use state::{Awaited, Card, Chip, Counts, Phase, Reason, Request, Reversal, Settings, State};
@@ -21,14 +19,14 @@ const VERSION: u64 = 5;
 
 pub const ROWS: usize = 35;
 
-// Where the region stands, and its parts after field 55: date, authorisation, reference.
+// Where the region stands, and in it its parts after field 55: date, authorisation, reference.
 const REGION: usize = 140;
 
-const DATE: usize = 395;
+const DATE: usize = 255;
 
-const AUTHORISATION: usize = 397;
+const AUTHORISATION: usize = 257;
 
-const REFERENCE: usize = 403;
+const REFERENCE: usize = 263;
 
 // The bytes of each number, in the image's order.
 const WIDTHS: [usize; ROWS] = [
@@ -70,134 +68,78 @@ const WIDTHS: [usize; ROWS] = [
 ];
 
 // The image of a state.
+#[tactic(auto, using(crate::proofs::Region::image_put))]
 pub fn image_of(s: State) -> [u8; SIZE]
     ensures { result ≡ image s }
 {
-    let chip = s.chip;
-    let rows = row_bytes(s);
-    with_region(chip, put(&rows, 0, [0u8; SIZE]))
+    let values = values_of(s);
+    let mut out = [0; SIZE];
+    put_rows(&values, &mut out[..REGION]);
+    put_region(s.chip, &mut out[REGION..]);
+    out
 }
 
 // The state whose image these bytes are; all others are refused. The region is carried as it stands, so the rows decide.
-pub fn read(b: &[u8]) -> Reading
-    ensures { result ≡ read_image b.now }
+pub fn read(b: &[u8]) -> Option<State>
+    ensures { reading_of result ≡ read_image b.now }
 {
     if b.len() != SIZE {
-        return refused();
+        return None;
     }
     let numbers = numbers_in(b);
     let state = state_of(numbers, &b[REGION..]);
-    let again = values_of(state);
-    if same_numbers(&numbers, &again) {
-        return Reading {
-            accepted: true,
-            state: state,
-        };
-    }
-    refused()
-}
-
-fn refused() -> Reading
-    ensures { result ≡ refused }
-{
-    let settings = Settings {
-        limit: 0,
-        sendings: 0,
-        refund: 0,
-        terminal: [0u8; 8],
-        merchant: [0u8; 15],
-    };
-    Reading {
-        accepted: false,
-        state: State::new(settings),
+    if numbers == values_of(state) {
+        Some(state)
+    } else {
+        None
     }
 }
 
-// The bytes of the rows.
-fn row_bytes(s: State) -> [u8; REGION]
-    ensures { result ≡ row_bytes s }
+// Fills out with the numbers of the rows.
+fn put_rows(values: &[u64; ROWS], out: &mut [u8])
+    requires { length out.old ≡ region_offset }
+    ensures { out.new ≡ laid_in widths values.now }
 {
-    let values = values_of(s);
-    let widths = WIDTHS;
-    let mut out = [0u8; REGION];
     let mut at = 0;
-    let mut k = 0;
-    while k < ROWS {
-        let end = at + widths[k];
+    for (k, width) in WIDTHS.iter().enumerate() {
+        let end = at + width;
         put_number(values[k], &mut out[at..end]);
         at = end;
-        k += 1;
     }
-    out
 }
 
-// The bytes with the region of a chip.
-fn with_region(c: Chip, b: [u8; SIZE]) -> [u8; SIZE]
-    ensures { result ≡ take region_offset b ++ region_of c }
+// Fills out with the region of a chip.
+fn put_region(c: Chip, out: &mut [u8])
+    requires { length out.old + region_offset ≡ size }
+    ensures { out.new ≡ region_of c }
 {
-    let field55 = c.bytes;
-    let date = c.date;
-    let authorisation = c.authorisation;
-    let reference = c.reference;
-    let to387 = put(&field55, REGION, b);
-    let to389 = put(&date, DATE, to387);
-    let to395 = put(&authorisation, AUTHORISATION, to389);
-    put(&reference, REFERENCE, to395)
-}
-
-// The bytes with others from a place on.
-fn put(x: &[u8], at: usize, b: [u8; SIZE]) -> [u8; SIZE]
-    requires { at + length x.now ≤ size }
-    ensures { result ≡ take at b ++ (x.now ++ drop (at + length x.now) b) }
-{
-    let mut out = b;
-    let end = at + x.len();
-    digits::copy(x, &mut out[at..end]);
-    out
+    digits::copy(&c.bytes, &mut out[..DATE]);
+    digits::copy(&c.date, &mut out[DATE..AUTHORISATION]);
+    digits::copy(&c.authorisation, &mut out[AUTHORISATION..REFERENCE]);
+    digits::copy(&c.reference, &mut out[REFERENCE..]);
 }
 
 // Fills out with the last bytes of a number.
 fn put_number(x: u64, out: &mut [u8])
     ensures { out.new ≡ bytes_of (length out.old) x }
 {
-    let mut i = out.len();
     let mut y = x;
-    while 0 < i {
-        i -= 1;
+    for i in (0..out.len()).rev() {
         out[i] = (y % 256) as u8;
         y /= 256;
     }
 }
 
-// The number that so many bytes say, from a place on.
-fn number_in(b: &[u8], at: usize, width: usize) -> u64
-    requires { (at + width ≤ length b.now) × (width ≤ 8) }
-    ensures { result ≡ word_of width (drop at b.now) }
+// The number that bytes say.
+fn number_in(b: &[u8]) -> u64
+    requires { length b.now ≤ 8 }
+    ensures { result ≡ word_of (length b.now) b.now }
 {
-    let mut word: u64 = 0;
-    let mut i = 0;
-    while i < width {
-        word = word * 256 + b[at + i] as u64;
-        i += 1;
+    let mut word = 0;
+    for &x in b {
+        word = word * 256 + u64::from(x);
     }
     word
-}
-
-// Whether two slices hold the same numbers.
-fn same_numbers(a: &[u64], b: &[u64]) -> bool
-    ensures { result ≡ same_bytes a.now b.now }
-{
-    if a.len() != b.len() {
-        return false;
-    }
-    let mut i = 0;
-    while i < a.len() {
-        if a[i] != b[i] {
-            return false;
-        }
-        i += 1;
-    }
-    true
 }
 
 // The number of each row.
@@ -205,15 +147,12 @@ fn numbers_in(b: &[u8]) -> [u64; ROWS]
     requires { length b.now ≡ size }
     ensures { result ≡ numbers_in widths b.now }
 {
-    let widths = WIDTHS;
-    let mut numbers = [0u64; ROWS];
+    let mut numbers = [0; ROWS];
     let mut at = 0;
-    let mut k = 0;
-    while k < ROWS {
-        let width = widths[k];
-        numbers[k] = number_in(b, at, width);
-        at += width;
-        k += 1;
+    for (k, width) in WIDTHS.iter().enumerate() {
+        let end = at + width;
+        numbers[k] = number_in(&b[at..end]);
+        at = end;
     }
     numbers
 }
@@ -222,18 +161,12 @@ fn numbers_in(b: &[u8]) -> [u64; ROWS]
 pub fn values_of(s: State) -> [u64; ROWS]
     ensures { result ≡ values_of s }
 {
-    let settings = s.settings;
-    let counts = s.counts;
-    let totals = s.totals;
-    let chip = s.chip;
-    let phase = s.phase;
-    let sign_on = s.sign_on;
-    let x = settings_values(settings);
+    let x = settings_values(s.settings);
     let m = member_values(s);
-    let c = counts_values(counts);
-    let t = totals_values(totals);
-    let p = phase_values(phase);
-    let k = chip_values(chip);
+    let c = counts_values(s.counts);
+    let t = totals_values(s.totals);
+    let p = phase_values(s.phase);
+    let k = chip_values(s.chip);
     [
         VERSION,
         x[0],
@@ -269,22 +202,20 @@ pub fn values_of(s: State) -> [u64; ROWS]
         k[0],
         k[1],
         k[2],
-        sign_on.0 as u64,
+        u64::from(s.sign_on.0),
     ]
 }
 
 fn settings_values(x: Settings) -> [u64; 6]
     ensures { result ≡ settings_values x }
 {
-    let terminal = x.terminal;
-    let merchant = x.merchant;
     [
-        x.limit as u64,
-        x.sendings as u64,
+        u64::from(x.limit),
+        u64::from(x.sendings),
         x.refund,
-        number_in(&terminal, 0, 8),
-        number_in(&merchant, 0, 8),
-        number_in(&merchant, 8, 7),
+        number_in(&x.terminal),
+        number_in(&x.merchant[..8]),
+        number_in(&x.merchant[8..]),
     ]
 }
 
@@ -292,46 +223,38 @@ fn settings_values(x: Settings) -> [u64; 6]
 fn member_values(s: State) -> [u64; 4]
     ensures { result ≡ member_values s }
 {
-    let batch = s.batch;
-    let next = s.next;
     [
-        flag_value(s.signed_on),
-        batch.0 as u64,
-        next.0 as u64,
-        s.entries as u64,
+        u64::from(s.signed_on),
+        u64::from(s.batch.0),
+        u64::from(s.next.0),
+        u64::from(s.entries),
     ]
-}
-
-fn flag_value(on: bool) -> u64
-    ensures { result ≡ flag_value on }
-{
-    if on { 1 } else { 0 }
 }
 
 fn counts_values(c: Counts) -> [u64; 6]
     ensures { result ≡ counts_values c }
 {
     [
-        c.sent as u64,
-        c.approved as u64,
-        c.declined as u64,
-        c.reversed as u64,
-        c.given_up as u64,
-        c.unanswered as u64,
+        u64::from(c.sent),
+        u64::from(c.approved),
+        u64::from(c.declined),
+        u64::from(c.reversed),
+        u64::from(c.given_up),
+        u64::from(c.unanswered),
     ]
 }
 
 fn totals_values(t: Totals) -> [u64; 4]
     ensures { result ≡ totals_values t }
 {
-    [t.debit, t.debits as u64, t.credit, t.credits as u64]
+    [t.debit, u64::from(t.debits), t.credit, u64::from(t.credits)]
 }
 
 // Length of field 55, approved, for which amount.
 fn chip_values(c: Chip) -> [u64; 3]
     ensures { result ≡ chip_values c }
 {
-    [c.length as u64, flag_value(c.approved), c.amount]
+    [u64::from(c.length), u64::from(c.approved), c.amount]
 }
 
 fn phase_values(p: Phase) -> [u64; 10]
@@ -352,34 +275,29 @@ fn awaited_values(a: Awaited) -> [u64; 10]
     match a {
         Awaited::Request(q) => request_values(1, q, 0, 0),
         Awaited::Reversal(v) => reversal_values(2, v),
-        Awaited::Settlement(t) => plain_values(3, t.0 as u64),
-        Awaited::Item(i) => plain_values(4, i as u64),
-        Awaited::End(t) => plain_values(5, t.0 as u64),
+        Awaited::Settlement(t) => plain_values(3, u64::from(t.0)),
+        Awaited::Item(i) => plain_values(4, u64::from(i)),
+        Awaited::End(t) => plain_values(5, u64::from(t.0)),
     }
 }
 
 fn reversal_values(p: u64, v: Reversal) -> [u64; 10]
     ensures { result ≡ reversal_values p v }
 {
-    let request = v.request;
-    let reason = v.reason;
-    request_values(p, request, reason_value(reason), v.sendings as u64)
+    request_values(p, v.request, reason_value(v.reason), u64::from(v.sendings))
 }
 
 fn request_values(p: u64, q: Request, reason: u64, sendings: u64) -> [u64; 10]
     ensures { result ≡ request_values p q reason sendings }
 {
-    let card = q.card;
-    let trace = q.trace;
-    let original = q.original;
     [
         p,
-        q.kind as u64,
+        u64::from(q.kind),
         q.amount,
-        card.number,
-        card.length as u64,
-        trace.0 as u64,
-        original.0 as u64,
+        q.card.number,
+        u64::from(q.card.length),
+        u64::from(q.trace.0),
+        u64::from(q.original.0),
         reason,
         sendings,
         0,
@@ -407,25 +325,17 @@ fn state_of(v: [u64; ROWS], region: &[u8]) -> State
     requires { length region.now + region_offset ≡ size }
     ensures { result ≡ state_of v region.now }
 {
-    let settings = settings_of(&v[1..7]);
-    let counts = counts_of(&v[11..17]);
-    let totals = totals_in(&v[17..21]);
-    let phase = phase_of(&v[21..31]);
-    let chip = chip_in(&v[31..34], region);
-    let sign_on = Trace(low32(v[34]));
-    let batch = Batch(low32(v[8]));
-    let next = Trace(low32(v[9]));
     State {
-        settings: settings,
+        settings: settings_of(&v[1..7]),
         signed_on: v[7] == 1,
-        sign_on: sign_on,
-        batch: batch,
-        next: next,
-        entries: low16(v[10]),
-        counts: counts,
-        totals: totals,
-        chip: chip,
-        phase: phase,
+        sign_on: Trace((v[34] & 0xffff_ffff) as u32),
+        batch: Batch((v[8] & 0xffff_ffff) as u32),
+        next: Trace((v[9] & 0xffff_ffff) as u32),
+        entries: (v[10] & 0xffff) as u16,
+        counts: counts_of(&v[11..17]),
+        totals: totals_in(&v[17..21]),
+        chip: chip_in(&v[31..34], region),
+        phase: phase_of(&v[21..31]),
     }
 }
 
@@ -433,25 +343,18 @@ fn settings_of(v: &[u64]) -> Settings
     requires { length v.now ≡ 6 }
     ensures { result ≡ settings_of v.now }
 {
-    let mut terminal = [0u8; 8];
+    let mut terminal = [0; 8];
+    let mut merchant = [0; 15];
     put_number(v[3], &mut terminal);
-    let merchant = merchant_of(v[4], v[5]);
+    put_number(v[4], &mut merchant[..8]);
+    put_number(v[5], &mut merchant[8..]);
     Settings {
-        limit: low32(v[0]),
-        sendings: low8(v[1]),
+        limit: (v[0] & 0xffff_ffff) as u32,
+        sendings: (v[1] & 0xff) as u8,
         refund: v[2],
-        terminal: terminal,
-        merchant: merchant,
+        terminal,
+        merchant,
     }
-}
-
-fn merchant_of(x: u64, y: u64) -> [u8; 15]
-    ensures { result ≡ merchant_of x y }
-{
-    let mut out = [0u8; 15];
-    put_number(x, &mut out[..8]);
-    put_number(y, &mut out[8..]);
-    out
 }
 
 fn counts_of(v: &[u64]) -> Counts
@@ -459,12 +362,12 @@ fn counts_of(v: &[u64]) -> Counts
     ensures { result ≡ counts_of v.now }
 {
     Counts {
-        sent: low32(v[0]),
-        approved: low32(v[1]),
-        declined: low32(v[2]),
-        reversed: low32(v[3]),
-        given_up: low32(v[4]),
-        unanswered: low32(v[5]),
+        sent: (v[0] & 0xffff_ffff) as u32,
+        approved: (v[1] & 0xffff_ffff) as u32,
+        declined: (v[2] & 0xffff_ffff) as u32,
+        reversed: (v[3] & 0xffff_ffff) as u32,
+        given_up: (v[4] & 0xffff_ffff) as u32,
+        unanswered: (v[5] & 0xffff_ffff) as u32,
     }
 }
 
@@ -475,9 +378,9 @@ fn totals_in(v: &[u64]) -> Totals
 {
     Totals {
         debit: v[0],
-        debits: low16(v[1]),
+        debits: (v[1] & 0xffff) as u16,
         credit: v[2],
-        credits: low16(v[3]),
+        credits: (v[3] & 0xffff) as u16,
     }
 }
 
@@ -486,22 +389,22 @@ fn chip_in(v: &[u64], region: &[u8]) -> Chip
     requires { (length v.now ≡ 3) × (length region.now + region_offset ≡ size) }
     ensures { result ≡ chip_in v.now region.now }
 {
-    let mut field55 = [0u8; 255];
-    let mut date = [0u8; 2];
-    let mut authorisation = [0u8; 6];
-    let mut reference = [0u8; 12];
-    digits::copy(&region[0..255], &mut field55);
-    digits::copy(&region[255..257], &mut date);
-    digits::copy(&region[257..263], &mut authorisation);
-    digits::copy(&region[263..275], &mut reference);
+    let mut bytes = [0; 255];
+    let mut date = [0; 2];
+    let mut authorisation = [0; 6];
+    let mut reference = [0; 12];
+    digits::copy(&region[..DATE], &mut bytes);
+    digits::copy(&region[DATE..AUTHORISATION], &mut date);
+    digits::copy(&region[AUTHORISATION..REFERENCE], &mut authorisation);
+    digits::copy(&region[REFERENCE..], &mut reference);
     Chip {
-        length: low8(v[0]),
-        bytes: field55,
+        length: (v[0] & 0xff) as u8,
+        bytes,
         approved: v[1] == 1,
         amount: v[2],
-        date: date,
-        authorisation: authorisation,
-        reference: reference,
+        date,
+        authorisation,
+        reference,
     }
 }
 
@@ -510,26 +413,17 @@ fn phase_of(v: &[u64]) -> Phase
     requires { length v.now ≡ 10 }
     ensures { result ≡ phase_of v.now }
 {
-    let number = v[0];
-    if 8 < number {
-        return Phase::Resting;
+    match v[0] {
+        1 => Phase::Waiting(Awaited::Request(request_of(v))),
+        2 => Phase::Waiting(Awaited::Reversal(reversal_of(v))),
+        3 => Phase::Waiting(Awaited::Settlement(Trace((v[9] & 0xffff_ffff) as u32))),
+        4 => Phase::Waiting(Awaited::Item((v[9] & 0xffff) as u16)),
+        5 => Phase::Waiting(Awaited::End(Trace((v[9] & 0xffff_ffff) as u32))),
+        6 => Phase::Pending(reversal_of(v)),
+        7 => Phase::Settling,
+        8 => Phase::Uploading,
+        _ => Phase::Resting,
     }
-    let k = number as usize;
-    let reversal = reversal_of(v);
-    let request = reversal.request;
-    let trace = Trace(low32(v[9]));
-    let phases = [
-        Phase::Resting,
-        Phase::Waiting(Awaited::Request(request)),
-        Phase::Waiting(Awaited::Reversal(reversal)),
-        Phase::Waiting(Awaited::Settlement(trace)),
-        Phase::Waiting(Awaited::Item(low16(v[9]))),
-        Phase::Waiting(Awaited::End(trace)),
-        Phase::Pending(reversal),
-        Phase::Settling,
-        Phase::Uploading,
-    ];
-    phases[k]
 }
 
 fn reversal_of(v: &[u64]) -> Reversal
@@ -539,7 +433,7 @@ fn reversal_of(v: &[u64]) -> Reversal
     Reversal {
         request: request_of(v),
         reason: reason_of(v[7]),
-        sendings: low8(v[8]),
+        sendings: (v[8] & 0xff) as u8,
     }
 }
 
@@ -547,47 +441,24 @@ fn request_of(v: &[u64]) -> Request
     requires { length v.now ≡ 10 }
     ensures { result ≡ request_of v.now }
 {
-    let card = Card {
-        number: v[3],
-        length: low8(v[4]),
-    };
-    let trace = Trace(low32(v[5]));
-    let original = Trace(low32(v[6]));
     Request {
-        kind: low8(v[1]),
+        kind: (v[1] & 0xff) as u8,
         amount: v[2],
-        card: card,
-        trace: trace,
-        original: original,
+        card: Card {
+            number: v[3],
+            length: (v[4] & 0xff) as u8,
+        },
+        trace: Trace((v[5] & 0xffff_ffff) as u32),
+        original: Trace((v[6] & 0xffff_ffff) as u32),
     }
 }
 
 fn reason_of(x: u64) -> Reason
     ensures { result ≡ reason_of x }
 {
-    if x == 1 {
-        return Reason::BadMac;
+    match x {
+        1 => Reason::BadMac,
+        2 => Reason::CardDeclined,
+        _ => Reason::Silence,
     }
-    if x == 2 {
-        return Reason::CardDeclined;
-    }
-    Reason::Silence
-}
-
-fn low8(x: u64) -> u8
-    ensures { result ≡ x % 2 ^ 8 }
-{
-    (x % 0x100) as u8
-}
-
-fn low16(x: u64) -> u16
-    ensures { result ≡ x % 2 ^ 16 }
-{
-    (x % 0x10000) as u16
-}
-
-fn low32(x: u64) -> u32
-    ensures { result ≡ x % 2 ^ 32 }
-{
-    (x % 0x100000000) as u32
 }

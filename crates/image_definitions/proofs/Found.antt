@@ -1,53 +1,20 @@
--- The phase and the reading that the code finds.
+-- The reading that the code finds.
 use mathlib.Core.Path.{◌≡◌, refl, ap, sym, ◌∙◌}
-use mathlib.Core.List.{List, [], ◌∷◌}
+use mathlib.Core.List.{List}
 use mathlib.Core.Bool.{Bool, true, false, true≢false}
-use Prim.Native.Nat.{ℕ, zero, suc, ◌≤◌, ◌<◌}
-use native.Mathlib.Nat.{not-suc-le-zero, le_of_suc-le-suc}
+use Prim.Native.Nat.{ℕ}
 use native.Mathlib.Omega.{arith}
 use lib.Dec.{eqb}
-use lib.ListN.{length, get_or, take, drop, length-drop, take-append-drop, get_or-eq_default}
+use lib.ListN.{length, take, drop, length-drop, take-append-drop}
 use borrow.Author.Tests.{ne_eqb, eqb-true, eqb-false}
 use Rattle.digits.specs.Lists.{same_bytes}
-use Rattle.digits.proofs.Lists.{same_bytes_lem, same_list}
-use Rattle.state.specs.declared.Reversal.{Reversal}
-use Rattle.state.specs.declared.Awaited.TheVariants as awaited
-use Rattle.state.specs.declared.Phase.{Phase}
-use Rattle.state.specs.declared.Phase.TheVariants.{Resting, Waiting, Pending, Settling, Uploading}
 use Rattle.state.specs.declared.State.{State}
 use Rattle.image_definitions.specs.Layout.{widths, region_offset, size, numbers_in}
-use Rattle.image_definitions.specs.Image.{bits_of, reversal_of, phases_of, phase_of, rows_from, values_of, row_bytes, region_of, image, state_of, state_in, accepted, refused, judged, read_image}
+use Rattle.image_definitions.specs.Image.{Reading, rows_from, values_of, row_bytes, region_of, image, state_of, state_in, accepted, refused, judged, read_image}
 use Rattle.image_definitions.specs.Sized.{Bytes, Sized}
-use Rattle.image_definitions.specs.declared.Reading.{Reading}
 use Rattle.image_definitions.proofs.Laid.{laid-numbers}
 use Rattle.image_definitions.proofs.Region.{region_back}
 use Rattle.image_definitions.proofs.Theorems.{image-length, image-numbers, judged-image, judged_other, sized_read}
-
--- what a list holds before its end does not depend on the default
-get_d_any : {A : Type 0} (l : List A) (i : ℕ) (d e : A) → i < length l → get_or l i d ≡ get_or l i e
-get_d_any [] i d e h = absurd (not-suc-le-zero h)
-get_d_any (x ∷ l) zero d e h = refl
-get_d_any (x ∷ l) (suc i) d e h = get_d_any l i d e (le_of_suc-le-suc h)
-
-pub phase-past : (v : List ℕ) → 8 < get_or v 0 0 → Resting ≡ phase_of v
-phase-past v h = sym (get_or-eq_default (phases_of v) Resting {n = get_or v 0 0} h)
-
-pub phase-found : (v : List ℕ) {r : Reversal} {t i : ℕ} (d : Phase) → r ≡ reversal_of v
-    → t ≡ bits_of 32 v 9 → i ≡ bits_of 16 v 9 → get_or v 0 0 ≤ 8
-    → get_or
-    (Resting
-    ∷ Waiting (awaited.Request r.request)
-    ∷ Waiting (awaited.Reversal r)
-    ∷ Waiting (awaited.Settlement (record { 0 = t }))
-    ∷ Waiting (awaited.Item i)
-    ∷ Waiting (awaited.End (record { 0 = t }))
-    ∷ Pending r
-    ∷ Settling
-    ∷ Uploading
-    ∷ [])
-    (get_or v 0 0) d
-    ≡ phase_of v
-phase-found v d er et ei h = rw (er, et, ei) (get_d_any (phases_of v) (get_or v 0 0) d Resting (omega arith))
 
 -- bytes of another length
 pub read_length : (b : List ℕ) → (length b ≡ size → ⊥) → refused ≡ read_image b
@@ -72,17 +39,17 @@ module _ (b : List ℕ) {s : State} {again : List ℕ} (l : length b ≡ size) (
   unfolding widths
   rows_are e = rw e (laid-numbers widths b h (omega arith))
 
-  pub read_same : same_bytes (numbers_in widths b) again ≡ true → accepted s ≡ read_image b
+  pub read_same : numbers_in widths b ≡ again → accepted s ≡ read_image b
   unfolding read_image image
   read_same e =
-      let v : values_of s ≡ numbers_in widths b = sym (same_list (numbers_in widths b) again e ∙ ea) in
+      let v : values_of s ≡ numbers_in widths b = sym (e ∙ ea) in
       let f : image s ≡ b = rw (rows_are v, region_is) (take-append-drop region_offset b) in
       rw (← es) (sym (judged-image b s f))
 
-  pub read_other : same_bytes (numbers_in widths b) again ≡ false → refused ≡ read_image b
+  pub read_other : (numbers_in widths b ≡ again → ⊥) → refused ≡ read_image b
   unfolding read_image
   read_other e =
       let z : Sized s = rw es (sized_read b h) in
       let n : image s ≡ b → ⊥ =
-      λ f. true≢false (sym (same_bytes_lem again) ∙ rw (ap (numbers_in widths) (sym f) ∙ image-numbers s z ∙ sym ea) at e) in
+      λ f. e (ap (numbers_in widths) (sym f) ∙ image-numbers s z ∙ sym ea) in
       rw (← es) (sym (judged_other b s (same_bytes b (image s)) refl n))

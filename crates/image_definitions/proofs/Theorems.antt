@@ -10,8 +10,7 @@ use Rattle.digits.specs.Lists.{same_bytes}
 use Rattle.digits.proofs.Lists.{same_bytes_lem, same_list}
 use Rattle.state.specs.declared.State.{State}
 use Rattle.image_definitions.specs.Layout.{widths, region_offset, numbers_in}
-use Rattle.image_definitions.specs.Image.{values_of, row_bytes, region_of, image, state_in, accepted, refused, judged, read_image}
-use Rattle.image_definitions.specs.declared.Reading.{Reading}
+use Rattle.image_definitions.specs.Image.{Reading, values_of, row_bytes, region_of, image, state_in, accepted, refused, judged, read_image}
 use Rattle.image_definitions.specs.Sized.{Bytes, Sized}
 use Rattle.image_definitions.specs.Theorems.{ImageLength, ImageReadsBack, ReadImagesBack, AcceptedNumbers, OthersRefused}
 use Rattle.image_definitions.proofs.Laid.{drop-bytes, length-laid, numbers-laid, numbers-below}

@@ -6,7 +6,7 @@ use Prim.Native.Nat.{ℕ, ◌+◌, ◌^◌, ◌<◌}
 use native.Mathlib.Nat.{mod-eq_of_lt}
 use native.Mathlib.Omega.{arith}
 use lib.Dec.{lit<}
-use lib.ListN.{length, get_or, take, drop, replicate, take-append-drop, length-append, length-drop}
+use lib.ListN.{length, get_or, take, drop, replicate, take-append-drop, length-drop}
 use lib.Seq.{take_all, take_at, drop_at, get_or-append-add}
 use borrow.Rule.Slice.PartMut.{put_mid}
 use Rattle.field.specs.Bitmap.{word_of}
@@ -222,9 +222,6 @@ unfolding values_of
 values_listed s ex em ec et ep ek = rw (ex, em, ec, et, ep, ek, phase-listed s.phase (chip_values s.chip ++ (s.sign_on.0 ∷ [])))
 
 -- field 42, put as two numbers into 15 bytes
-pub merchant-room : (x : ℕ) {a : List ℕ} → a ≡ bytes_of 8 x → length (a ++ replicate 7 0) ≡ 15
-merchant-room x {a} e = length-append a (replicate 7 0) ∙ rw (e, length_bytes_of 8 x)
-
 pub merchant_put : (x y : ℕ) {a b : List ℕ} → a ≡ bytes_of 8 x → b ≡ bytes_of (length (take 7 (drop 8 (a ++ replicate 7 0)))) y
     → put_mid 8 7 (a ++ replicate 7 0) b ≡ merchant_of x y
 merchant_put x y {a} {b} e q =

@@ -1,5 +1,5 @@
 -- The image of the state: its bytes, and the state that bytes hold.
-use Rattle.std.specs.Prelude.{List, [], ◌∷◌, ◌++◌, Bool, true, false, cond, ℕ, ◌%◌, ◌^◌, eqb, get_or, take, drop, replicate}
+use Rattle.std.specs.Prelude.{List, [], ◌∷◌, ◌++◌, Bool, true, false, cond, ℕ, ◌%◌, ◌^◌, eqb, get_or, take, drop, replicate, Option, Some, None}
 use Rattle.digits.specs.Lists.{same_bytes}
 use Rattle.field.specs.Bitmap.{word_of}
 use Rattle.kinds.specs.declared.Totals.{Totals}
@@ -17,7 +17,6 @@ use Rattle.state.specs.declared.Counts.{Counts}
 use Rattle.state.specs.declared.Chip.{Chip}
 use Rattle.state.specs.declared.State.{State}
 use Rattle.image_definitions.specs.Layout.{widths, region_offset, bytes_of, laid_in, numbers_in, first_of}
-use Rattle.image_definitions.specs.declared.Reading.{Reading}
 
 -- the version of the format
 abbrev pub version : ℕ
@@ -202,6 +201,11 @@ state_of v r =
 abbrev pub state_in : List ℕ → State
 state_in b = state_of (numbers_in widths b) (drop region_offset b)
 
+-- the state that bytes hold, where they are accepted; else a fresh one of zero settings
+pub record Reading : Type 0 where
+  pub accepted : Bool
+  pub state : State
+
 abbrev pub accepted : State → Reading
 accepted s = record { accepted = true; state = s }
 
@@ -211,6 +215,11 @@ no_settings = record { limit = 0; sendings = 0; refund = 0; terminal = replicate
 
 abbrev pub refused : Reading
 refused = record { accepted = false; state = fresh no_settings }
+
+-- what code returns: the state, or none for a refusal
+abbrev pub reading_of : Option State → Reading
+reading_of (Some s) = accepted s
+reading_of None = refused
 
 -- a state, accepted where the bytes are its image
 unfoldable pub judged : List ℕ → State → Reading

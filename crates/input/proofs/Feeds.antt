@@ -1,6 +1,7 @@
 -- Laws of what is left of a chunk, and of a line that takes it.
-use Rattle.std.proofs.Common.{◌≡◌, ℕ, zero, suc, ◌+◌, ◌-◌, ◌<◌, ◌≤◌, Bool, true, false, cond, not, ◌&&◌, ◌||◌, eqb, ltb, leb, List, [], ◌∷◌, ◌++◌, length, take, drop, sym, refl, ◌∙◌, true≢false, append_assoc, append-nil, suc-add, arith, drop_of_length-le, length-take, take_all, drop-drop, ltb-false, ltb-true, lt-ltb, le-leb, leb-true}
-use mathlib.Core.Bool.{and-eq-true_iff, or_assoc}
+use Rattle.std.proofs.Common.{◌≡◌, ℕ, zero, suc, ◌+◌, ◌-◌, ◌<◌, ◌≤◌, Bool, true, false, cond, not, ◌||◌, eqb, ltb, leb, List, [], ◌∷◌, ◌++◌, length, take, drop, sym, refl, ◌∙◌, true≢false, append_assoc, append-nil, suc-add, arith, drop_of_length-le, length-take, take_all, drop-drop, ltb-false, ltb-true, lt-ltb, le-leb, leb-true}
+use native.Mathlib.Decide.{dec_lt}
+use mathlib.Core.Bool.{or_assoc}
 use lib.Dec.{leb-suc-suc}
 use lib.Seq.{drop-length, take-nil, slice_empty}
 use Rattle.words.specs.Bytes.{slice, index_of, index_after}
@@ -87,30 +88,18 @@ left-none : (l : Left) (c : List ℕ) → Within l c → l.from ≡ l.end → le
 unfolding slice
 left-none l c w e = left-within l c w ∙ rw e (slice_empty l.end c)
 
--- the test that something is left of a chunk
-pub left_stays : (l : Left) (c : List ℕ) → ltb l.from l.end && leb l.end (length c) ≡ true → Refills l c l c
-left_stays l c e =
-    let t = (and-eq-true_iff (ltb l.from l.end) (leb l.end (length c))).0 e in
-    record {
-      brought = [];
-      unread = λ h. (refl, refl);
-      left_is = sym (append-nil (left_in l c));
-      within = record { ordered = omega (arith, ltb-true l.from l.end t.0); ends = leb-true l.end (length c) t.1 };
-    }
-
-left-empty : (l : Left) (c : List ℕ) → ltb l.from l.end && leb l.end (length c) ≡ false → left_in l c ≡ []
+-- nothing is left where the bytes that are left do not lie within the chunk
+left-empty : (l : Left) (c : List ℕ) → (l.from < l.end → l.end ≤ length c → ⊥) → left_in l c ≡ []
 unfolding left_in slice
-left-empty l c e = go (ltb l.from l.end) (leb l.end (length c)) refl e
+left-empty l c e = go (leb l.end (length c)) refl (dec_lt l.from l.end)
   where
-    go : (a b : Bool) → ltb l.from l.end ≡ a → a && b ≡ false → cond b (drop l.from (take l.end c)) [] ≡ []
-    go true true q e = absurd (true≢false e)
-    go false true q e =
-        drop_of_length-le (take l.end c) {i = l.from} (omega (arith, ltb-false l.from l.end q, length-take l.end c))
-    go a false q e = refl
+    go : (b : Bool) → leb l.end (length c) ≡ b → Dec (l.from < l.end) → cond b (drop l.from (take l.end c)) [] ≡ []
+    go true q (yes h) = absurd (e h (leb-true l.end (length c) q))
+    go true q (no h) = drop_of_length-le (take l.end c) {i = l.from} (omega (arith, h, length-take l.end c))
+    go false q d = refl
 
 -- a read where nothing is left
-pub left-read : (l : Left) (c : List ℕ) (r : Left) (c2 : List ℕ) → ltb l.from l.end && leb l.end (length c) ≡ false → Within r c2
-    → Refills l c r c2
+pub left-read : (l : Left) (c : List ℕ) (r : Left) (c2 : List ℕ) → (l.from < l.end → l.end ≤ length c → ⊥) → Within r c2 → Refills l c r c2
 left-read l c r c2 e w =
     let z = left-empty l c e in
     record { brought = left_in r c2; unread = rw z (λ h. absurd (omega (arith, h))); left_is = rw z refl; within = w }
@@ -187,8 +176,10 @@ takes-again {l} {r} {r2} {c} {c1} t e u =
     }
 
 -- a line that is whole or at the end is not both
-pub one_of : (whole ended : Bool) → whole || ended ≡ true → (ended ≡ true → whole ≡ false) → ended ≡ not whole
-one_of true true e h = h refl
-one_of true false e h = refl
-one_of false true e h = refl
-one_of false false e h = absurd (true≢false (sym e))
+pub when_whole : (whole ended : Bool) → whole ≡ true → (ended ≡ true → whole ≡ false) → ended ≡ not whole
+when_whole true true e h = h refl
+when_whole true false e h = refl
+when_whole false ended e h = absurd (true≢false (sym e))
+
+pub when_ended : (whole ended : Bool) → ended ≡ true → (ended ≡ true → whole ≡ false) → ended ≡ not whole
+when_ended whole ended e h = rw (e, h e)

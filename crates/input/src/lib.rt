@@ -33,7 +33,7 @@ impl Input {
         ensures { (result.file ≡ file) × (result.number ≡ 0) × (result.len ≡ 0) × (result.ended ≡ false) × (result.left.from ≡ 0) × (result.left.end ≡ 0) }
     {
         Input {
-            file: file,
+            file,
             number: 0,
             len: 0,
             whole: false,
@@ -47,12 +47,10 @@ impl Input {
         ensures { (result.file ≡ self.file) × (result.number ≡ self.number) × (result.len ≡ self.len) × (result.whole ≡ false) × (result.ended ≡ true) × (result.left.from ≡ 0) × (result.left.end ≡ 0) }
     {
         Input {
-            file: self.file,
-            number: self.number,
-            len: self.len,
             whole: false,
             ended: true,
             left: Left { from: 0, end: 0 },
+            ..self
         }
     }
 }
@@ -66,26 +64,22 @@ pub fn buffer() -> [u8; 4098]
 
 // Reads the next line: its first bytes stand in line, as many as fit, and the rest of it is dropped; what stands behind its line
 // feed is left for the next one. The input has ended where nothing more comes; bytes after the last line feed are a line too. A
-// proved loop has to end, and nothing says that the line does, so the loop counts its turns down.
+// proved loop has to end, and nothing says that the line does, so the loop counts its turns.
 pub fn next(input: Input, chunk: &mut [u8], line: &mut [u8]) -> Input
     ensures { NextLine input chunk.old line.old result chunk.new line.new }
 {
-    let left = input.left;
     let mut at = Input {
-        file: input.file,
-        number: std::num::wrapping_add_u64(input.number, 1),
+        number: input.number.wrapping_add(1),
         len: 0,
         whole: false,
         ended: false,
-        left: left,
+        ..input
     };
-    let mut turns = u64::MAX;
-    while turns > 0 {
+    for _ in 0..u64::MAX {
         at = more(at, chunk, line);
-        if at.whole | at.ended {
+        if at.whole || at.ended {
             return at;
         }
-        turns -= 1;
     }
     at.at_end()
 }
@@ -98,14 +92,12 @@ pub fn is_too_long(at: Input, line: &[u8]) -> bool
 }
 
 // Its words, without the spaces before the first and after the last; none where the line is skipped or nothing came.
+#[tactic(auto, unfolding(crate::specs::Input::words_in))]
 pub fn words_of(at: Input, line: &[u8]) -> &[u8]
     ensures { result.now ≡ words_in (in_hand at.whole at.len line.now) }
 {
     let words = trimmed(at, line);
-    if words::is_skipped(words) {
-        return &words[..0];
-    }
-    words
+    if words::is_skipped(words) { &[] } else { words }
 }
 
 // The line in hand without the spaces before its first word and after its last, also where it is skipped.
@@ -115,6 +107,7 @@ pub fn trimmed(at: Input, line: &[u8]) -> &[u8]
     words::trim(in_hand(at, line))
 }
 
+#[tactic(auto, unfolding(crate::specs::Input::in_hand))]
 fn in_hand(at: Input, line: &[u8]) -> &[u8]
     ensures { result.now ≡ in_hand at.whole at.len line.now }
 {
@@ -125,7 +118,7 @@ fn in_hand(at: Input, line: &[u8]) -> &[u8]
 fn refilled(left: Left, file: i32, chunk: &mut [u8]) -> Left
     ensures { Refills left chunk.old result chunk.new }
 {
-    if (left.from < left.end) & (left.end <= chunk.len()) {
+    if left.from < left.end && left.end <= chunk.len() {
         return left;
     }
     Left {
@@ -139,7 +132,7 @@ fn refilled(left: Left, file: i32, chunk: &mut [u8]) -> Left
 fn read_some(file: i32, chunk: &mut [u8]) -> usize
     ensures { result ≤ length chunk.new }
 {
-    let n = if chunk.len() == 0 { 0 } else { 1 };
+    let n = chunk.len().min(1);
     io::read_full(file, &mut chunk[..n])
 }
 
@@ -148,21 +141,18 @@ fn more(at: Input, chunk: &mut [u8], line: &mut [u8]) -> Input
     ensures { (result.file ≡ at.file) × (result.number ≡ at.number) × (result.ended ≡ true → result.whole ≡ false) × Takes at.left chunk.old at.len line.old result chunk.new line.new }
 {
     let left = refilled(at.left, at.file, chunk);
-    let from = left.from;
-    let end = left.end;
-    if from == end {
+    if left.from == left.end {
         return at.at_end();
     }
-    let taken = line_ends::take_in(&chunk[from..end], at.len, line);
+    let taken = line_ends::take_in(&chunk[left.from..left.end], at.len, line);
     Input {
-        file: at.file,
-        number: at.number,
         len: taken.len,
         whole: taken.whole,
         ended: false,
         left: Left {
-            from: from + taken.used,
-            end: end,
+            from: left.from + taken.used,
+            ..left
         },
+        ..at
     }
 }

@@ -1,4 +1,5 @@
 -- The number by which each call is refused: one of its rules' numbers, or the reading's own.
+use Rattle.std.specs.Prelude.{Some, None, Option}
 use mathlib.Core.Path.{◌≡◌, refl, sym}
 use mathlib.Core.List.{List, [], ◌∷◌}
 use mathlib.Core.Bool.{Bool, true, false, cond, ◌&&◌, and-eq-true_iff, true≢false}
@@ -10,14 +11,10 @@ use Rattle.checks.specs.Checks.{Rule, first_broken}
 use Rattle.field.specs.Table.{among}
 use Rattle.field.proofs.Formats.{among_below}
 use Rattle.message.specs.declared.Message.{Message}
-use Rattle.reading.specs.Reading.{read_message}
-use Rattle.reading.specs.declared.ReadOutcome.{ReadOutcome as Judgement}
-use Rattle.reading.specs.declared.ReadOutcome.TheVariants.{Read, Refused as Unread}
+use Rattle.reading.specs.Reading.{read_message, ReadOutcome as Judgement, Read, Refused as Unread}
 use Rattle.message_theorems.specs.Order.{reading_rules}
 use Rattle.message_theorems.proofs.Order.{read-judged_by}
 use Rattle.journal.specs.Journal.{entries_of, next_due}
-use Rattle.journal.specs.declared.Found.{Found}
-use Rattle.journal.specs.declared.Found.TheVariants.{At, Nowhere}
 use Rattle.state.specs.declared.State.{State}
 use Rattle.state.specs.declared.Phase.{Phase}
 use Rattle.state.specs.declared.Phase.TheVariants.{Resting, Waiting, Pending, Settling, Uploading}
@@ -85,9 +82,9 @@ module _ (s : State) (lent : Lent) where
   send_apart Settling = tt
   send_apart Uploading = tt
 
-  next-apart : (f : Found) → Apart (sends_next f s lent).outcome
-  next-apart (At i) = tt
-  next-apart Nowhere = tt
+  next-apart : (f : Option ℕ) → Apart (sends_next f s lent).outcome
+  next-apart (Some i) = tt
+  next-apart None = tt
 
   upload-apart : (p : Phase) → Apart (upload_from p s lent).outcome
   upload-apart Resting = tt

@@ -15,7 +15,7 @@ use Rattle.state.specs.declared.Outcome.{Outcome}
 use Rattle.state.specs.declared.Outcome.TheVariants.{Send, Quiet, Refused}
 use Rattle.state.specs.Calls.{Lent}
 use Rattle.image_definitions.specs.Image.{totals_values, image, read_image}
-use Rattle.image_definitions.specs.declared.Reading.{Reading}
+use Rattle.image_definitions.specs.Image.{Reading}
 use Rattle.image_definitions.specs.Sized.{Bytes, Sized}
 use Rattle.image_definitions.proofs.Theorems.{image-reads_back, read_images_back}
 use Rattle.rules.specs.Rules.{report_rules}

@@ -1,13 +1,11 @@
 -- The functions for C: the number that each returns, and what it leaves in all that it may write, for every input.
-use Rattle.std.specs.Prelude.{List, [], ◌∷◌, ◌++◌, Bool, false, cond, ◌&&◌, ℕ, ltb, eqb, length, get_or, replicate}
+use Rattle.std.specs.Prelude.{List, [], ◌∷◌, ◌++◌, Bool, false, cond, ◌&&◌, ℕ, ltb, eqb, length, get_or, replicate, Result as Attempt, Ok, Err}
 use Rattle.message.specs.Message.{Field, field_of}
 use Rattle.message.specs.declared.Message.{Message}
-use Rattle.reading.specs.Reading.{read_message}
-use Rattle.reading.specs.declared.ReadOutcome.{ReadOutcome}
-use Rattle.reading.specs.declared.ReadOutcome.TheVariants.{Read, Refused as Unread}
+use Rattle.reading.specs.Reading.{read_message, ReadOutcome, Read, Refused as Unread}
 use Rattle.parts.specs.Parts.{taken, with_taken}
-use Rattle.parts.specs.declared.Taken.{Taken}
-use Rattle.parts.specs.declared.Taken.TheVariants.{Absent, TooLong, Count}
+use Rattle.parts.specs.declared.NotTaken.{NotTaken}
+use Rattle.parts.specs.declared.NotTaken.TheVariants.{Absent, TooLong}
 use Rattle.kinds.specs.declared.sums.Sum.{Sum}
 use Rattle.kinds.specs.declared.sums.Sums.{Sums}
 use Rattle.journal.specs.Journal.{entries_of, batch_sums}
@@ -150,17 +148,16 @@ abbrev pub held : ℕ → List ℕ → Field
 held k b = record { count = k; bytes = b }
 
 -- the number returned by how the taking of a field ends, and the count that it leaves
-abbrev pub taken_number : Taken → ℕ
-taken_number Absent = absent
-taken_number TooLong = too_short
-taken_number (Count k) = done
+abbrev pub taken_number : Attempt ℕ NotTaken → ℕ
+taken_number (Err Absent) = absent
+taken_number (Err TooLong) = too_short
+taken_number (Ok k) = done
 
-abbrev pub taken_count : Taken → ℕ → ℕ
-taken_count Absent x = x
-taken_count TooLong x = x
-taken_count (Count k) x = k
+abbrev pub taken_count : Attempt ℕ NotTaken → ℕ → ℕ
+taken_count (Err e) x = x
+taken_count (Ok k) x = k
 
-abbrev pub taken_as : Taken → List ℕ → Field → Returned Field
+abbrev pub taken_as : Attempt ℕ NotTaken → List ℕ → Field → Returned Field
 taken_as t b x = returned (taken_number t) (held (taken_count t x.count) (with_taken t b x.bytes))
 
 abbrev pub field_from : ReadOutcome → Message → ℕ → Field → Returned Field

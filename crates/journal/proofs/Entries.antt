@@ -1,12 +1,12 @@
 -- Laws of the entries that a journal's bytes hold: how many they are, one more, one written, one byte of one changed.
 use mathlib.Core.Path.{◌≡◌, refl, ap, sym, ◌∙◌}
-use mathlib.Core.List.{List, [], ◌∷◌, ◌++◌, append-nil}
+use mathlib.Core.List.{List, [], ◌∷◌, ◌++◌}
 use mathlib.Core.Bool.{true}
 use Prim.Native.Nat.{ℕ, zero, suc, ◌+◌, ◌*◌, ◌-◌, ◌≤◌, ◌<◌}
 use native.Mathlib.Omega.{arith}
 use native.Mathlib.Decide.{dec_lt}
-use lib.ListN.{length, take, drop, set, length-append, length-set, length-drop, drop_of_length-le}
-use lib.Seq.{take_at, drop_at, drop-drop, take-take, take-append-le, length-take-le, take-set-le, take-set-lt, drop-set-lt, drop-set-add, take-add, take_all, take-length}
+use lib.ListN.{length, take, drop, set, length-append, length-set, length-drop}
+use lib.Seq.{take_at, drop_at, drop-drop, take-take, take-append-le, length-take-le, take-set-le, take-set-lt, drop-set-lt, drop-set-add, take-add, take_all}
 use borrow.Author.Tests.{lt-ltb, le-ltb, le-leb, lt-leb}
 use Rattle.entry.specs.Entry.{entry_size, decode, encode, blank}
 use Rattle.entry.specs.Form.{in_form}
@@ -73,22 +73,10 @@ entries-last (suc n) j h =
     entries-more (suc n) j (omega arith)
     ∙ rw (r, entries-more n j (omega arith), drop-drop, q)
 
--- entry i of the first n
-pub entry_there : (n i : ℕ) (j : List ℕ) → i < n → entry_size * i + entry_size ≤ length j
-    → entry_at (entries_of n j) i ≡ decode (take entry_size (drop (entry_size * i) j))
-entry_there zero i j l h = absurd (omega arith)
-entry_there (suc n) zero j l h = rw (entries-more n j (omega arith))
-entry_there (suc n) (suc i) j l h =
-    let q : entry_size * suc i ≡ entry_size + entry_size * i = omega arith in
-    rw (entries-more n j (omega arith), entry_there n i (drop entry_size j) (omega arith) (rw length-drop (omega arith)), drop-drop, q)
-
 pub entry_past : (es : List Entry) (i : ℕ) → length es ≤ i → entry_at es i ≡ blank
 entry_past [] i h = refl
 entry_past (e ∷ es) zero h = absurd (omega arith)
 entry_past (e ∷ es) (suc i) h = entry_past es i (omega arith)
-
-pub entry_beyond : (n i : ℕ) (j : List ℕ) → n ≤ i → entry_at (entries_of n j) i ≡ blank
-entry_beyond n i j h = entry_past (entries_of n j) i (omega (arith, length-entries_le n j))
 
 -- the place of an entry is in the bytes, or it is blank
 pub entry-cases : (P : Entry → Type 0) → P blank → ((b : List ℕ) → length b ≡ entry_size → P (decode b))
@@ -115,18 +103,6 @@ entry-shaped n i j = entry-cases Shaped none decode-shaped n i j
           reference_length = refl;
           reserved_length = refl;
         }
-
--- it does not stand there whole
-pub entry-short : (n i : ℕ) (j : List ℕ) → length j < entry_size * i + entry_size → entry_at (entries_of n j) i ≡ blank
-entry-short zero i j h = refl
-entry-short (suc n) i j h = go i h (dec_lt (length j) entry_size) (λ k. entry-short n k (drop entry_size j))
-  where
-    go : (i : ℕ) → length j < entry_size * i + entry_size → Dec (length j < entry_size)
-        → ((k : ℕ) → length (drop entry_size j) < entry_size * k + entry_size → entry_at (entries_of n (drop entry_size j)) k ≡ blank)
-        → entry_at (entries_of (suc n) j) i ≡ blank
-    go i h (yes l) r = rw (entries-short (suc n) j l)
-    go zero h (no l) r = absurd (omega arith)
-    go (suc i) h (no l) r = rw (entries-more n j (omega arith)) (r i (rw length-drop (omega arith)))
 
 module _ (i : ℕ) (e : Entry) (j : List ℕ) where
   pub put_there : entry_size * i + entry_size ≤ length j

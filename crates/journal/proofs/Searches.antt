@@ -1,4 +1,5 @@
 -- Laws of tests of each entry and of the first entry that passes a test.
+use Rattle.std.specs.Prelude.{Some, None, Option}
 use mathlib.Core.Path.{◌≡◌, refl, ap, sym, ◌∙◌}
 use mathlib.Core.List.{List, [], ◌∷◌, ◌++◌}
 use mathlib.Core.Bool.{Bool, true, false, cond, not, ◌&&◌, and_assoc, and-true, and-false, and-eq-true_iff}
@@ -10,8 +11,6 @@ use lib.Dec.{eqb}
 use lib.ListN.{length}
 use borrow.Author.Tests.{not-true, eqb-true}
 use Rattle.entry.specs.declared.Entry.{Entry}
-use Rattle.journal.specs.declared.Found.{Found}
-use Rattle.journal.specs.declared.Found.TheVariants.{At, Nowhere}
 use Rattle.journal.specs.Journal.{entry_at, every, first_of, due_with, otherwise, next_due, changed_at}
 
 module _ (f : Entry → Entry) where
@@ -119,16 +118,16 @@ pub record IsFirst (p : Entry → Bool) (i : ℕ) (es : List Entry) (k : ℕ) : 
   pub before : (m : ℕ) → m < k - i → p (entry_at es m) ≡ false
 
 -- a place, counted from n places earlier
-abbrev pub later : ℕ → Found → Found
-later n (At k) = At (n + k)
-later n Nowhere = Nowhere
+abbrev pub later : ℕ → Option ℕ → Option ℕ
+later n (Some k) = Some (n + k)
+later n None = None
 
 module _ (p : Entry → Bool) where
-  pub first_at : (i : ℕ) (es : List Entry) (k : ℕ) → first_of p i es ≡ At k → IsFirst p i es k
+  pub first_at : (i : ℕ) (es : List Entry) (k : ℕ) → first_of p i es ≡ Some k → IsFirst p i es k
   first_at i [] k h = let z : ◌≡◌ {A = ℕ} 0 1 = cc in absurd (omega arith)
   first_at i (e ∷ es) k h = go (first_at (suc i) es k) (p e) refl h
     where
-      go : (first_of p (suc i) es ≡ At k → IsFirst p (suc i) es k) → (b : Bool) → p e ≡ b → cond b (At i) (first_of p (suc i) es) ≡ At k
+      go : (first_of p (suc i) es ≡ Some k → IsFirst p (suc i) es k) → (b : Bool) → p e ≡ b → cond b (Some i) (first_of p (suc i) es) ≡ Some k
           → IsFirst p i (e ∷ es) k
       go r true t h =
           let q : i ≡ k = cc in
@@ -143,27 +142,27 @@ module _ (p : Entry → Bool) where
           earlier t f zero l = t
           earlier t f (suc m) l = f.before m (omega arith)
 
-  pub first-nowhere : (i : ℕ) (es : List Entry) → first_of p i es ≡ Nowhere → every (λ m e. not (p e)) i es ≡ true
+  pub first-nowhere : (i : ℕ) (es : List Entry) → first_of p i es ≡ None → every (λ m e. not (p e)) i es ≡ true
   first-nowhere i [] h = refl
   first-nowhere i (e ∷ es) h = go (first-nowhere (suc i) es) (p e) h
     where
-      go : (first_of p (suc i) es ≡ Nowhere → every (λ m e. not (p e)) (suc i) es ≡ true) → (b : Bool)
-          → cond b (At i) (first_of p (suc i) es) ≡ Nowhere → (not b && every (λ m e. not (p e)) (suc i) es) ≡ true
+      go : (first_of p (suc i) es ≡ None → every (λ m e. not (p e)) (suc i) es ≡ true) → (b : Bool)
+          → cond b (Some i) (first_of p (suc i) es) ≡ None → (not b && every (λ m e. not (p e)) (suc i) es) ≡ true
       go r true h = let z : ◌≡◌ {A = ℕ} 0 1 = cc in absurd (omega arith)
       go r false h = r h
 
-  pub nowhere-first : (i : ℕ) (es : List Entry) → every (λ m e. not (p e)) i es ≡ true → first_of p i es ≡ Nowhere
+  pub nowhere-first : (i : ℕ) (es : List Entry) → every (λ m e. not (p e)) i es ≡ true → first_of p i es ≡ None
   nowhere-first i [] h = refl
   nowhere-first i (e ∷ es) h =
       let b = (and-eq-true_iff (not (p e)) (every (λ m e. not (p e)) (suc i) es)).0 h in
       rw (not-true (p e) b.0) (nowhere-first (suc i) es b.1)
 
   -- the place that is the first
-  pub first-is : (i : ℕ) (es : List Entry) (k : ℕ) → IsFirst p i es k → first_of p i es ≡ At k
+  pub first-is : (i : ℕ) (es : List Entry) (k : ℕ) → IsFirst p i es k → first_of p i es ≡ Some k
   first-is i [] k f = absurd (omega (arith, f.from, f.below))
   first-is i (e ∷ es) k f = go (first-is (suc i) es k) (dec_lt i k)
     where
-      go : (IsFirst p (suc i) es k → first_of p (suc i) es ≡ At k) → Dec (i < k) → cond (p e) (At i) (first_of p (suc i) es) ≡ At k
+      go : (IsFirst p (suc i) es k → first_of p (suc i) es ≡ Some k) → Dec (i < k) → cond (p e) (Some i) (first_of p (suc i) es) ≡ Some k
       go r (no l) =
           let q : k ≡ i = omega (arith, f.from) in
           let z : k - i ≡ 0 = omega arith in
@@ -182,7 +181,7 @@ module _ (p : Entry → Bool) where
   first-later n i [] = refl
   first-later n i (e ∷ es) = rw (rw add-suc at (first-later n (suc i) es)) (go (p e))
     where
-      go : (b : Bool) → cond b (At (n + i)) (later n (first_of p (suc i) es)) ≡ later n (cond b (At i) (first_of p (suc i) es))
+      go : (b : Bool) → cond b (Some (n + i)) (later n (first_of p (suc i) es)) ≡ later n (cond b (Some i) (first_of p (suc i) es))
       go true = refl
       go false = refl
 
@@ -193,7 +192,7 @@ module _ (p : Entry → Bool) where
       go (p e) (rw q at (first-append (suc i) es fs))
     where
       go : (b : Bool) → first_of p (suc i) (es ++ fs) ≡ otherwise (first_of p (suc i) es) (first_of p (i + suc (length es)) fs)
-          → cond b (At i) (first_of p (suc i) (es ++ fs)) ≡ otherwise (cond b (At i) (first_of p (suc i) es)) (first_of p (i + suc (length es)) fs)
+          → cond b (Some i) (first_of p (suc i) (es ++ fs)) ≡ otherwise (cond b (Some i) (first_of p (suc i) es)) (first_of p (i + suc (length es)) fs)
       go true r = refl
       go false r = r
 
@@ -210,7 +209,7 @@ pub record IsNext (p : Entry → Bool) (es : List Entry) (k : ℕ) : Type 0 wher
   pub mark_most : (entry_at es k).mark ≤ 1
 
 module _ {p : Entry → Bool} where
-  first-due : (m : ℕ) → m ≤ 1 → (es : List Entry) (k : ℕ) → first_of (due_with p m) 0 es ≡ At k → IsNext p es k
+  first-due : (m : ℕ) → m ≤ 1 → (es : List Entry) (k : ℕ) → first_of (due_with p m) 0 es ≡ Some k → IsNext p es k
   unfolding due_with
   first-due m h es k e =
       let r = first_at (due_with p m) 0 es k e in
@@ -218,10 +217,10 @@ module _ {p : Entry → Bool} where
       let b = (and-eq-true_iff (p (entry_at es k)) (eqb (entry_at es k).mark m)).0 (rw z at r.holds) in
       record { below = omega (arith, r.below); due = b.0; mark_most = omega (arith, eqb-true (entry_at es k).mark m b.1) }
 
-  pub next-at : (es : List Entry) (k : ℕ) → next_due p es ≡ At k → IsNext p es k
+  pub next-at : (es : List Entry) (k : ℕ) → next_due p es ≡ Some k → IsNext p es k
   unfolding next_due
   next-at es k h = go (first_of (due_with p 0) 0 es) refl h
     where
-      go : (f : Found) → first_of (due_with p 0) 0 es ≡ f → otherwise f (first_of (due_with p 1) 0 es) ≡ At k → IsNext p es k
-      go (At i) e h = first-due 0 (omega arith) es k (e ∙ h)
-      go Nowhere e h = first-due 1 (omega arith) es k h
+      go : (f : Option ℕ) → first_of (due_with p 0) 0 es ≡ f → otherwise f (first_of (due_with p 1) 0 es) ≡ Some k → IsNext p es k
+      go (Some i) e h = first-due 0 (omega arith) es k (e ∙ h)
+      go None e h = first-due 1 (omega arith) es k h

@@ -8,8 +8,8 @@ use native.Mathlib.Decide.{dec_lt}
 use lib.Dec.{leb, eqb}
 use lib.ListN.{length, take, drop}
 use borrow.Author.Tests.{leb-true}
-use Rattle.kinds.specs.Sums.{each_kind, together, no_sum, no_sums, single, plus_sum, plus_sums, added, RoomFor, EachSum, Fits}
-use Rattle.kinds.proofs.FiveSums.{debit_kinds, credit_kinds, same-totals, moves_its_side, each_alike, none_more, none_before, plus_assoc, each_implies, each-added}
+use Rattle.kinds.specs.Sums.{each_kind, together, single, plus_sum, plus_sums, added, RoomFor, EachSum, Fits}
+use Rattle.kinds.proofs.FiveSums.{debit_kinds, credit_kinds, same-totals, moves_its_side, each_alike, none_more, plus_assoc, each_implies, each-added}
 use Rattle.entry.specs.Entry.{entry_size, decode}
 use Rattle.entry.specs.declared.Entry.{Entry}
 use Rattle.entry.proofs.Theorems.{decode-amount}
@@ -172,14 +172,6 @@ room_within i a h k x w =
 pub record Gathering (es : List Entry) (i : ℕ) (left : List Entry) (x : Sums) : Type 0 where
   pub eq : plus_sums x (batch_sums left) ≡ batch_sums es
   pub bounds : EachSum (Within i) x
-
-pub gathering_none : (es : List Entry) → Gathering es 0 es no_sums
-gathering_none es =
-    let z : Within 0 no_sum = record { amount_bound = omega arith; count_bound = omega arith } in
-    record {
-      eq = none_before (batch_sums es);
-      bounds = record { sales = z; completions = z; refunds = z; sale_voids = z; completion_voids = z };
-    }
 
 pub gathering_room : {es left : List Entry} {i : ℕ} {x : Sums} (e : Entry) → Gathering es i left x
     → i < 65535 → e.amount < 1000000000000 → EachSum (RoomFor e.amount) x

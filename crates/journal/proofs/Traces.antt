@@ -1,4 +1,5 @@
 -- Laws of the traces of a journal's entries.
+use Rattle.std.specs.Prelude.{None}
 use mathlib.Core.Path.{◌≡◌, refl, sym, ◌∙◌}
 use mathlib.Core.List.{List, [], ◌∷◌, ◌++◌}
 use mathlib.Core.Bool.{Bool, true, false, not, ◌&&◌, and_assoc, and_comm, and-eq-true_iff}
@@ -9,7 +10,6 @@ use lib.Dec.{eqb}
 use lib.ListN.{length}
 use borrow.Author.Tests.{eq-eqb, ne_eqb, not-true, eqb-false}
 use Rattle.entry.specs.declared.Entry.{Entry}
-use Rattle.journal.specs.declared.Found.TheVariants.{Nowhere}
 use Rattle.journal.specs.Journal.{entry_at, first_of, has_trace, absent, distinct, with_voided, with_mark, with_resends, changed_at}
 use Rattle.journal.proofs.Searches.{every-last, every-at, every-all, every-changed, every-place, first-nowhere, nowhere-first}
 
@@ -44,11 +44,11 @@ has_comm e f = eqb_comm f.trace.0 e.trace.0
 abbrev other : ℕ → ℕ → Entry → Bool
 other x i e = not (has_trace x e)
 
-pub absent-first : (x : ℕ) (es : List Entry) → absent x es ≡ true → first_of (has_trace x) 0 es ≡ Nowhere
+pub absent-first : (x : ℕ) (es : List Entry) → absent x es ≡ true → first_of (has_trace x) 0 es ≡ None
 unfolding absent
 absent-first x es h = nowhere-first (has_trace x) 0 es h
 
-pub first_absent : (x : ℕ) (es : List Entry) → first_of (has_trace x) 0 es ≡ Nowhere → absent x es ≡ true
+pub first_absent : (x : ℕ) (es : List Entry) → first_of (has_trace x) 0 es ≡ None → absent x es ≡ true
 unfolding absent
 first_absent x es h = first-nowhere (has_trace x) 0 es h
 

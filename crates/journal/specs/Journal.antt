@@ -1,13 +1,11 @@
 -- Document 01, "State and journal": the journal is lent, one entry per approval, oldest first.
-use Rattle.std.specs.Prelude.{List, [], ◌∷◌, ◌++◌, Bool, true, false, cond, not, ◌&&◌, ℕ, zero, suc, ◌+◌, ◌*◌, leb, ltb, eqb, length, take, drop, set}
+use Rattle.std.specs.Prelude.{List, [], ◌∷◌, ◌++◌, Bool, true, false, cond, not, ◌&&◌, ℕ, zero, suc, ◌+◌, ◌*◌, leb, ltb, eqb, length, take, drop, set, Some, None, Option}
 use Rattle.numbers.specs.Numbers.{following}
 use Rattle.kinds.specs.Kinds.{original_kind}
 use Rattle.kinds.specs.Sums.{each_kind, together}
 use Rattle.entry.specs.Entry.{entry_size, decode, encode, blank}
 use Rattle.entry.specs.Form.{due_entry, fits}
 use Rattle.entry.specs.declared.Entry.{Entry}
-use Rattle.journal.specs.declared.Found.{Found}
-use Rattle.journal.specs.declared.Found.TheVariants.{At, Nowhere}
 use Rattle.journal.specs.declared.Query.{Query}
 use Rattle.journal.specs.declared.Query.TheVariants.{Trace as OfTrace, Original, Due}
 use Rattle.kinds.specs.declared.Totals.{Totals}
@@ -36,9 +34,9 @@ sum_of p f [] = 0
 sum_of p f (e ∷ es) = cond (p e) (f e) 0 + sum_of p f es
 
 -- the place of the first entry that satisfies p, where the list begins at place i
-abbrev pub first_of : (Entry → Bool) → ℕ → List Entry → Found
-first_of p i [] = Nowhere
-first_of p i (e ∷ es) = cond (p e) (At i) (first_of p (suc i) es)
+abbrev pub first_of : (Entry → Bool) → ℕ → List Entry → Option ℕ
+first_of p i [] = None
+first_of p i (e ∷ es) = cond (p e) (Some i) (first_of p (suc i) es)
 
 abbrev pub amount : Entry → ℕ
 amount e = e.amount
@@ -75,7 +73,7 @@ unfoldable pub is_original : ℕ → ℕ → Entry → Bool
 is_original k x e = eqb e.kind k && has_trace x e
 
 -- the entry that a void of a kind is for: its kind is the needed one, and it has this trace
-abbrev pub original_for : ℕ → ℕ → List Entry → Found
+abbrev pub original_for : ℕ → ℕ → List Entry → Option ℕ
 original_for kind x es = first_of (is_original (original_kind kind) x) 0 es
 
 -- an entry is due and has this upload mark
@@ -88,25 +86,25 @@ asked (Original k x) e = is_original k x.0 e
 asked (Due mark) e = due_with due_entry mark e
 
 -- there is no such entry
-abbrev pub nowhere : Found → Bool
-nowhere (At i) = false
-nowhere Nowhere = true
+abbrev pub nowhere : Option ℕ → Bool
+nowhere (Some i) = false
+nowhere None = true
 
 -- it is entry i
-abbrev pub is_at : Found → ℕ → Bool
-is_at (At k) i = eqb k i
-is_at Nowhere i = false
+abbrev pub is_at : Option ℕ → ℕ → Bool
+is_at (Some k) i = eqb k i
+is_at None i = false
 
 -- an entry at its place, which may be that of the awaited item, keeps what rule 2 says of it alone
-abbrev pub fits_at : ℕ → Bool → Found → ℕ → Entry → Bool
+abbrev pub fits_at : ℕ → Bool → Option ℕ → ℕ → Entry → Bool
 fits_at l uploading awaited i e = fits l uploading (is_at awaited i) e
 
 -- the first due entry of mark 0 or, where no due one is 0, of mark 1
-abbrev pub otherwise : Found → Found → Found
-otherwise (At i) next = At i
-otherwise Nowhere next = next
+abbrev pub otherwise : Option ℕ → Option ℕ → Option ℕ
+otherwise (Some i) next = Some i
+otherwise None next = next
 
-unfoldable pub next_due : (Entry → Bool) → List Entry → Found
+unfoldable pub next_due : (Entry → Bool) → List Entry → Option ℕ
 next_due due es = otherwise (first_of (due_with due 0) 0 es) (first_of (due_with due 1) 0 es)
 
 -- no entry has this trace; no two entries have one trace

@@ -8,15 +8,14 @@ ghost use Rattle.state.specs.State.{CountsBounded, Bookable};
 ghost use Rattle.effect_definitions.specs.JournalEffects.{changed, silent_mark, marked, silent, silent_in, unanswered, voided_at, original_voided, approved, granted, on_request, agreed, agreed_in, on_item, answered, resent};
 
 use entry::Entry;
-use journal::Found;
 use message::Message;
 use state::{Awaited, Count, Phase, Reason, Request, State};
 
 // What silence leaves of what is awaited.
+#[tactic(auto, unfolding(effect_definitions::specs::JournalEffects::silent))]
 fn silent(s: State, a: Awaited, journal: &mut [u8]) -> State
     ensures { CountsBounded s → changed result journal.new ≡ silent a s journal.old }
 {
-    let settings = s.settings;
     match a {
         Awaited::Request(q) => {
             state_effects::pending_or_unanswered(s, q, state_effects::silence_of(s))
@@ -24,7 +23,7 @@ fn silent(s: State, a: Awaited, journal: &mut [u8]) -> State
         Awaited::Reversal(v) => state_effects::failed(s, v),
         Awaited::Settlement(_) => s.in_phase(Phase::Settling),
         Awaited::Item(i) => {
-            silent_item(i, settings.sendings, s.entries, journal);
+            silent_item(i, s.settings.sendings, s.entries, journal);
             s.in_phase(Phase::Uploading)
         }
         Awaited::End(_) => s.in_phase(Phase::Uploading),
@@ -35,26 +34,28 @@ fn silent(s: State, a: Awaited, journal: &mut [u8]) -> State
 pub fn silent_in(s: State, journal: &mut [u8]) -> State
     ensures { CountsBounded s → changed result journal.new ≡ silent_in s.phase s journal.old }
 {
-    let phase = s.phase;
-    let Phase::Waiting(a) = phase else {
+    let Phase::Waiting(a) = s.phase else {
         return s;
     };
     silent(s, a, journal)
 }
 
 // No answer to what is awaited, be it a sign-on.
+#[tactic(auto, unfolding(effect_definitions::specs::JournalEffects::unanswered))]
 pub fn unanswered(s: State, journal: &mut [u8]) -> State
     ensures { CountsBounded s → changed result journal.new ≡ unanswered s journal.old }
 {
     if s.signs_on() {
-        return state_effects::sign_on_ended(s);
+        state_effects::sign_on_ended(s)
+    } else {
+        silent_in(s, journal)
     }
-    silent_in(s, journal)
 }
 
 // What an answer leaves of what is awaited.
-pub fn answered(s: State, a: Awaited, m: Message, good: bool, journal: &mut [u8]) -> State
-    ensures { Bookable (approval_of m).amount s → changed result journal.new ≡ answered good m a s journal.old }
+#[tactic(auto, unfolding(effect_definitions::specs::JournalEffects::answered))]
+pub fn answered(s: State, a: Awaited, m: &Message, good: bool, journal: &mut [u8]) -> State
+    ensures { Bookable (approval_of m.now).amount s → changed result journal.new ≡ answered good m.now a s journal.old }
 {
     match a {
         Awaited::Request(q) => on_request(s, q, m, good, journal),
@@ -69,36 +70,37 @@ pub fn answered(s: State, a: Awaited, m: Message, good: bool, journal: &mut [u8]
 }
 
 // The card agrees to the request that is awaited; in another phase all stays.
+#[tactic(auto, unfolding(effect_definitions::specs::JournalEffects::agreed, approval::specs::Approval::approved_entry))]
 pub fn agreed_in(s: State, journal: &mut [u8]) -> State
     ensures { Bookable s.chip.amount s → changed result journal.new ≡ agreed_in s.phase s journal.old }
 {
-    let phase = s.phase;
-    let Phase::Waiting(a) = phase else {
+    let Phase::Waiting(Awaited::Request(q)) = s.phase else {
         return s;
     };
-    agreed(s, a, journal)
+    let e = approval::approved_entry(q, s.chip.approval());
+    approved(s, q, e, journal)
 }
 
 // Counts a resend of entry i, where there is room for it; its first sending is none.
+#[tactic(auto, unfolding(effect_definitions::specs::JournalEffects::resent))]
 pub fn resend(i: u16, e: Entry, journal: &mut [u8])
     ensures { e.resends < 255 → journal.new ≡ resent i e journal.old }
 {
     if e.mark != 0 {
-        journal::set_byte(journal, i, Entry::RESENDS, one_resend_more(e.resends));
+        journal::set_byte(journal, i, Entry::RESENDS, e.resends.wrapping_add(1));
     }
 }
 
 // The upload mark of an item that was not answered.
+#[tactic(auto, unfolding(effect_definitions::specs::JournalEffects::silent_mark))]
 fn silent_mark(e: Entry, sendings: u8) -> u8
     ensures { result ≡ silent_mark sendings e }
 {
-    if e.mark == 0 {
-        return Entry::SILENT;
+    if e.mark != 0 && sendings <= e.resends {
+        Entry::GIVEN_UP
+    } else {
+        Entry::SILENT
     }
-    if sendings <= e.resends {
-        return Entry::GIVEN_UP;
-    }
-    Entry::SILENT
 }
 
 // An item was not answered.
@@ -109,28 +111,20 @@ fn silent_item(i: u16, sendings: u8, n: u16, journal: &mut [u8])
     journal::set_byte(journal, i, Entry::MARK, silent_mark(e, sendings));
 }
 
-// Marks the entry at a place voided.
-fn void_at(place: Found, journal: &mut [u8])
-    ensures { journal.new ≡ voided_at place journal.old }
-{
-    match place {
-        Found::At(i) => journal::set_byte(journal, i, Entry::VOIDED, 1),
-        Found::Nowhere => {}
-    }
-}
-
 // Marks the entry that a void was for.
+#[tactic(auto, unfolding(effect_definitions::specs::JournalEffects::original_voided))]
 fn void_original(q: Request, n: u16, journal: &mut [u8])
     ensures { journal.new ≡ original_voided q (entries_of n journal.old) journal.old }
 {
     if kinds::takes_original(q.kind) {
-        let original = q.original;
-        let place = journal::find_original(journal, n, q.kind, original);
-        void_at(place, journal);
+        if let Some(i) = journal::find_original(journal, n, q.kind, q.original) {
+            journal::set_byte(journal, i, Entry::VOIDED, 1);
+        }
     }
 }
 
 // A request is approved: its entry is written.
+#[tactic(auto, unfolding(effect_definitions::specs::JournalEffects::approved))]
 fn approved(s: State, q: Request, e: Entry, journal: &mut [u8]) -> State
     ensures { Bookable e.amount s → changed result journal.new ≡ approved q e s journal.old }
 {
@@ -140,54 +134,41 @@ fn approved(s: State, q: Request, e: Entry, journal: &mut [u8]) -> State
 }
 
 // A good approval: without a chip it is the last word; with one the card has that.
-fn granted(s: State, q: Request, m: Message, journal: &mut [u8]) -> State
-    ensures { Bookable (approval_of m).amount s → changed result journal.new ≡ granted m q s journal.old }
+#[tactic(auto, unfolding(effect_definitions::specs::JournalEffects::granted, approval::specs::Approval::approved_entry))]
+fn granted(s: State, q: Request, m: &Message, journal: &mut [u8]) -> State
+    ensures { Bookable (approval_of m.now).amount s → changed result journal.new ≡ granted m.now q s journal.old }
 {
-    let chip = s.chip;
     let approval = approval::approval_of(m);
-    if chip.length == 0 {
-        return approved(s, q, approval::approved_entry(q, approval), journal);
+    if s.chip.length == 0 {
+        approved(s, q, approval::approved_entry(q, approval), journal)
+    } else {
+        s.with_chip(s.chip.approved_by(approval))
     }
-    s.with_chip(chip.approved_by(approval))
-}
-
-// The card agrees to what is awaited.
-fn agreed(s: State, a: Awaited, journal: &mut [u8]) -> State
-    ensures { Bookable s.chip.amount s → changed result journal.new ≡ agreed a s journal.old }
-{
-    let Awaited::Request(q) = a else {
-        return s;
-    };
-    let chip = s.chip;
-    approved(s, q, approval::approved_entry(q, chip.approval()), journal)
 }
 
 // An answer to a card request.
-fn on_request(s: State, q: Request, m: Message, good: bool, journal: &mut [u8]) -> State
-    ensures { Bookable (approval_of m).amount s → changed result journal.new ≡ on_request good m q s journal.old }
+#[tactic(auto, unfolding(effect_definitions::specs::JournalEffects::on_request))]
+fn on_request(s: State, q: Request, m: &Message, good: bool, journal: &mut [u8]) -> State
+    ensures { Bookable (approval_of m.now).amount s → changed result journal.new ≡ on_request good m.now q s journal.old }
 {
-    if answer_match::approves_request(q.kind, m) {
-        if answer_match::is_good(good, m) {
-            return granted(s, q, m, journal);
-        }
-        return state_effects::pending_or_unanswered(s, q, Reason::BadMac);
+    if !answer_match::approves_request(q.kind, m) {
+        state_effects::ended(s, Count::Declined)
+    } else if answer_match::is_good(good, m) {
+        granted(s, q, m, journal)
+    } else {
+        state_effects::pending_or_unanswered(s, q, Reason::BadMac)
     }
-    state_effects::ended(s, Count::Declined)
 }
 
 // An answer to an upload item.
-fn on_item(i: u16, m: Message, journal: &mut [u8])
-    ensures { journal.new ≡ on_item m i journal.old }
+#[tactic(auto, unfolding(effect_definitions::specs::JournalEffects::on_item))]
+fn on_item(i: u16, m: &Message, journal: &mut [u8])
+    ensures { journal.new ≡ on_item m.now i journal.old }
 {
-    if answer_match::approves(m) {
-        journal::set_byte(journal, i, Entry::MARK, Entry::ACCEPTED);
+    let mark = if answer_match::approves(m) {
+        Entry::ACCEPTED
     } else {
-        journal::set_byte(journal, i, Entry::MARK, Entry::REJECTED);
-    }
-}
-
-fn one_resend_more(n: u8) -> u8
-    ensures { n < 255 → result ≡ n + 1 }
-{
-    std::num::wrapping_add_u8(n, 1)
+        Entry::REJECTED
+    };
+    journal::set_byte(journal, i, Entry::MARK, mark);
 }

@@ -14,22 +14,16 @@ pub struct Taken {
 }
 
 // Takes the bytes of s up to its first line feed into a line of len bytes, as far as there is room for them.
+#[tactic(auto, unfolding(crate::specs::Lines::before_feed, crate::specs::Lines::has_feed, crate::specs::Lines::used))]
 pub fn take_in(s: &[u8], len: usize, line: &mut [u8]) -> Taken
     ensures { Adds (before_feed s.now) len line.old result.len line.new × (result.used ≡ used s.now) × (result.whole ≡ has_feed s.now) }
 {
     let end = words::scan::find(s, b'\n');
-    let kept = texts::add(&s[..end], len, line);
-    if end < s.len() {
-        return Taken {
-            len: kept,
-            used: end + 1,
-            whole: true,
-        };
-    }
+    let whole = end < s.len();
     Taken {
-        len: kept,
-        used: end,
-        whole: false,
+        len: texts::add(&s[..end], len, line),
+        used: end + usize::from(whole),
+        whole,
     }
 }
 
@@ -37,22 +31,13 @@ pub fn take_in(s: &[u8], len: usize, line: &mut [u8]) -> Taken
 pub fn line_of(whole: bool, s: &[u8]) -> &[u8]
     ensures { result.now ≡ line_of whole s.now }
 {
-    if whole {
-        return without_return(s);
-    }
-    s
+    if whole { without_return(s) } else { s }
 }
 
 // A line without a carriage return at its end.
+#[tactic(auto, unfolding(crate::specs::Lines::without_return))]
 fn without_return(s: &[u8]) -> &[u8]
     ensures { result.now ≡ without_return s.now }
 {
-    let n = s.len();
-    if n == 0 {
-        return s;
-    }
-    if s[n - 1] == 0x0D {
-        return &s[..n - 1];
-    }
-    s
+    s.strip_suffix(b"\r").unwrap_or(s)
 }

@@ -8,8 +8,6 @@ use Rattle.state.specs.declared.Settings.{Settings}
 use Rattle.calls.specs.declared.Call.{Call}
 use Rattle.calls.specs.declared.Call.TheVariants as call
 use Rattle.hexadecimal.specs.Hexadecimal.{from_hex}
-use Rattle.hexadecimal.specs.declared.Hex.{Hex}
-use Rattle.hexadecimal.specs.declared.Hex.TheVariants.{Bytes, Not, TooLong}
 use Rattle.words.specs.Words.{word_at}
 use Rattle.grammar.specs.Shapes.{is_bytes}
 use Rattle.script.specs.declared.Command.{Command}
@@ -19,8 +17,8 @@ use Rattle.centre_types.specs.declared.Left.{Left}
 use Rattle.centre_types.specs.declared.Left.TheVariants as left
 use Rattle.stage.specs.declared.Rehearsal.{Rehearsal}
 use Rattle.stage.specs.Stage.{begun, dated, numbered, echoing}
-use Rattle.lines.specs.declared.asks.Asked.{Asked}
-use Rattle.lines.specs.declared.asks.Asked.TheVariants as asked
+use Rattle.lines.specs.Asked.{Asked}
+use Rattle.lines.specs.Asked as asked
 
 -- reply answers what left last, unless that is a settlement; with an amount it answers a card request; reconcile answers a settlement
 abbrev pub usual_error : Left → ℕ
@@ -92,12 +90,6 @@ bytes_of a = take (length_of (write_message a (replicate largest 0)).outcome) (w
 -- the bytes that word w says in hexadecimal, at most 2,048; another word, as - or none, says none
 unfoldable pub bytes_in : List ℕ → List ℕ
 bytes_in w = cond (is_bytes w) (from_hex w) []
-
--- how many bytes hexadecimal text gave
-abbrev pub hex_length : Hex → ℕ
-hex_length (Bytes n) = n
-hex_length Not = 0
-hex_length TooLong = 0
 
 -- the bytes of the call of a line s: the simulated centre's answer to m, with its date and its batch number, or those of a word
 abbrev pub call_bytes : Command → List ℕ → Message → ℕ → ℕ → List ℕ

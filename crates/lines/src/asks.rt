@@ -1,59 +1,62 @@
 // What a line of a script asks for: a call, or none; how a line that makes no call changes a rehearsal; the bytes of a call.
 ghost use Rattle.std.specs.Prelude.{◌≡◌, ◌≤◌, length, take};
-ghost use Rattle.lines.specs.Asks.{hex_length, usual_error, amount_error, reply_error, reconcile_error, error_after, call_or, asked_by, changed_after, call_bytes};
+ghost use Rattle.lines.specs.Asked.{number_in, unobeyed_by, asked_as};
+ghost use Rattle.lines.specs.Asks.{usual_error, amount_error, reply_error, reconcile_error, error_after, asked_by, changed_after, call_bytes};
 
 use calls::Call;
 use centre_types::Left;
-use hexadecimal::Hex;
 use message::Message;
 use script::Command;
 use stage::Rehearsal;
 use state::Settings;
 
-// What a line asks for: a call, or none; it may not be obeyed for an error, and 0 is none.
-#[derive(Clone, Copy)]
-pub enum Asked {
-    Call(Call),
-    Error(usize),
+// Why a line that is understood is not obeyed, in the order of their numbers, 1 to 5.
+#[derive(Clone, Copy, Debug, PartialEq, Eq)]
+pub enum Unobeyed {
+    NoTerminal,
+    NothingLeft,
+    SettlementLeft,
+    NoSettlement,
+    NoCardRequest,
 }
 
-// What a line asks for, before or after the first terminal and with this left last.
-pub fn asked_by(command: Command, begun: bool, left: Left) -> Asked
-    ensures { result ≡ asked_by command begun left }
+// The call that a line asks for, or none, before or after the first terminal and with this left last.
+pub fn asked_by(command: Command, begun: bool, left: Left) -> Result<Option<Call>, Unobeyed>
+    ensures { asked_as result ≡ asked_by command begun left }
 {
     match command {
-        Command::Terminal => Asked::Error(0),
-        Command::Call { call, word } => call_or(error_after(begun, 0), call),
-        Command::Reply {
-            first,
-            second,
-            amount,
-            good,
-        } => {
-            call_or(
-                error_after(begun, reply_error(amount, left)),
-                Call::Answer(good),
-            )
+        Command::Terminal | Command::Date(_) | Command::Echo(_) | Command::Wrong(_) => Ok(None),
+        Command::CentreBatch(_) | Command::Show(_) => {
+            needs_terminal(begun)?;
+            Ok(None)
+        }
+        Command::Call { call, .. } => {
+            needs_terminal(begun)?;
+            Ok(Some(call))
+        }
+        Command::Reply { amount, good, .. } => {
+            needs_terminal(begun)?;
+            reply_error(amount, left)?;
+            Ok(Some(Call::Answer(good)))
         }
         Command::Reconcile(_) => {
-            call_or(
-                error_after(begun, reconcile_error(left)),
-                Call::Answer(true),
-            )
+            needs_terminal(begun)?;
+            reconcile_error(left)?;
+            Ok(Some(Call::Answer(true)))
         }
-        Command::Date(_) => Asked::Error(0),
-        Command::CentreBatch(_) => Asked::Error(error_after(begun, 0)),
-        Command::Echo(_) => Asked::Error(0),
-        Command::Show(_) => Asked::Error(error_after(begun, 0)),
-        Command::Wrong(_) => Asked::Error(0),
     }
 }
 
-// The rehearsal after a line that makes no call; an error changes nothing.
-pub fn changed(error: usize, command: Command, settings: Settings, r: Rehearsal) -> Rehearsal
-    ensures { result ≡ changed_after error command settings r }
+// The rehearsal after a line that makes no call; a line that is not obeyed changes nothing.
+pub fn changed(
+    unobeyed: Option<Unobeyed>,
+    command: Command,
+    settings: Settings,
+    r: Rehearsal,
+) -> Rehearsal
+    ensures { result ≡ changed_after (number_in unobeyed) command settings r }
 {
-    if error != 0 {
+    if unobeyed.is_some() {
         return r;
     }
     match command {
@@ -70,107 +73,86 @@ pub fn changed(error: usize, command: Command, settings: Settings, r: Rehearsal)
 pub fn bytes_into(
     command: Command,
     s: &[u8],
-    sent: Message,
+    sent: &Message,
     date: u16,
     batch: u32,
     out: &mut [u8],
 ) -> usize
-    ensures { (result ≤ length out.new) × (length out.old ≡ 2048 → take result out.new ≡ call_bytes command s.now sent date batch) }
+    ensures { (result ≤ length out.new) × (length out.old ≡ 2048 → take result out.new ≡ call_bytes command s.now sent.now date batch) }
 {
     match command {
-        Command::Call { call, word } => {
-            hex_length(hexadecimal::hex_into(words::word(s, word), out))
+        Command::Call { word, .. } => {
+            hexadecimal::hex_into(words::word(s, word), out).unwrap_or(0)
         }
         Command::Reply {
             first,
             second,
             amount,
-            good,
+            ..
         } => {
             let code = [first, second];
-            outgoing::write_outgoing(centre::reply(sent, date, batch, code, amount), out)
+            outgoing::write_outgoing(&centre::reply(sent, date, batch, code, amount), out)
         }
         Command::Reconcile(digit) => {
-            outgoing::write_outgoing(centre::reconciliation(sent, digit), out)
+            outgoing::write_outgoing(&centre::reconciliation(sent, digit), out)
         }
         _ => 0,
     }
 }
 
-// The error of a line that needs a terminal.
-fn error_after(begun: bool, error: usize) -> usize
-    ensures { result ≡ error_after begun error }
+#[tactic(auto, unfolding(crate::specs::Asks::error_after))]
+fn needs_terminal(begun: bool) -> Result<(), Unobeyed>
+    ensures { unobeyed_by result ≡ error_after begun 0 }
 {
     if begun {
-        return error;
+        Ok(())
+    } else {
+        Err(Unobeyed::NoTerminal)
     }
-    1
-}
-
-fn call_or(error: usize, c: Call) -> Asked
-    ensures { result ≡ call_or error c }
-{
-    if error == 0 {
-        return Asked::Call(c);
-    }
-    Asked::Error(error)
 }
 
 // Why the simulated centre has no answer with this amount, or no reconciliation, to what left last.
-fn reply_error(amount: u64, left: Left) -> usize
-    ensures { result ≡ reply_error amount left }
+#[tactic(auto, unfolding(crate::specs::Asks::reply_error))]
+fn reply_error(amount: u64, left: Left) -> Result<(), Unobeyed>
+    ensures { unobeyed_by result ≡ reply_error amount left }
 {
     if centre::is_given(amount) {
-        return amount_error(left);
+        amount_error(left)
+    } else {
+        usual_error(left)
     }
-    usual_error(left)
 }
 
-fn amount_error(left: Left) -> usize
-    ensures { result ≡ amount_error left }
+fn amount_error(left: Left) -> Result<(), Unobeyed>
+    ensures { unobeyed_by result ≡ amount_error left }
 {
     match left {
-        Left::Nothing => 2,
-        Left::Request => 0,
-        Left::Reversal => 5,
-        Left::Settlement => 5,
-        Left::Upload => 5,
-        Left::SignOn => 5,
+        Left::Nothing => Err(Unobeyed::NothingLeft),
+        Left::Request => Ok(()),
+        Left::Reversal | Left::Settlement | Left::Upload | Left::SignOn => {
+            Err(Unobeyed::NoCardRequest)
+        }
     }
 }
 
-fn usual_error(left: Left) -> usize
-    ensures { result ≡ usual_error left }
+fn usual_error(left: Left) -> Result<(), Unobeyed>
+    ensures { unobeyed_by result ≡ usual_error left }
 {
     match left {
-        Left::Nothing => 2,
-        Left::Request => 0,
-        Left::Reversal => 0,
-        Left::Settlement => 3,
-        Left::Upload => 0,
-        Left::SignOn => 0,
+        Left::Nothing => Err(Unobeyed::NothingLeft),
+        Left::Settlement => Err(Unobeyed::SettlementLeft),
+        Left::Request | Left::Reversal | Left::Upload | Left::SignOn => Ok(()),
     }
 }
 
-fn reconcile_error(left: Left) -> usize
-    ensures { result ≡ reconcile_error left }
+fn reconcile_error(left: Left) -> Result<(), Unobeyed>
+    ensures { unobeyed_by result ≡ reconcile_error left }
 {
     match left {
-        Left::Nothing => 2,
-        Left::Request => 4,
-        Left::Reversal => 4,
-        Left::Settlement => 0,
-        Left::Upload => 4,
-        Left::SignOn => 4,
-    }
-}
-
-fn hex_length(h: Hex) -> usize
-    ensures { result ≡ hex_length h }
-{
-    match h {
-        Hex::Bytes(n) => n,
-        Hex::Not => 0,
-        Hex::TooLong => 0,
+        Left::Nothing => Err(Unobeyed::NothingLeft),
+        Left::Settlement => Ok(()),
+        Left::Request | Left::Reversal | Left::Upload | Left::SignOn => {
+            Err(Unobeyed::NoSettlement)
+        }
     }
 }

@@ -4,33 +4,27 @@ ghost use Rattle.state.specs.Calls.{lend};
 ghost use Rattle.texts.specs.Text.{Text};
 ghost use Rattle.grammar.specs.declared.Fault.TheVariants.{Word};
 ghost use Rattle.screen.specs.Outcomes.{error_line};
-ghost use Rattle.lines.specs.Shows.{last, message_in, fields_text, shown, fault_text, said};
+ghost use Rattle.words.specs.Rows.{row};
+ghost use Rattle.lines.specs.Asked.{number_of, number_in};
+ghost use Rattle.lines.specs.Shows.{last, message_in, fields_text, shown, fault_text, errors, said};
 
+use super::asks::Unobeyed;
 use grammar::Fault;
 use message::Message;
 use script::{Command, Show};
 use stage::Rehearsal;
 
-// Why a line that is understood is not obeyed: row k is error k, and 0 is none.
-const ERRORS: [u8; 126] = *b"
-no terminal
-nothing to answer
-a settlement left last: reconcile answers it
-no settlement left last
-no card request left last
-";
-
 // The last message that left.
+#[tactic(auto, using(crate::proofs::Laws::message_read))]
 pub fn last_message(r: Rehearsal, message: &[u8]) -> Message
     ensures { result ≡ message_in (last r message.now) }
 {
-    let reading = reading::read(last(r, message));
-    reading.message
+    reading::read(last(r, message)).unwrap_or(Message::new())
 }
 
 // Writes why a line is not obeyed, what it shows or what is wrong with it.
 pub fn say(
-    error: usize,
+    unobeyed: Option<Unobeyed>,
     number: u64,
     command: Command,
     r: Rehearsal,
@@ -38,16 +32,28 @@ pub fn say(
     message: &[u8],
     out: &mut [u8],
 ) -> usize
-    ensures { Text (said error number command r (lend journal.now message.now)) result out.new }
+    ensures { Text (said (number_in unobeyed) number command r (lend journal.now message.now)) result out.new }
 {
-    if error != 0 {
-        let errors = ERRORS;
-        return screen::add_error(number, words::row(&errors, error), 0, out);
+    if let Some(e) = unobeyed {
+        return screen::add_error(number, reason(e), 0, out);
     }
     match command {
         Command::Show(x) => show(x, r, journal, message, out),
         Command::Wrong(f) => add_fault(number, f, out),
         _ => 0,
+    }
+}
+
+// Why a line is not obeyed.
+fn reason(e: Unobeyed) -> &'static [u8]
+    ensures { result.now ≡ row (number_of e) errors }
+{
+    match e {
+        Unobeyed::NoTerminal => b"no terminal",
+        Unobeyed::NothingLeft => b"nothing to answer",
+        Unobeyed::SettlementLeft => b"a settlement left last: reconcile answers it",
+        Unobeyed::NoSettlement => b"no settlement left last",
+        Unobeyed::NoCardRequest => b"no card request left last",
     }
 }
 
@@ -62,14 +68,11 @@ fn last(r: Rehearsal, message: &[u8]) -> &[u8]
 fn show(x: Show, r: Rehearsal, journal: &[u8], message: &[u8], out: &mut [u8]) -> usize
     ensures { Text (shown x r (lend journal.now message.now)) result out.new }
 {
-    let state = r.state;
-    let counts = state.counts;
-    let phase = state.phase;
     match x {
-        Show::Counts => screen::add_counts(counts, phase, 0, out),
-        Show::Totals => screen::add_totals(state.totals, 0, out),
-        Show::State => screen::add_state(state, 0, out),
-        Show::Journal => screen::add_journal(journal, state.entries, 0, out),
+        Show::Counts => screen::add_counts(r.state.counts, r.state.phase, 0, out),
+        Show::Totals => screen::add_totals(r.state.totals, 0, out),
+        Show::State => screen::add_state(r.state, 0, out),
+        Show::Journal => screen::add_journal(journal, r.state.entries, 0, out),
         Show::Message => screen::add_message(last(r, message), 0, out),
         Show::Fields => put_fields(r, message, out),
     }
@@ -80,10 +83,10 @@ fn put_fields(r: Rehearsal, message: &[u8], out: &mut [u8]) -> usize
     ensures { Text (fields_text (last r message.now)) result out.new }
 {
     let b = last(r, message);
-    if b.len() == 0 {
+    if b.is_empty() {
         return texts::add(b"message none\n", 0, out);
     }
-    dump::add_message(last_message(r, message), b.len() as u64, 0, out)
+    dump::add_message(&last_message(r, message), b.len() as u64, 0, out)
 }
 
 // Writes what is wrong with a line.
@@ -101,6 +104,6 @@ fn add_word_fault(number: u64, k: u8, out: &mut [u8]) -> usize
     ensures { Text (error_line number (fault_text (Word k))) result out.new }
 {
     let at = screen::add_named(b"error line ", number, 0, out);
-    let next = screen::add_named(b" word ", k as u64, at, out);
+    let next = screen::add_named(b" word ", u64::from(k), at, out);
     texts::add(b" not understood\n", next, out)
 }

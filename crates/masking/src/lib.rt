@@ -1,8 +1,7 @@
 // Packed digits as text. A card number is never shown whole.
 #![tactic(auto)]
 
-ghost use Rattle.std.specs.Prelude.{◌≡◌, ◌+◌, ◌≤◌, ◌<◌, length};
-ghost use Rattle.digits.specs.Digits.{half};
+ghost use Rattle.std.specs.Prelude.{◌≡◌, ◌≤◌, ◌<◌, length};
 ghost use Rattle.texts.specs.Text.{Adds};
 ghost use Rattle.masking.specs.Masking.{symbol, digits_text};
 
@@ -11,8 +10,8 @@ ghost use Rattle.masking.specs.Masking.{symbol, digits_text};
 pub fn add_digits(card: bool, n: u8, b: &[u8], at: usize, out: &mut [u8]) -> usize
     ensures { Adds (digits_text card n b.now) at out.old result out.new }
 {
-    let end = n as usize;
-    let mut text = [0u8; 255];
+    let end = usize::from(n);
+    let mut text = [0; 255];
     put_symbols(card, b, &mut text[..end]);
     texts::add(&text[..end], at, out)
 }
@@ -22,30 +21,19 @@ fn put_symbols(card: bool, b: &[u8], out: &mut [u8])
     ensures { out.new ≡ digits_text card (length out.old) b.now }
 {
     let n = out.len();
-    let mut i = 0;
-    while i < n {
-        out[i] = symbol_at(card, n, b, i);
-        i += 1;
+    for (i, c) in out.iter_mut().enumerate() {
+        *c = symbol_at(card, n, b, i);
     }
 }
 
+#[tactic(auto, using(crate::proofs::Symbols::half_below), unfolding(crate::specs::Masking::symbol))]
 fn symbol_at(card: bool, n: usize, b: &[u8], i: usize) -> u8
     requires { (i < n) × (n ≤ 255) }
     ensures { result ≡ symbol card n b.now i }
 {
-    if card & (6 <= i) & (i + 4 < n) {
-        return b'*';
+    if card && 6 <= i && i + 4 < n {
+        b'*'
+    } else {
+        digits::half_at(b, i) + b'0'
     }
-    digit_at(b, i)
-}
-
-// The character of half byte i; 0 past the end.
-fn digit_at(b: &[u8], i: usize) -> u8
-    ensures { result ≡ half b.now i + 0x30 }
-{
-    let x = texts::byte_at(b, i / 2);
-    if i % 2 == 0 {
-        return x / 16 + 0x30;
-    }
-    x % 16 + 0x30
 }

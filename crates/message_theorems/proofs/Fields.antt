@@ -1,4 +1,5 @@
 -- Fields of any table: those that are written read back, and those that are read are written as the same bytes.
+use Rattle.std.specs.Prelude.{Err, Result, Ok}
 use mathlib.Core.Path.{◌≡◌, refl, ap, sym, ◌∙◌}
 use mathlib.Core.List.{List, [], ◌∷◌, ◌++◌, append_assoc}
 use mathlib.Core.Bool.{Bool, true, false, cond, not, ◌&&◌, ◌||◌, and-eq-true_iff}
@@ -15,10 +16,9 @@ use Rattle.field.specs.declared.Format.{Format}
 use Rattle.field.specs.declared.Class.{Class}
 use Rattle.field.specs.declared.Class.TheVariants.{Digits, Printable, Any}
 use Rattle.field.proofs.Contents.{late-holds, none-in_form}
-use Rattle.span.specs.Span.{span_at, span, field_bytes}
+use Rattle.span.specs.Span.{span_at, span, field_bytes, spans}
 use Rattle.span.specs.declared.Span.{Span}
-use Rattle.span.specs.declared.Span.TheVariants.{Held, Refused}
-use Rattle.span.proofs.Held.{Found, held, passed, span-found, size-bound, kept-bound}
+use Rattle.span.proofs.Held.{same_spans, Found, held, passed, span-found, size-bound, kept-bound}
 use Rattle.span.proofs.Bytes.{well_formed, length-field, drop_prefix, span-kept, held_bytes}
 use Rattle.message.specs.Message.{Field, field_in}
 use Rattle.message.specs.Build.{padded}
@@ -63,7 +63,7 @@ turn_back f bm n bs rest next w l z = go (names bm f.number) refl
     b = take (size f.class h) bs
 
     go : (k : Bool) → names bm f.number ≡ k
-        → after_span f (cond k (field_bytes f h b) [] ++ rest) next (cond k (span_at f (cond k (field_bytes f h b) [] ++ rest)) (Held 0 0 0))
+        → after_span f (cond k (field_bytes f h b) [] ++ rest) next (cond k (span_at f (cond k (field_bytes f h b) [] ++ rest)) (spans 0 0 0))
         ≡ prepend (cond k h 0 ∷ []) (padded (room f) (cond k b [])) (next rest)
     go true e =
         let y = field-sound f bm n bs e z in
@@ -175,7 +175,7 @@ none-in_form-at Digits s = none-in_form Digits
 none-in_form-at Printable s = none-in_form Printable
 none-in_form-at Any s = none-in_form Any
 
-taken : (f : Format) (bm s : List ℕ) (n p z : ℕ) → span f bm s ≡ Held n p z → Taken f bm s n p z
+taken : (f : Format) (bm s : List ℕ) (n p z : ℕ) → span f bm s ≡ spans n p z → Taken f bm s n p z
 unfolding span field_fault named_bytes
 taken f bm s n p z q = go (names bm f.number) refl q
   where
@@ -199,12 +199,11 @@ taken f bm s n p z q = go (names bm f.number) refl q
           bytes = λ k. absurd (let y : ◌≡◌ {A = Bool} false true = rw (h.is_late, e, none) at k in let x : ◌≡◌ {A = ℕ} 0 1 = cc in omega arith);
         })
 
-    go : (k : Bool) → names bm f.number ≡ k → cond k (span_at f s) (Held 0 0 0) ≡ Held n p z → Taken f bm s n p z
+    go : (k : Bool) → names bm f.number ≡ k → cond k (span_at f s) (spans 0 0 0) ≡ spans n p z → Taken f bm s n p z
     go true e q = found e (span-found f s q)
     go false e q =
-        let pe : 0 ≡ p = cc in
-        let ze : 0 ≡ z = cc in
-        rw (← pe, ← ze) (record { fits = omega arith; sound = λ rest. rw e; bytes = λ _ rest. rw e })
+        let same = same_spans q in
+        rw (← same.1.0, ← same.1.1) (record { fits = omega arith; sound = λ rest. rw e; bytes = λ _ rest. rw e })
 
 pub prepend-good : (n : ℕ) (b : List ℕ) (x : Fields) (cs bs : List ℕ) → prepend (n ∷ []) b x ≡ good cs bs
     → (cs' : List ℕ) × (bs' : List ℕ) × (x ≡ good cs' bs') × (n ∷ cs' ≡ cs) × (b ++ bs' ≡ bs)
@@ -251,8 +250,11 @@ fields-again [] bm s cs bs q = none-again bm s cs bs (ℕ_discrete (length s) 0)
 fields-again (f ∷ fs) bm s cs bs q = go (fields-again fs bm) (span f bm s) refl q
   where
     go : ((s cs bs : List ℕ) → read_fields fs bm s ≡ good cs bs → Again fs bm s cs bs)
-        → (g : Span) → span f bm s ≡ g → after_span f s (read_fields fs bm) g ≡ good cs bs → Again (f ∷ fs) bm s cs bs
-    go ih (Held n p z) e q =
+        → (g : Result Span ℕ) → span f bm s ≡ g → after_span f s (read_fields fs bm) g ≡ good cs bs → Again (f ∷ fs) bm s cs bs
+    go ih (Ok x) e q =
+        let n = x.count in
+        let p = x.skip in
+        let z = x.size in
         let g = prepend-good n (padded (room f) (take z (drop p s))) (read_fields fs bm (drop (p + z) s)) cs bs q in
         again_equal g.3 g.4 (again-more f fs bm s g.0 g.1 n p z (taken f bm s n p z e) (ih (drop (p + z) s) g.0 g.1 g.2))
-    go ih (Refused x) e q = absurd (let y : ◌≡◌ {A = ℕ} 0 1 = cc in omega arith)
+    go ih (Err x) e q = absurd (let y : ◌≡◌ {A = ℕ} 0 1 = cc in omega arith)

@@ -15,8 +15,7 @@ use Rattle.field.specs.Bitmap.{bit, names, listed_at, listed}
 use Rattle.field.specs.Contents.{key_lengths, allowed, kept}
 use Rattle.field.specs.declared.Class.TheVariants.{Any}
 use Rattle.field.specs.declared.Prefix.TheVariants.{Two}
-use Rattle.span.specs.Span.{span_at, contents_at, passed_at, field_bytes, span}
-use Rattle.span.specs.declared.Span.TheVariants.{Held}
+use Rattle.span.specs.Span.{span_at, contents_at, passed_at, field_bytes, span, spans}
 use Rattle.span.proofs.Bytes.{span_back}
 use Rattle.elements.specs.Elements.{elements_in_form}
 use Rattle.message.specs.Message.{field_in, field_of}
@@ -25,8 +24,7 @@ use Rattle.message.specs.Build.{padded}
 use Rattle.message.specs.Late.{late_fault}
 use Rattle.message.specs.declared.Message.{Message}
 use Rattle.message.proofs.Late.{chip_kept, keys_kept, late_is}
-use Rattle.reading.specs.Reading.{good, refused, read_fields, read_message}
-use Rattle.reading.specs.declared.ReadOutcome.TheVariants.{Read, Refused}
+use Rattle.reading.specs.Reading.{good, refused, read_fields, read_message, Read, Refused}
 use Rattle.writing.specs.Writing.{field_fault, fields_fault, message_fault}
 use Rattle.message_theorems.specs.Keys.{type_numbers, with_length, keys_alone, chip_and_keys, KeysOfEveryLength, KeysAfterForm, KeysRead, WriteKeysOfEveryLength, WriteKeysAfterForm}
 use Rattle.message_theorems.proofs.Fields.{in_place}
@@ -51,7 +49,7 @@ length-read b h =
 
 -- field 62 at the end of the bytes: one of another length is walked past
 keys-span : (k : List ℕ) → length k ≤ 9999
-    → span_at (key_material 62) (with_length k) ≡ cond (allowed (key_material 62) (length k)) (Held (length k) 2 (length k)) (Held 0 (2 + length k) 0)
+    → span_at (key_material 62) (with_length k) ≡ cond (allowed (key_material 62) (length k)) (spans (length k) 2 (length k)) (spans 0 (2 + length k) 0)
 unfolding span_at contents_at passed_at
 keys-span k h =
     let r = length-read k h in
@@ -108,7 +106,7 @@ unfolding formats names bit listed listed_at field_in held_of
 keys-of-every-length x y k t h = late-judged x y keys_alone (with_length k) t refl refl (fields-alone k h) refl (keys_kept_alike (length k))
 
 -- field 55 before it
-chip-span : (c rest : List ℕ) → 1 ≤ length c → length c ≤ 255 → span_at (variable 55 Any Two 1 255) (with_length c ++ rest) ≡ Held (length c) 2 (length c)
+chip-span : (c rest : List ℕ) → 1 ≤ length c → length c ≤ 255 → span_at (variable 55 Any Two 1 255) (with_length c ++ rest) ≡ spans (length c) 2 (length c)
 unfolding field_bytes allowed
 chip-span c rest l h =
     rw (length_bytes (length c) (omega arith)) at (span_back (variable 55 Any Two 1 255) (length c) c rest refl (rw (le-leb 1 (length c) l, le-leb (length c) 255 h)) refl refl)

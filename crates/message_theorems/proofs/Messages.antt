@@ -1,4 +1,5 @@
 -- The theorems on whole messages.
+use Rattle.std.specs.Prelude.{Ok, Err}
 use mathlib.Core.Path.{◌≡◌, refl, ap, sym, ◌∙◌}
 use mathlib.Core.List.{List, [], ◌∷◌, ◌++◌}
 use mathlib.Core.Bool.{Bool, true, false, cond, not, ◌&&◌, ◌||◌, and-true, and-false, and-eq-true_iff}
@@ -19,13 +20,10 @@ use Rattle.field.proofs.Formats.{every}
 use Rattle.message.specs.Message.{Shaped, field_in, field_of, largest}
 use Rattle.message.specs.Late.{late_fault, SameNamed}
 use Rattle.message.specs.declared.Message.{Message}
-use Rattle.reading.specs.Reading.{Fields, bad, good, read_fields, refused, accepted, assembled, indicator_in, bitmap_of, read_message}
-use Rattle.reading.specs.declared.Reading.{Reading}
-use Rattle.reading.specs.declared.ReadOutcome.TheVariants.{Read, Refused as Not}
+use Rattle.reading.specs.Reading.{Fields, bad, good, read_fields, refused, accepted, assembled, indicator_in, bitmap_of, read_message, Reading, Read, Refused as Not}
 use Rattle.message.proofs.Places.{rooms-formats}
 use Rattle.message.proofs.Late.{late-named, late_kept}
 use Rattle.writing.specs.Writing.{fields_fault, fields_bytes, message_bytes, message_fault, written, write_message}
-use Rattle.writing.specs.declared.Writing.TheVariants.{Written, Refused}
 use Rattle.writing.proofs.Faults.{fault_inversion}
 use Rattle.writing.proofs.Putting.{message-fits}
 use Rattle.message_theorems.specs.RoundTrip.{Bytes, ReadsBack, WrittenReadsBack, ReadWritesBack, NeverLonger}
@@ -42,15 +40,15 @@ record IsWritten (m : Message) (o : List ℕ) (k : ℕ) : Type 0 where
   count : k ≡ length (message_bytes m)
   buffer : (write_message m o).buffer ≡ message_bytes m ++ drop k o
 
-pub refused-written : {e k : ℕ} → Refused e ≡ Written k → ⊥
+pub refused-written : {e k : ℕ} → Err e ≡ Ok k → ⊥
 refused-written {e} {k} q = let z : ◌≡◌ {A = ℕ} 0 1 = cc in omega arith
 
-is-written : (m : Message) (o : List ℕ) (k : ℕ) → (write_message m o).outcome ≡ Written k → IsWritten m o k
+is-written : (m : Message) (o : List ℕ) (k : ℕ) → (write_message m o).outcome ≡ Ok k → IsWritten m o k
 unfolding write_message
 is-written m o k = short (ltb (length o) largest) refl
   where
     room : (b : Bool) → eqb (message_fault m) 0 ≡ b → ltb (length o) largest ≡ false
-        → (cond b (written (Written (length (message_bytes m))) (message_bytes m ++ drop (length (message_bytes m)) o)) (written (Refused (message_fault m)) o)).outcome ≡ Written k
+        → (cond b (written (Ok (length (message_bytes m))) (message_bytes m ++ drop (length (message_bytes m)) o)) (written (Err (message_fault m)) o)).outcome ≡ Ok k
         → IsWritten m o k
     room true e t q =
         let c : length (message_bytes m) ≡ k = cc in
@@ -58,8 +56,8 @@ is-written m o k = short (ltb (length o) largest) refl
     room false e t q = absurd (refused-written q)
 
     short : (b : Bool) → ltb (length o) largest ≡ b
-        → (cond b (written (Refused 1) o)
-        (cond (eqb (message_fault m) 0) (written (Written (length (message_bytes m))) (message_bytes m ++ drop (length (message_bytes m)) o)) (written (Refused (message_fault m)) o))).outcome ≡ Written k
+        → (cond b (written (Err 1) o)
+        (cond (eqb (message_fault m) 0) (written (Ok (length (message_bytes m))) (message_bytes m ++ drop (length (message_bytes m)) o)) (written (Err (message_fault m)) o))).outcome ≡ Ok k
         → IsWritten m o k
     short true e q = absurd (refused-written q)
     short false e q = room (eqb (message_fault m) 0) refl e q

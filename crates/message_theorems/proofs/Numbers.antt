@@ -1,4 +1,5 @@
 -- The numbers that fields are refused by.
+use Rattle.std.specs.Prelude.{Err, Result, Ok}
 use mathlib.Core.Path.{◌≡◌, refl, sym}
 use mathlib.Core.List.{List, [], ◌∷◌}
 use mathlib.Core.Bool.{Bool, true, false, cond, and-eq-true_iff}
@@ -16,9 +17,8 @@ use Rattle.field.specs.declared.Class.{Class}
 use Rattle.field.specs.declared.Class.TheVariants.{Digits, Printable, Any}
 use Rattle.field.specs.declared.Format.{Format}
 use Rattle.field.proofs.Formats.{every}
-use Rattle.span.specs.Span.{count_in, passed_at, contents_at, span_at, span}
+use Rattle.span.specs.Span.{count_in, passed_at, contents_at, span_at, span, spans}
 use Rattle.span.specs.declared.Span.{Span}
-use Rattle.span.specs.declared.Span.TheVariants.{Held, Refused}
 use Rattle.message.specs.Build.{padded}
 use Rattle.reading.specs.Reading.{Fields, bad, good, prepend, after_span, read_fields}
 use Rattle.writing.specs.Writing.{field_fault, fields_fault}
@@ -38,9 +38,9 @@ pub among_others : (x : ℕ) (ys : List ℕ) → among x (0 ∷ ys) ≡ true →
 among_others x ys h k = rw (ne_eqb 0 x (λ q. k (sym q))) at h
 
 -- the numbers that fields are refused by where they are read, and where they are to be written, 0 for none
-abbrev pub span_judged : Span → Bool
-span_judged (Held n p z) = true
-span_judged (Refused e) = among e (3 ∷ 6 ∷ 7 ∷ 8 ∷ 9 ∷ [])
+abbrev pub span_judged : Result Span ℕ → Bool
+span_judged (Ok x) = true
+span_judged (Err e) = among e (3 ∷ 6 ∷ 7 ∷ 8 ∷ 9 ∷ [])
 
 abbrev pub fields_judged : Fields → Bool
 fields_judged (bad e) = among e (3 ∷ 6 ∷ 7 ∷ 8 ∷ 9 ∷ [])
@@ -50,7 +50,7 @@ abbrev pub fault_judged : ℕ → Bool
 fault_judged e = among e (0 ∷ 6 ∷ 7 ∷ 8 ∷ [])
 
 -- what holds of both sides of a choice
-chosen_span : (b : Bool) (x y : Span) → span_judged x ≡ true → span_judged y ≡ true → span_judged (cond b x y) ≡ true
+chosen_span : (b : Bool) (x y : Result Span ℕ) → span_judged x ≡ true → span_judged y ≡ true → span_judged (cond b x y) ≡ true
 chosen_span true x y h k = h
 chosen_span false x y h k = k
 
@@ -76,23 +76,23 @@ fault_judged_lem (f ∷ fs) bm cs bs =
     chosen_number fault_judged (eqb (field_fault f bm (get_or cs 0 0) bs) 0) _ _ (fault_judged_lem fs bm (drop 1 cs) (drop (room f) bs)) (field-judged f bm (get_or cs 0 0) bs)
 
 -- and read
-refused-fault : (x n p z : ℕ) → fault_judged x ≡ true → span_judged (cond (eqb x 0) (Held n p z) (Refused x)) ≡ true
+refused-fault : (x n p z : ℕ) → fault_judged x ≡ true → span_judged (cond (eqb x 0) (spans n p z) (Err x)) ≡ true
 refused-fault x n p z h = go (eqb x 0) refl
   where
-    go : (b : Bool) → eqb x 0 ≡ b → span_judged (cond b (Held n p z) (Refused x)) ≡ true
+    go : (b : Bool) → eqb x 0 ≡ b → span_judged (cond b (spans n p z) (Err x)) ≡ true
     go true e = refl
     go false e =
-        among-each (λ y. span_judged (Refused y)) x (6 ∷ 7 ∷ 8 ∷ []) refl (among_others x (6 ∷ 7 ∷ 8 ∷ []) h (eqb-false x 0 e))
+        among-each (λ y. span_judged (Err y)) x (6 ∷ 7 ∷ 8 ∷ []) refl (among_others x (6 ∷ 7 ∷ 8 ∷ []) h (eqb-false x 0 e))
 
 passed-judged : (f : Format) (n : ℕ) (s : List ℕ) → span_judged (passed_at f n s) ≡ true
 unfolding passed_at
-passed-judged f n s = chosen_span (late f) _ (Refused 7) (chosen_span (ltb (length s) n) (Refused 3) _ refl refl) refl
+passed-judged f n s = chosen_span (late f) _ (Err 7) (chosen_span (ltb (length s) n) (Err 3) _ refl refl) refl
 
 contents-judged : (f : Format) (n : ℕ) (s : List ℕ) → span_judged (contents_at f n s) ≡ true
 unfolding contents_at
 contents-judged f n s =
     chosen_span (allowed f n) _ (passed_at f n s)
-    (chosen_span (ltb (length s) (size f.class n)) (Refused 3) _ refl
+    (chosen_span (ltb (length s) (size f.class n)) (Err 3) _ refl
     (refused-fault (fault f.class n (take (size f.class n) s)) n (skip f.prefix) (size f.class n)
     (contents_fault f.class n (take (size f.class n) s))))
     (passed-judged f n s)
@@ -101,19 +101,19 @@ span_judged_lem : (f : Format) (bm s : List ℕ) → span_judged (span f bm s) �
 unfolding span span_at
 span_judged_lem f bm s =
     let k = skip f.prefix in
-    chosen_span (names bm f.number) _ (Held 0 0 0)
-    (chosen_span (ltb (length s) k) (Refused 3) _ refl
-    (chosen_span (is_packed (2 * k) (take k s)) _ (Refused 6) (contents-judged f (count_in f.prefix f.high (take k s)) (drop k s)) refl))
+    chosen_span (names bm f.number) _ (spans 0 0 0)
+    (chosen_span (ltb (length s) k) (Err 3) _ refl
+    (chosen_span (is_packed (2 * k) (take k s)) _ (Err 6) (contents-judged f (count_in f.prefix f.high (take k s)) (drop k s)) refl))
     refl
 
-after-judged : (f : Format) (s : List ℕ) (next : List ℕ → Fields) (g : Span) → span_judged g ≡ true → ((r : List ℕ) → fields_judged (next r) ≡ true)
+after-judged : (f : Format) (s : List ℕ) (next : List ℕ → Fields) (g : Result Span ℕ) → span_judged g ≡ true → ((r : List ℕ) → fields_judged (next r) ≡ true)
     → fields_judged (after_span f s next g) ≡ true
-after-judged f s next (Held n p z) h k = go (next (drop (p + z) s)) (k (drop (p + z) s))
+after-judged f s next (Ok x) h k = go (next (drop (x.skip + x.size) s)) (k (drop (x.skip + x.size) s))
   where
-    go : (x : Fields) → fields_judged x ≡ true → fields_judged (prepend (n ∷ []) (padded (room f) (take z (drop p s))) x) ≡ true
+    go : (y : Fields) → fields_judged y ≡ true → fields_judged (prepend (x.count ∷ []) (padded (room f) (take x.size (drop x.skip s))) y) ≡ true
     go (bad e) h = h
     go (good cs bs) h = refl
-after-judged f s next (Refused e) h k = h
+after-judged f s next (Err e) h k = h
 
 pub fields_judged_lem : (fs : List Format) (bm s : List ℕ) → fields_judged (read_fields fs bm s) ≡ true
 unfolding read_fields

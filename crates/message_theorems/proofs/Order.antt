@@ -14,8 +14,7 @@ use Rattle.field.specs.Bitmap.{names, listed}
 use Rattle.message.specs.Late.{late_fault}
 use Rattle.message.specs.declared.Message.{Message}
 use Rattle.message.proofs.Late.{late-number}
-use Rattle.reading.specs.Reading.{Fields, bad, good, read_fields, refused, accepted, assembled, read_message}
-use Rattle.reading.specs.declared.ReadOutcome.TheVariants.{Read, Refused}
+use Rattle.reading.specs.Reading.{Fields, bad, good, read_fields, refused, accepted, assembled, read_message, Read, Refused}
 use Rattle.message_theorems.specs.Order.{field_numbers, ReadRefused, ShortIsThree, TypeBeforeBitmap, FaultStands, Whole, LongerIsNine, CutIsThree, FormAfterEnd, reading_rules, ReadJudgedBy}
 use Rattle.message_theorems.proofs.Longer.{fields_stand, fields_longer, fields-cut}
 use Rattle.message_theorems.proofs.Messages.{not_read, after_head, head_read, split_ten}

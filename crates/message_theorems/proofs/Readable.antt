@@ -27,8 +27,7 @@ use Rattle.message.specs.Late.{late_fault}
 use Rattle.message.specs.declared.Message.{Message}
 use Rattle.message.proofs.Late.{late_kept}
 use Rattle.message.proofs.Places.{rooms_of, rooms-formats}
-use Rattle.reading.specs.Reading.{read_message}
-use Rattle.reading.specs.declared.ReadOutcome.TheVariants.{Read}
+use Rattle.reading.specs.Reading.{read_message, Read}
 use Rattle.writing.specs.Writing.{field_fault, fields_fault}
 use Rattle.writing.proofs.Faults.{field-sound, fields-sound}
 use Rattle.message_theorems.proofs.Fields.{row_kept, both_allow}

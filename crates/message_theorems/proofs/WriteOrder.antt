@@ -1,4 +1,5 @@
 -- The order of checks in writing.
+use Rattle.std.specs.Prelude.{Result, Err, Ok}
 use mathlib.Core.Path.{◌≡◌, refl, sym, ◌∙◌}
 use mathlib.Core.List.{List, [], ◌∷◌, ◌++◌, append_assoc, append-nil}
 use mathlib.Core.Bool.{Bool, true, false, cond, and-eq-true_iff}
@@ -17,7 +18,6 @@ use Rattle.field.specs.declared.Class.TheVariants.{Any}
 use Rattle.field.specs.declared.Format.{Format}
 use Rattle.field.proofs.Formats.{every}
 use Rattle.span.specs.Span.{count_in, contents_at, span_at, span, field_bytes}
-use Rattle.span.specs.declared.Span.TheVariants.{Refused as Unheld}
 use Rattle.span.proofs.Held.{span-held, size-bound}
 use Rattle.span.proofs.Bytes.{well_formed, length-field, drop_prefix, span_back}
 use Rattle.message.specs.Message.{Shaped, largest}
@@ -25,11 +25,8 @@ use Rattle.message.specs.Late.{late_fault}
 use Rattle.message.specs.declared.Message.{Message}
 use Rattle.message.proofs.Late.{late-number}
 use Rattle.message.proofs.Places.{rooms_of, rooms-formats}
-use Rattle.reading.specs.Reading.{Fields, bad, after_span, refused, accepted, assembled, read_fields, read_message}
-use Rattle.reading.specs.declared.ReadOutcome.{ReadOutcome}
-use Rattle.reading.specs.declared.ReadOutcome.TheVariants.{Read, Refused as Unread}
+use Rattle.reading.specs.Reading.{Fields, bad, after_span, refused, accepted, assembled, read_fields, read_message, ReadOutcome, Read, Refused as Unread}
 use Rattle.writing.specs.Writing.{field_fault, fields_fault, named_bytes, fields_bytes, message_bytes, contents_fault, message_fault, written, write_message}
-use Rattle.writing.specs.declared.Writing.TheVariants.{Written, Refused}
 use Rattle.message_theorems.specs.Order.{WriteRefused, SmallBufferIsOne, WriteTypeBeforeBitmap, writing_rules, WriteJudgedBy, as_read, WriteJudgesAsRead}
 use Rattle.message_theorems.proofs.Fields.{all_well_formed, none-in_form-at, turn_back}
 use Rattle.message_theorems.proofs.Messages.{refused-written, kept, fault_of, kept-late, formats-well_formed, after_head, bytes-head, fields-kept}
@@ -61,7 +58,7 @@ length_back f n w a =
 -- a field that is written with a fault in its contents is refused for it
 module _ (f : Format) (n : ℕ) (b rest : List ℕ) where
   span-fault : well_formed f ≡ true → allowed f n ≡ true → length b ≡ size f.class n → (fault f.class n b ≡ 0 → ⊥)
-      → span_at f (field_bytes f n b ++ rest) ≡ Unheld (fault f.class n b)
+      → span_at f (field_bytes f n b ++ rest) ≡ Err (fault f.class n b)
   unfolding span_at contents_at
   span-fault w a l x =
       let k = skip f.prefix in
@@ -148,7 +145,7 @@ is_fault n = among n (0 ∷ 4 ∷ 5 ∷ 6 ∷ 7 ∷ 8 ∷ 23 ∷ 24 ∷ [])
 abbrev is_rule : ℕ → Bool
 is_rule n = among n writing_rules
 
-refused_equal : {a b : ℕ} → Refused a ≡ Refused b → a ≡ b
+refused_equal : {a b : ℕ} → ◌≡◌ {A = Result ℕ ℕ} (Err a) (Err b) → a ≡ b
 refused_equal q = cc
 
 -- writing into a buffer that has room
@@ -161,8 +158,8 @@ module _ (m : Message) (o : List ℕ) (l : largest ≤ length o) where
   unfolding write_message
   as_read_lem = rw (le-ltb (length o) largest l) (go (eqb (message_fault m) 0))
     where
-      go : (b : Bool) → as_read (cond b (written (Written (length (message_bytes m))) (message_bytes m ++ drop (length (message_bytes m)) o))
-          (written (Refused (message_fault m)) o)).outcome ≡ cond b Read (Unread (message_fault m))
+      go : (b : Bool) → as_read (cond b (written (Ok (length (message_bytes m))) (message_bytes m ++ drop (length (message_bytes m)) o))
+          (written (Err (message_fault m)) o)).outcome ≡ cond b Read (Unread (message_fault m))
       go true = refl
       go false = refl
 
@@ -241,8 +238,8 @@ unfolding write_message
 first-fault m o n q h = go (ltb (length o) largest) (eqb (message_fault m) 0) refl q
   where
     go : (a b : Bool) → eqb (message_fault m) 0 ≡ b
-        → (cond a (written (Refused 1) o) (cond b (written (Written (length (message_bytes m))) (message_bytes m ++ drop (length (message_bytes m)) o))
-        (written (Refused (message_fault m)) o))).outcome ≡ Refused n
+        → (cond a (written (Err 1) o) (cond b (written (Ok (length (message_bytes m))) (message_bytes m ++ drop (length (message_bytes m)) o))
+        (written (Err (message_fault m)) o))).outcome ≡ Err n
         → (message_fault m ≡ n) × (n ≡ 0 → ⊥)
     go true b e q = absurd (h (sym (refused_equal q)))
     go false true e q = absurd (refused-written (sym q))

@@ -5,8 +5,7 @@ use Rattle.field.specs.Bitmap.{names}
 use Rattle.elements.specs.Elements.{elements_in_form}
 use Rattle.message.specs.Message.{field_of, largest}
 use Rattle.message.specs.declared.Message.{Message}
-use Rattle.reading.specs.Reading.{read_message}
-use Rattle.reading.specs.declared.ReadOutcome.TheVariants.{Read, Refused}
+use Rattle.reading.specs.Reading.{read_message, Read, Refused}
 use Rattle.writing.specs.Writing.{write_message}
 use Rattle.message_theorems.specs.Order.{WriteRefused, as_read}
 

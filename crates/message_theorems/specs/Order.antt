@@ -1,15 +1,12 @@
 -- Document 01, "Why a call is turned down", and document 02: the order of checks in reading and in writing, said of all bytes and of every message.
-use Rattle.std.specs.Prelude.{◌≡◌, List, [], ◌∷◌, ◌++◌, true, false, ℕ, ◌+◌, ◌*◌, ◌≤◌, ◌<◌, length, take}
+use Rattle.std.specs.Prelude.{◌≡◌, List, [], ◌∷◌, ◌++◌, true, false, ℕ, ◌+◌, ◌*◌, ◌≤◌, ◌<◌, length, take, Result, Ok, Err}
 use Rattle.field.specs.Table.{among, indicators}
 use Rattle.field.specs.Bitmap.{names}
 use Rattle.message.specs.Message.{Shaped, largest}
 use Rattle.message.specs.declared.Message.{Message}
-use Rattle.reading.specs.Reading.{read_message}
-use Rattle.reading.specs.declared.ReadOutcome.{ReadOutcome}
-use Rattle.reading.specs.declared.ReadOutcome.TheVariants as reading
+use Rattle.reading.specs.Reading.{read_message, ReadOutcome}
+use Rattle.reading.specs.Reading as reading
 use Rattle.writing.specs.Writing.{message_bytes, write_message}
-use Rattle.writing.specs.declared.Writing.{Writing}
-use Rattle.writing.specs.declared.Writing.TheVariants as writing
 
 -- the fields that documents 01 and 02 list
 abbrev pub field_numbers : List ℕ
@@ -21,7 +18,7 @@ abbrev pub ReadRefused : ℕ → List ℕ → Type 0
 ReadRefused n b = (read_message b).outcome ≡ reading.Refused n
 
 abbrev pub WriteRefused : ℕ → Message → List ℕ → Type 0
-WriteRefused n m o = (write_message m o).outcome ≡ writing.Refused n
+WriteRefused n m o = (write_message m o).outcome ≡ Err n
 
 -- under 10 bytes is 3
 abbrev pub ShortIsThree : Type 0
@@ -79,9 +76,9 @@ abbrev pub WriteJudgedBy : Type 0
 WriteJudgedBy = (m : Message) (o : List ℕ) (n : ℕ) → WriteRefused n m o → among n writing_rules ≡ true
 
 -- what reading says where writing has said this
-abbrev pub as_read : Writing → ReadOutcome
-as_read (writing.Written k) = reading.Read
-as_read (writing.Refused n) = reading.Refused n
+abbrev pub as_read : Result ℕ ℕ → ReadOutcome
+as_read (Ok k) = reading.Read
+as_read (Err n) = reading.Refused n
 
 -- in the reading's order: a message that is not refused by 7 is judged as its bytes are read; a count that is not allowed may have no length bytes
 abbrev pub WriteJudgesAsRead : Type 0

@@ -4,8 +4,7 @@ use Rattle.field.specs.Table.{among}
 use Rattle.field.specs.Bitmap.{names}
 use Rattle.field.specs.Contents.{all_printable}
 use Rattle.message.specs.Message.{field_of}
-use Rattle.reading.specs.Reading.{read_message}
-use Rattle.reading.specs.declared.ReadOutcome.TheVariants.{Read}
+use Rattle.reading.specs.Reading.{read_message, Read}
 
 -- the field 60 of a message that was read has 11 or 14 digits
 abbrev pub CodesRead : Type 0

@@ -7,8 +7,7 @@ use Rattle.field.specs.declared.Format.{Format}
 use Rattle.elements.specs.Elements.{elements_in_form}
 use Rattle.message.specs.Message.{Shaped, Field, field_of}
 use Rattle.message.specs.Located.{format_of}
-use Rattle.reading.specs.Reading.{read_message}
-use Rattle.reading.specs.declared.ReadOutcome.TheVariants.{Read}
+use Rattle.reading.specs.Reading.{read_message, Read}
 
 -- a field has an allowed count, as many bytes as that takes, and no fault in them
 pub record Keeps (f : Format) (x : Field) : Type 0 where

@@ -1,13 +1,10 @@
 -- What is proved of reading and writing, for every message and all bytes.
-use Rattle.std.specs.Prelude.{◌≡◌, List, ◌++◌, true, ℕ, ◌≤◌, ◌<◌, length, get_or, take, drop}
+use Rattle.std.specs.Prelude.{◌≡◌, List, ◌++◌, true, ℕ, ◌≤◌, ◌<◌, length, get_or, take, drop, Ok}
 use Rattle.field.specs.Bitmap.{names}
 use Rattle.message.specs.Message.{Shaped, field_of, largest}
 use Rattle.message.specs.declared.Message.{Message}
-use Rattle.reading.specs.Reading.{read_message}
-use Rattle.reading.specs.declared.Reading.{Reading}
-use Rattle.reading.specs.declared.ReadOutcome.TheVariants.{Read}
+use Rattle.reading.specs.Reading.{read_message, Reading, Read}
 use Rattle.writing.specs.Writing.{write_message, written}
-use Rattle.writing.specs.declared.Writing.TheVariants.{Written}
 
 -- each place holds a byte, as in every slice of bytes
 abbrev pub Bytes : List ℕ → Type 0
@@ -22,14 +19,14 @@ pub record ReadsBack (m : Message) (r : Reading) : Type 0 where
 
 -- every message that is written reads back to its fields
 abbrev pub WrittenReadsBack : Type 0
-WrittenReadsBack = (m : Message) (o : List ℕ) (k : ℕ) → Shaped m → (write_message m o).outcome ≡ Written k
+WrittenReadsBack = (m : Message) (o : List ℕ) (k : ℕ) → Shaped m → (write_message m o).outcome ≡ Ok k
     → ReadsBack m (read_message (take k (write_message m o).buffer))
 
 -- every message that is read, written again, is the same bytes, and what follows them in the buffer stays
 abbrev pub ReadWritesBack : Type 0
 ReadWritesBack = (s o : List ℕ) → Bytes s → (read_message s).outcome ≡ Read → largest ≤ length o
-    → write_message (read_message s).message o ≡ written (Written (length s)) (s ++ drop (length s) o)
+    → write_message (read_message s).message o ≡ written (Ok (length s)) (s ++ drop (length s) o)
 
 -- what is written is never longer than the largest message
 abbrev pub NeverLonger : Type 0
-NeverLonger = (m : Message) (o : List ℕ) (k : ℕ) → Shaped m → (write_message m o).outcome ≡ Written k → k ≤ largest
+NeverLonger = (m : Message) (o : List ℕ) (k : ℕ) → Shaped m → (write_message m o).outcome ≡ Ok k → k ≤ largest

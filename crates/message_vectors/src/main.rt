@@ -1,10 +1,12 @@
 // Cases of reading and writing that the documents do not star. What this writes is compared with the file stdout.
 #![tactic(auto)]
 
+ghost use Rattle.std.specs.Prelude.{◌<◌, ◌≤◌, length};
+ghost use Rattle.field.specs.Table.{rows};
+
+use checks::Refusal;
 use field::Class;
-use message::{Contents, Located, Message};
-use reading::ReadOutcome;
-use writing::Writing;
+use message::{Contents, Message};
 
 // The descriptor of standard output.
 const STDOUT: i32 = 1;
@@ -67,324 +69,272 @@ fn say(text: &[u8]) {
     io::write_all(STDOUT, text);
 }
 
-fn wide(x: u8) -> u64 {
-    x as u64
-}
-
 fn show_number(x: u64) {
     say(b" ");
     io::print_decimal(STDOUT, x);
 }
 
-// 0 where a message was read, else the refusal number.
-fn show_reading(s: &[u8]) {
-    let r = reading::read(s);
-    let o = r.outcome;
-    match o {
-        ReadOutcome::Read => show_number(0),
-        ReadOutcome::Refused(e) => show_number(wide(e)),
-    }
+fn show_refusal(e: Refusal) {
+    say(b" r");
+    io::print_decimal(STDOUT, u64::from(u8::from(e)));
 }
 
-fn show_refusal(e: u8) {
-    say(b" r");
-    io::print_decimal(STDOUT, wide(e));
+// 0 where a message was read, else the refusal number.
+fn show_reading(s: &[u8]) {
+    let number = match reading::read(s) {
+        Ok(_) => 0,
+        Err(e) => u8::from(e),
+    };
+    show_number(u64::from(number));
 }
 
 // The length of what was written, or the refusal number after an r.
-fn show_writing(w: Writing) {
-    match w {
-        Writing::Written(n) => show_number(n as u64),
-        Writing::Refused(e) => show_refusal(e),
+fn show_writing(written: Result<usize, Refusal>) {
+    match written {
+        Ok(n) => show_number(n as u64),
+        Err(e) => show_refusal(e),
     }
 }
 
 // A message cut off after each number of bytes.
 fn cut_copies(s: &[u8]) {
     say(b"cut");
-    let mut n = 0;
-    while n < s.len() {
+    for n in 0..=s.len() {
         show_reading(&s[..n]);
-        n += 1;
     }
-    show_reading(s);
     say(b"\n");
 }
 
 // A message of at most 80 bytes with the byte at place i replaced.
-fn show_damaged(s: &[u8], i: usize, b: u8) {
+fn show_damaged(s: &[u8], i: usize, b: u8)
+    requires { (i < length s.now) × (length s.now ≤ 80) }
+{
     let n = s.len();
-    if n <= 80 {
-        if i < n {
-            let mut copy = [0u8; 80];
-            digits::copy(s, &mut copy[..n]);
-            copy[i] = b;
-            show_reading(&copy[..n]);
-        }
-    }
+    let mut copy = [0; 80];
+    digits::copy(s, &mut copy[..n]);
+    copy[i] = b;
+    show_reading(&copy[..n]);
 }
 
 // The same at each place in turn.
-fn damaged_copies(s: &[u8], b: u8) {
+fn damaged_copies(s: &[u8], b: u8)
+    requires { length s.now ≤ 80 }
+{
     say(b"damaged");
-    let mut i = 0;
-    while i < s.len() {
+    for i in 0..s.len() {
         show_damaged(s, i, b);
-        i += 1;
     }
     say(b"\n");
 }
 
 // A message of less than 80 bytes with bytes after its last field.
-fn long_copy(s: &[u8]) {
+fn long_copy(s: &[u8])
+    requires { length s.now < 80 }
+{
     say(b"long");
     let n = s.len();
-    if n < 80 {
-        let mut longer = [0u8; 80];
-        digits::copy(s, &mut longer[..n]);
-        let more = n + 1;
-        show_reading(&longer[..more]);
-        show_reading(&longer);
-    }
+    let mut longer = [0; 80];
+    digits::copy(s, &mut longer[..n]);
+    show_reading(&longer[..n + 1]);
+    show_reading(&longer);
     say(b"\n");
 }
 
 // A message that names only the field of row k, with this count and a space or a zero in each place.
-fn field_message(k: usize, count: u8) -> Message {
+fn field_message(k: usize, count: u8) -> Message
+    requires { k < rows }
+{
+    let f = field::table()[k];
     let mut m = Message::new();
-    if k < field::ROWS {
-        let table = field::table();
-        let f = table[k];
-        let class = f.class;
-        m.bitmap = bitmap_of(f.number);
-        m.counts[k] = count;
-        m.contents = filled(class);
-    }
     m.indicator = 0x0210;
+    m.bitmap = bitmap_of(f.number);
+    m.counts[k] = count;
+    m.contents = filled(f.class);
     m
 }
 
 // The bitmap that names field n alone.
 fn bitmap_of(n: u8) -> [u8; 8] {
-    let mut bitmap = [0u8; 8];
-    if 0 < n {
-        if n <= 64 {
-            let i = n - 1;
-            let j = (i / 8) as usize;
-            bitmap[j] = 128 >> (i % 8);
-        }
+    let mut bitmap = [0; 8];
+    if (1..=64).contains(&n) {
+        let i = n - 1;
+        bitmap[usize::from(i / 8)] = 128 >> (i % 8);
     }
     bitmap
 }
 
 fn filled(class: Class) -> Contents {
     match class {
-        Class::Digits => [0u8; message::ROOM],
-        Class::Printable => [0x20u8; message::ROOM],
-        Class::Any => [0xFFu8; message::ROOM],
+        Class::Digits => [0; message::ROOM],
+        Class::Printable => [0x20; message::ROOM],
+        Class::Any => [0xFF; message::ROOM],
     }
 }
 
 // A message written, read again and written again.
-fn round_trip(m: Message) {
-    let mut first = [0xEEu8; 620];
-    let w = writing::write(m, &mut first);
-    show_writing(w);
-    if let Writing::Written(n) = w {
-        if n <= Message::LARGEST {
-            let r = reading::read(&first[..n]);
-            let back = r.message;
-            let mut second = [0xEEu8; 620];
-            show_writing(writing::write(back, &mut second));
-            if digits::same(&first, &second) {
-                say(b" same");
-            }
-        }
+fn round_trip(m: &Message) {
+    let mut first = [0xEE; 620];
+    let written = writing::write(m, &mut first);
+    show_writing(written);
+    let Ok(n) = written else { return };
+    let Some(s) = first.get(..n) else { return };
+    let Ok(back) = reading::read(s) else { return };
+    let mut second = [0xEE; 620];
+    show_writing(writing::write(&back, &mut second));
+    if first == second {
+        say(b" same");
     }
 }
 
 // Each field with its smallest and largest count, one less and one more.
 fn field_lengths() {
-    let table = field::table();
-    let mut k = 0;
-    while k < field::ROWS {
-        let f = table[k];
+    for (k, f) in field::table().iter().enumerate() {
         say(b"field");
-        show_number(wide(f.number));
+        show_number(u64::from(f.number));
         if 0 < f.low {
-            round_trip(field_message(k, f.low - 1));
+            round_trip(&field_message(k, f.low - 1));
         }
-        round_trip(field_message(k, f.low));
-        round_trip(field_message(k, f.high));
+        round_trip(&field_message(k, f.low));
+        round_trip(&field_message(k, f.high));
         if f.high < 255 {
-            round_trip(field_message(k, f.high + 1));
+            round_trip(&field_message(k, f.high + 1));
         }
         say(b"\n");
-        k += 1;
     }
 }
 
 // The field of row k with each of these counts.
-fn near_counts(k: usize, counts: &[u8]) {
-    let mut i = 0;
-    while i < counts.len() {
-        round_trip(field_message(k, counts[i]));
-        i += 1;
+fn near_counts(k: usize, counts: &[u8])
+    requires { k < rows }
+{
+    for &count in counts {
+        round_trip(&field_message(k, count));
     }
     say(b"\n");
 }
 
 // Fields 60 and 62 with their lengths, and those beside them.
 fn listed_lengths() {
-    let codes = NEAR_CODES;
     say(b"codes");
-    near_counts(CODES_ROW, &codes);
-    let keys = NEAR_KEYS;
+    near_counts(CODES_ROW, &NEAR_CODES);
     say(b"keys");
-    near_counts(KEYS_ROW, &keys);
+    near_counts(KEYS_ROW, &NEAR_KEYS);
 }
 
 // A field 62 of n bytes that is read, or is refused by another number than 24.
-fn show_keys(n: usize) {
-    if n < 300 {
-        let mut s = [0u8; 312];
-        s[0] = 0x08;
-        s[1] = 0x10;
-        s[9] = 0x04;
-        s[10] = (n / 100) as u8;
-        s[11] = (n / 10 % 10 * 16 + n % 10) as u8;
-        let end = n + 12;
-        let r = reading::read(&s[..end]);
-        let o = r.outcome;
-        match o {
-            ReadOutcome::Read => show_number(n as u64),
-            ReadOutcome::Refused(e) => {
-                if e != 24 {
-                    show_refusal(e);
-                }
-            }
-        }
+fn show_keys(n: usize)
+    requires { n < 300 }
+{
+    let mut s = [0; 312];
+    s[0] = 0x08;
+    s[1] = 0x10;
+    s[9] = 0x04;
+    s[10] = (n / 100) as u8;
+    s[11] = (n / 10 % 10 * 16 + n % 10) as u8;
+    match reading::read(&s[..n + 12]) {
+        Ok(_) => show_number(n as u64),
+        Err(Refusal::BadKeyLength) => {}
+        Err(e) => show_refusal(e),
     }
 }
 
 // Each length up to 299 in turn.
 fn key_lengths() {
     say(b"lengths");
-    let mut n = 0;
-    while n < 300 {
+    for n in 0..300 {
         show_keys(n);
-        n += 1;
     }
     say(b"\n");
 }
 
 // A message of all fields, each as long as it may be: packed digits 20, spaces, and one element in field 55.
 fn largest_message() -> Message {
-    let table = field::table();
-    let mut counts = [0u8; field::ROWS];
-    let mut k = 0;
-    while k < field::ROWS {
-        let f = table[k];
-        counts[k] = f.high;
-        k += 1;
+    let mut counts = [0; field::ROWS];
+    for (count, f) in counts.iter_mut().zip(&field::table()) {
+        *count = f.high;
     }
     Message {
         indicator: 0x0210,
         bitmap: ALL_FIELDS,
-        counts: counts,
-        contents: with_element([0x20u8; message::ROOM]),
+        counts,
+        contents: with_element([0x20; message::ROOM]),
     }
 }
 
 // These contents with an element of tag 82 and 252 bytes at the front of field 55.
-fn with_element(contents: Contents) -> Contents {
-    let mut out = contents;
-    let place = message::locate(55);
-    if let Located::Found {
-        row: _,
-        from,
-        form: _,
-    } = place
-    {
-        if from < message::ROOM - 3 {
-            out[from] = 0x82;
-            out[from + 1] = 0x81;
-            out[from + 2] = 0xFC;
+fn with_element(mut contents: Contents) -> Contents {
+    if let Some(at) = message::locate(55) {
+        if at.from < message::ROOM - 3 {
+            contents[at.from] = 0x82;
+            contents[at.from + 1] = 0x81;
+            contents[at.from + 2] = 0xFC;
         }
     }
-    out
+    contents
 }
 
 fn largest_trip() {
     say(b"largest");
-    round_trip(largest_message());
+    round_trip(&largest_message());
     say(b"\n");
 }
 
 fn sale_message() -> Message {
-    let sale = SALE;
-    let r = reading::read(&sale);
-    r.message
+    reading::read(&SALE).unwrap_or(Message::new())
 }
 
 // The sale with a fault in it, and with two, the earlier of which decides.
 fn written_faults() {
     say(b"written");
     let mut m = sale_message();
-    round_trip(m);
-    let mut short = [0u8; 613];
-    show_writing(writing::write(m, &mut short));
+    round_trip(&m);
+    let mut short = [0; 613];
+    show_writing(writing::write(&m, &mut short));
     m.contents[60] = 0x1F;
-    round_trip(m);
+    round_trip(&m);
     m.contents[10] = 0xA0;
-    round_trip(m);
+    round_trip(&m);
     m.counts[0] = 12;
-    round_trip(m);
+    round_trip(&m);
     m.bitmap[0] = 0xF0;
-    round_trip(m);
+    round_trip(&m);
     m.indicator = 0x0300;
-    round_trip(m);
-    show_writing(writing::write(m, &mut short));
+    round_trip(&m);
+    show_writing(writing::write(&m, &mut short));
     say(b"\n");
 }
 
 // The sale, cut off, damaged and too long.
 fn sale_copies() {
-    let sale = SALE;
-    cut_copies(&sale);
-    damaged_copies(&sale, 0xFF);
-    damaged_copies(&sale, 0x0A);
-    damaged_copies(&sale, 0x99);
-    long_copy(&sale);
+    cut_copies(&SALE);
+    damaged_copies(&SALE, 0xFF);
+    damaged_copies(&SALE, 0x0A);
+    damaged_copies(&SALE, 0x99);
+    long_copy(&SALE);
 }
 
 // Field 55 alone, in form and not.
 fn chip_copies() {
-    let chip = CHIP;
-    cut_copies(&chip);
-    damaged_copies(&chip, 0x00);
-    damaged_copies(&chip, 0x9F);
-    long_copy(&chip);
-    let twice = TWICE;
-    cut_copies(&twice);
-    long_copy(&twice);
+    cut_copies(&CHIP);
+    damaged_copies(&CHIP, 0x00);
+    damaged_copies(&CHIP, 0x9F);
+    long_copy(&CHIP);
+    cut_copies(&TWICE);
+    long_copy(&TWICE);
 }
 
 // Field 62 alone, of two lengths, and after a field 55 out of form.
 fn key_copies() {
-    let keys = KEYS;
-    cut_copies(&keys);
-    damaged_copies(&keys, 0x00);
-    damaged_copies(&keys, 0x99);
-    damaged_copies(&keys, 0x0A);
-    long_copy(&keys);
-    let long_keys = LONG_KEYS;
-    cut_copies(&long_keys);
-    long_copy(&long_keys);
-    let chip_and_keys = CHIP_AND_KEYS;
-    cut_copies(&chip_and_keys);
-    damaged_copies(&chip_and_keys, 0x00);
-    long_copy(&chip_and_keys);
+    cut_copies(&KEYS);
+    damaged_copies(&KEYS, 0x00);
+    damaged_copies(&KEYS, 0x99);
+    damaged_copies(&KEYS, 0x0A);
+    long_copy(&KEYS);
+    cut_copies(&LONG_KEYS);
+    long_copy(&LONG_KEYS);
+    cut_copies(&CHIP_AND_KEYS);
+    damaged_copies(&CHIP_AND_KEYS, 0x00);
+    long_copy(&CHIP_AND_KEYS);
 }
 
 fn main() {

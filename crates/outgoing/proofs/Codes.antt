@@ -1,6 +1,6 @@
 -- Field 60: kind, batch and management code, with or without 60.4 to 60.6.
 use mathlib.Core.Path.{◌≡◌, refl, sym, ap, ◌∙◌}
-use mathlib.Core.List.{List, [], ◌∷◌, ◌++◌, append-nil}
+use mathlib.Core.List.{List, [], ◌∷◌, ◌++◌}
 use mathlib.Core.Bool.{Bool, true, false, cond}
 use Prim.Native.Nat.{ℕ, ◌+◌}
 use lib.ListN.{length, take, drop, replicate, length-append, take-append-drop}
@@ -28,10 +28,6 @@ codes_put m xs ds {s} z d e q =
     let k : ds ≡ replicate 11 0 ++ drop 11 ds = sym (take-append-drop 11 ds) ∙ rw z in
     let p : s ≡ put_each 0 (widths 60) xs (replicate 11 0 ++ drop 11 ds) = e ∙ ap (λ (t : List ℕ). put_each 0 (widths 60) xs t) k in
     parts_before m 60 xs (drop 11 ds) d p q
-
--- nothing after them
-pub codes-alone : (kind : ℕ) (batch : Batch) (code : ℕ) → field60 kind batch code ++ drop 11 (replicate 11 0) ≡ field60 kind batch code
-codes-alone kind batch code = append-nil (field60 kind batch code)
 
 -- field 60 of a card request
 pub asks-digits : (kind : ℕ) → all_digits (asks_partial kind) ≡ true

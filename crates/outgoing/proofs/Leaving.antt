@@ -1,4 +1,5 @@
 -- What leaves: the fields of a request and of a reversal are held, so that the message is theirs, and is written.
+use Rattle.std.specs.Prelude.{Ok}
 use mathlib.Core.Path.{◌≡◌, refl}
 use mathlib.Core.List.{List, [], ◌∷◌, ◌++◌}
 use mathlib.Core.Bool.{Bool, true, false, cond, ◌||◌}
@@ -20,7 +21,6 @@ use Rattle.state.specs.declared.Reason.TheVariants.{Silence, BadMac, CardDecline
 use Rattle.state.specs.declared.Reversal.{Reversal}
 use Rattle.state.specs.declared.Settings.{Settings}
 use Rattle.writing.specs.Writing.{message_bytes, written, write_message}
-use Rattle.writing.specs.declared.Writing.TheVariants.{Written}
 use Rattle.compose.specs.Compose.{may_hold, all_held, with_all}
 use Rattle.compose.proofs.Items.{number-held, chip-held, chip_elements}
 use Rattle.compose.proofs.Composed.{all_composed}
@@ -151,6 +151,6 @@ reversal-listed = refl
 -- a message of held fields and a listed type is written
 pub written_is : (i : ℕ) (xs : List Item) (o : List ℕ) → among i indicators ≡ true → all_held xs ≡ true → largest ≤ length o
     → write_message (message_of i xs) o
-    ≡ written (Written (length (message_bytes (message_of i xs)))) (message_bytes (message_of i xs) ++ drop (length (message_bytes (message_of i xs))) o)
+    ≡ written (Ok (length (message_bytes (message_of i xs)))) (message_bytes (message_of i xs) ++ drop (length (message_bytes (message_of i xs))) o)
 unfolding write_message
 written_is i xs o l h r = rw (le-ltb (length o) largest r, sound i xs l h)

@@ -1,12 +1,10 @@
 -- Document 01, "Kinds" and "Calls": the fields of the messages that leave.
-use Rattle.std.specs.Prelude.{List, [], ◌∷◌, ◌++◌, cond, ℕ, replicate}
+use Rattle.std.specs.Prelude.{List, [], ◌∷◌, ◌++◌, cond, ℕ, replicate, Ok, Err, Result}
 use Rattle.digits.specs.Numbers.{digits_of}
 use Rattle.message.specs.Build.{Item, digits, bytes, message_of}
 use Rattle.message.specs.declared.Message.{Message}
 use Rattle.parts.specs.Layout.{laid}
 use Rattle.numbers.specs.declared.Batch.{Batch}
-use Rattle.writing.specs.declared.Writing.{Writing}
-use Rattle.writing.specs.declared.Writing.TheVariants.{Written, Refused}
 use Rattle.kinds.specs.Kinds.{indicator_of, processing_of, condition_of, takes_original, keys_reference, keys_authorisation, allows_partial}
 use Rattle.state.specs.State.{chip_bytes, has_chip}
 use Rattle.state.specs.declared.Chip.{Chip}
@@ -93,6 +91,6 @@ unfoldable pub reversal_message : Settings → Batch → Chip → Reversal → M
 reversal_message x batch c v = message_of 0x0400 (reversal_fields x batch c v)
 
 -- the length of what was written
-abbrev pub length_of : Writing → ℕ
-length_of (Written n) = n
-length_of (Refused e) = 0
+abbrev pub length_of : Result ℕ ℕ → ℕ
+length_of (Ok n) = n
+length_of (Err e) = 0

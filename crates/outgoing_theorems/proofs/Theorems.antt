@@ -10,7 +10,7 @@ use lib.ListN.{length}
 use borrow.Author.Tests.{ne_eqb}
 use Rattle.digits.specs.Numbers.{digits_of}
 use Rattle.message.specs.Build.{Item, has, find, digits, bytes, message_of}
-use Rattle.reading.specs.declared.Reading.{Reading}
+use Rattle.reading.specs.Reading.{Reading}
 use Rattle.writing.specs.Writing.{message_bytes}
 use Rattle.message_theorems.proofs.Messages.{written-reads_back}
 use Rattle.numbers.specs.declared.Batch.{Batch}

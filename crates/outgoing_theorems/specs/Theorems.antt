@@ -5,9 +5,7 @@ use Rattle.field.specs.Bitmap.{names}
 use Rattle.message.specs.Build.{Item, has, find, digits, bytes, message_of}
 use Rattle.message.specs.Message.{field_of, largest}
 use Rattle.message.specs.declared.Message.{Message}
-use Rattle.reading.specs.Reading.{read_message}
-use Rattle.reading.specs.declared.Reading.{Reading}
-use Rattle.reading.specs.declared.ReadOutcome.TheVariants.{Read}
+use Rattle.reading.specs.Reading.{read_message, Reading, Read}
 use Rattle.writing.specs.Writing.{write_message}
 use Rattle.numbers.specs.declared.Batch.{Batch}
 use Rattle.kinds.specs.Kinds.{indicator_of}

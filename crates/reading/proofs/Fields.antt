@@ -1,4 +1,8 @@
 -- What the loop over the table keeps while it reads the fields.
+use Rattle.std.specs.Prelude.{Ok, Err, Result}
+use Rattle.checks.specs.Refusals.{number_of, refused_by}
+use Rattle.checks.specs.declared.Refusal.{Refusal}
+use Rattle.checks.proofs.Refusals.{number_positive}
 use mathlib.Core.Path.{◌≡◌, refl, ap, sym, ◌∙◌}
 use mathlib.Core.List.{List, [], ◌∷◌, ◌++◌, append_assoc, append-nil}
 use mathlib.Core.Bool.{Bool, true, false, cond, ◌||◌}
@@ -16,19 +20,16 @@ use Rattle.field.specs.Bitmap.{names}
 use Rattle.field.specs.Contents.{room, places}
 use Rattle.field.specs.declared.Format.{Format}
 use Rattle.field.proofs.Formats.{length-formats, drop-formats}
-use Rattle.span.specs.Span.{span_at, span}
+use Rattle.span.specs.Span.{span_at, span, spans}
 use Rattle.span.specs.declared.Span.{Span}
-use Rattle.span.specs.declared.Span.TheVariants.{Held, Refused}
 use Rattle.span.proofs.Held.{span-within, span_fits}
 use Rattle.message.specs.Build.{padded}
 use Rattle.message.proofs.Places.{At, rooms_of, rooms-formats, places-rest}
 use Rattle.message.specs.Message.{rooms}
 use Rattle.message.specs.declared.Message.{Message}
-use Rattle.message.proofs.Late.{late-none}
-use Rattle.reading.specs.Found.{told, parsed, bitmap_in, Copied}
-use Rattle.reading.specs.Reading.{Fields, bad, good, prepend, read_fields, bitmap_of, accepted, assembled}
-use Rattle.reading.specs.declared.ReadOutcome.{ReadOutcome}
-use Rattle.reading.specs.declared.ReadOutcome.TheVariants.{Read, Refused as Unread}
+use Rattle.message.specs.Late.{late_fault}
+use Rattle.reading.specs.Found.{told, parsed, Copied}
+use Rattle.reading.specs.Reading.{Fields, bad, good, prepend, read_fields, Read, accepted, refused, assembled, indicator_in, bitmap_of}
 
 -- where the contents of the field at place k of the table stand
 abbrev pub start_of : ℕ → ℕ
@@ -96,7 +97,7 @@ zeros_split z w l o h =
 
 -- one field more
 read_more : {bm s : List ℕ} {k at to : ℕ} {cs bs : List ℕ} {f : Format} (n p z : ℕ) (bs' : List ℕ) → ReadTo bm s k at to cs bs → At k f
-    → span f bm (drop at s) ≡ Held n p z
+    → span f bm (drop at s) ≡ spans n p z
     → bs' ≡ take to bs ++ (take z (drop p (drop at s)) ++ drop z (drop to bs))
     → ReadTo bm s (k + 1) (at + p + z) (start_of (k + 1)) (set cs k n) bs'
 unfolding read_fields
@@ -132,9 +133,13 @@ read_more {bm} {s} {k} {at} {to} {cs} {bs} {f} n p z bs' r a e w =
 
 -- the field at place k of the table, in the code's own terms
 module _ {bm s cs bs : List ℕ} {k at : ℕ} {f : Format} (r : ReadTo bm s k at (start_of k) cs bs) (a : At k f) where
+  -- the contents from a place on
+  rooms_from : (to : ℕ) → take (rooms - to) (drop to bs) ≡ drop to bs
+  rooms_from to = rw (← r.contents_length) (tail_part to bs)
+
   -- its place has room
-  pub place-room : {to : ℕ} → to ≡ start_of k → room f ≤ length (take (length bs - to) (drop to bs))
-  place-room {to} e = rw (tail_part, length-drop) (omega (arith, r.left, r.contents_length, ap rooms_of a.turn))
+  pub place-room : {to : ℕ} → to ≡ start_of k → room f ≤ length (take (rooms - to) (drop to bs))
+  place-room {to} e = rw (rooms_from, length-drop) (omega (arith, r.left, r.contents_length, ap rooms_of a.turn))
 
   -- one that the bitmap does not name
   pub read_past : names bm f.number ≡ false → ReadTo bm s (k + 1) at (start_of (k + 1)) cs bs
@@ -145,11 +150,11 @@ module _ {bm s cs bs : List ℕ} {k at : ℕ} {f : Format} (r : ReadTo bm s k at
       rw (u, v) at (read_more 0 0 0 bs r a (rw e) (sym (take-append-drop (start_of k) bs)))
 
   -- one that is found in what is left, its contents copied to its place
-  module _ (to : ℕ) {t : Span} {out : List ℕ} (y : Copied f (take (length s - at) (drop at s)) (take (length bs - to) (drop to bs)) t out) where
+  module _ (to : ℕ) {t : Result Span ℕ} {out : List ℕ} (y : Copied f (take (length s - at) (drop at s)) (take (rooms - to) (drop to bs)) t out) where
     found_there : span_at f (drop at s) ≡ t
     found_there = rw (← tail_part at s) (sym y.found)
 
-    pub within : {n p z : ℕ} → t ≡ Held n p z → at + p + z ≤ length s
+    pub within : {n p z : ℕ} → t ≡ spans n p z → at + p + z ≤ length s
     within g = omega (arith, span-within f (drop at s) (found_there ∙ g), length-drop at s, r.at_bound)
 
     module _ (h : names bm f.number ≡ true) where
@@ -157,15 +162,16 @@ module _ {bm s cs bs : List ℕ} {k at : ℕ} {f : Format} (r : ReadTo bm s k at
       unfolding span
       named_there = rw h found_there
 
-      pub read_stop : {x : ℕ} → t ≡ Refused x → read_fields formats bm s ≡ bad x
+      pub read_stop : {x : ℕ} → t ≡ Err x → read_fields formats bm s ≡ bad x
       unfolding read_fields
       read_stop g = r.eq ∙ rw (a.turn, named_there ∙ g)
 
-      pub read_next : {n p z : ℕ} → to ≡ start_of k → t ≡ Held n p z
-          → ReadTo bm s (k + 1) (at + p + z) (start_of (k + 1)) (set cs k n) (take to bs ++ (out ++ drop (length bs - to) (drop to bs)))
+      pub read_next : {n p z : ℕ} → to ≡ start_of k → t ≡ spans n p z
+          → ReadTo bm s (k + 1) (at + p + z) (start_of (k + 1)) (set cs k n) (take to bs ++ (out ++ drop (rooms - to) (drop to bs)))
       read_next {n} {p} {z} e g =
-          let u : out ≡ take z (drop p (drop at s)) ++ drop z (drop to bs) = y.copied n p z g ∙ rw (tail_part at s, tail_part to bs) in
-          rw (put_tail to bs out) (read_more n p z (take to bs ++ out) r a (named_there ∙ g) (rw (u, e)))
+          let u : out ≡ take z (drop p (drop at s)) ++ drop z (drop to bs) = y.copied n p z g ∙ rw (tail_part at s, rooms_from to) in
+          let q : take to bs ++ (out ++ drop (rooms - to) (drop to bs)) ≡ take to bs ++ out = rw (← r.contents_length) (put_tail to bs out) in
+          rw q (read_more n p z (take to bs ++ out) r a (named_there ∙ g) (rw (u, e)))
 
 at-end : {bm s : List ℕ} {k at to : ℕ} {cs bs : List ℕ} → ReadTo bm s k at to cs bs → rows ≤ k
     → read_fields formats bm s ≡ prepend cs bs (cond (eqb (length (drop at s)) 0) (good [] []) (bad 9))
@@ -184,31 +190,19 @@ pub read_done : {bm s : List ℕ} {k at to : ℕ} {cs bs : List ℕ} → ReadTo 
     → read_fields formats bm s ≡ good cs bs
 read_done {s = s} {at = at} {cs = cs} {bs = bs} r h l = at-end r h ∙ rw (eq-eqb (length (drop at s)) 0 (omega (arith, length-drop at s)), append-nil cs, append-nil bs)
 
-pub bitmap_there : (s : List ℕ) {bm : List ℕ} → 10 ≤ length s → bm ≡ bitmap_in s → bm ≡ bitmap_of s
-bitmap_there s h e = e ∙ rw (le-ltb _ _ h)
-
--- its bytes are bytes of s
-pub bitmap-bytes : (s e : List ℕ) → e ≡ bitmap_in s → ((i : ℕ) → get_or s i 0 < 256) → (j : ℕ) → get_or e j 0 < 256
-bitmap-bytes s e q y j = rw q (either (ltb (length s) 10))
+-- a message whose fields are read, judged as a whole
+pub judged-read : (m : Message) (r : Result (Unit {0}) Refusal) → refused_by r ≡ late_fault m → parsed r m ≡ accepted m
+judged-read m r h = go r (late_fault m) h
   where
-    there : Dec (j < 8) → get_or (bitmap_of s) j 0 < 256
-    there (yes h) = rw (get_or-take 8 (drop 2 s) j 0 h, get_or-drop 2 s j 0) (y (2 + j))
-    there (no h) = rw (get_d_past (bitmap_of s) j (omega (arith, length-take 8 (drop 2 s)))) (omega arith)
+    go : (r : Result (Unit {0}) Refusal) (k : ℕ) → refused_by r ≡ k → parsed r m ≡ cond (eqb k 0) (record { outcome = Read; message = m }) (refused k)
+    go (Ok x) k h = rw (← h)
+    go (Err x) k h = rw (← h, ne_eqb (number_of x) 0 (number_positive x))
 
-    zeros : Dec (j < 8) → get_or (replicate 8 0) j 0 < 256
-    zeros (yes h) = rw (get_or-replicate {A = ℕ} 8 j 0 0 h) (omega arith)
-    zeros (no h) = rw (get_d_past (replicate 8 0) j (omega arith)) (omega arith)
+-- a message whose type and bitmap stand, after its fields
+module _ (s : List ℕ) (m : Message) {x : Fields} {q : Result (Unit {0}) Refusal} (f : x ≡ told q m.counts m.contents) where
+  pub fields-refused : {e : Refusal} → q ≡ Err e → refused (number_of e) ≡ assembled (indicator_in s) (bitmap_of s) x
+  fields-refused e = rw (f, e)
 
-    either : (short : Bool) → get_or (cond short (replicate 8 0) (bitmap_of s)) j 0 < 256
-    either true = zeros (dec_lt j 8)
-    either false = there (dec_lt j 8)
-
--- the message of an outcome, with the counts and the contents that were left
-pub assembled-told : (o : ReadOutcome) (i : ℕ) (bm cs bs : List ℕ)
-    → assembled i bm (told o cs bs) ≡ parsed o (record { indicator = i; bitmap = bm; counts = cs; contents = bs })
-assembled-told Read i bm cs bs = refl
-assembled-told (Unread e) i bm cs bs = refl
-
--- a message without fields 55 and 62 breaks no rule on it as a whole
-pub accepted-plain : (m : Message) → (names m.bitmap 55 || names m.bitmap 62) ≡ false → accepted m ≡ record { outcome = Read; message = m }
-accepted-plain m h = rw (late-none m h)
+  pub fields-judged : (r : Result (Unit {0}) Refusal) {u : Unit {0}} → q ≡ Ok u → m.indicator ≡ indicator_in s → m.bitmap ≡ bitmap_of s
+      → refused_by r ≡ late_fault m → parsed r m ≡ assembled (indicator_in s) (bitmap_of s) x
+  fields-judged r e i b h = rw (f, e, ← i, ← b) (judged-read m r h)

@@ -1,38 +1,31 @@
 -- What code that reads fields is given, and what it leaves in the arrays that it is lent.
-use Rattle.std.specs.Prelude.{◌≡◌, List, ◌++◌, cond, ℕ, ◌<◌, ltb, length, get_or, take, drop, replicate}
+use Rattle.std.specs.Prelude.{◌≡◌, List, ◌++◌, ℕ, take, drop, replicate, Result, Ok, Err}
+use Rattle.checks.specs.Refusals.{number_of}
+use Rattle.checks.specs.declared.Refusal.{Refusal}
 use Rattle.field.specs.Table.{rows}
 use Rattle.field.specs.declared.Format.{Format}
 use Rattle.message.specs.Message.{rooms}
 use Rattle.message.specs.declared.Message.{Message}
-use Rattle.span.specs.Span.{span_at}
+use Rattle.span.specs.Span.{span_at, spans}
 use Rattle.span.specs.declared.Span.{Span}
-use Rattle.span.specs.declared.Span.TheVariants.{Held}
-use Rattle.reading.specs.declared.ReadOutcome.{ReadOutcome}
-use Rattle.reading.specs.declared.ReadOutcome.TheVariants.{Read, Refused}
-use Rattle.reading.specs.declared.Reading.{Reading}
-use Rattle.reading.specs.Reading.{Fields, bad, good, refused, accepted, bitmap_of}
+use Rattle.reading.specs.Reading.{Read, Reading, Fields, bad, good, refused}
 
--- a bitmap of bytes, and no field read yet
-pub record Fresh (bm cs bs : List ℕ) : Type 0 where
-  pub bytes : (j : ℕ) → get_or bm j 0 < 256
-  pub no_counts : cs ≡ replicate rows 0
-  pub no_contents : bs ≡ replicate rooms 0
+-- no field read yet
+pub record Fresh (m : Message) : Type 0 where
+  pub no_counts : m.counts ≡ replicate rows 0
+  pub no_contents : m.contents ≡ replicate rooms 0
 
--- what an outcome says, with the counts and the contents that were left
-abbrev pub told : ReadOutcome → List ℕ → List ℕ → Fields
-told Read cs bs = good cs bs
-told (Refused e) cs bs = bad e
+-- what fields that are read, or refused, leave of counts and contents
+abbrev pub told : Result (Unit {0}) Refusal → List ℕ → List ℕ → Fields
+told (Ok _) cs bs = good cs bs
+told (Err e) cs bs = bad (number_of e)
 
--- what an outcome says, with the message of what was left
-abbrev pub parsed : ReadOutcome → Message → Reading
-parsed Read m = accepted m
-parsed (Refused e) m = refused e
-
--- the bitmap, zeros where the bytes end before it does
-abbrev pub bitmap_in : List ℕ → List ℕ
-bitmap_in s = cond (ltb (length s) 10) (replicate 8 0) (bitmap_of s)
+-- what a message that is read, or refused, is
+abbrev pub parsed : Result (Unit {0}) Refusal → Message → Reading
+parsed (Ok _) m = record { outcome = Read; message = m }
+parsed (Err e) m = refused (number_of e)
 
 -- the field at the front of s is r, and out is o with its contents copied to the front
-pub record Copied (f : Format) (s o : List ℕ) (r : Span) (out : List ℕ) : Type 0 where
+pub record Copied (f : Format) (s o : List ℕ) (r : Result Span ℕ) (out : List ℕ) : Type 0 where
   pub found : r ≡ span_at f s
-  pub copied : (n p z : ℕ) → r ≡ Held n p z → out ≡ take z (drop p s) ++ drop z o
+  pub copied : (n p z : ℕ) → r ≡ spans n p z → out ≡ take z (drop p s) ++ drop z o

@@ -1,4 +1,5 @@
 -- Laws of what a line of a script does.
+use Rattle.std.specs.Prelude.{Ok, Some, Option, Result as Attempt}
 use Rattle.std.proofs.Common.{◌≡◌, refl, sym, ap, subst, ◌∙◌, List, Bool, true, false, cond, ℕ, eqb}
 use Rattle.message.specs.declared.Message.{Message}
 use Rattle.state.specs.Calls.{Lent, Result}
@@ -20,8 +21,9 @@ use Rattle.stage.specs.declared.Rehearsal.{Rehearsal}
 use Rattle.stage.specs.Stage.{after_call}
 use Rattle.lines.specs.Asks.{reply_error, reconcile_error, error_after, call_or, asked_by, changed_after, call_bytes}
 use Rattle.lines.specs.Shows.{last, message_in, errors, said}
-use Rattle.lines.specs.declared.asks.Asked.{Asked}
-use Rattle.lines.specs.declared.asks.Asked.TheVariants as asked
+use Rattle.lines.specs.declared.asks.Unobeyed.{Unobeyed}
+use Rattle.lines.specs.Asked.{Asked, number_in, asked_as}
+use Rattle.lines.specs.Asked as asked
 use Rattle.rehearse.specs.declared.commands.Acted.{Acted}
 use Rattle.rehearse.specs.Rehearsal.{Done, Did, writes, resulted, called}
 use Rattle.rehearse.specs.Commands.{line_error, command_done, done}
@@ -83,9 +85,10 @@ module _ (number : ℕ) (s : List ℕ) (r : Rehearsal) (lent : Lent) where
   asked-done (Wrong f) line false l = refl
 
   -- the last message that left is x and left as l
-  module _ {line : Line} {x : Message} {l : Left} {a : Asked} (e : line ≡ parsed s) (h : x ≡ message_in (last r lent.message))
-      (q : l ≡ left_as x.indicator) (t : a ≡ asked_by line.command r.begun l) where
-    is-done : done number s r lent ≡ done_as a line.command line
+  module _ (a : Attempt (Option Call) Unobeyed) {line : Line} {x : Message} {l : Left}
+      (e : line ≡ parsed s) (h : x ≡ message_in (last r lent.message))
+      (q : l ≡ left_as x.indicator) (t : asked_as a ≡ asked_by line.command r.begun l) where
+    is-done : done number s r lent ≡ done_as (asked_as a) line.command line
     unfolding done
     is-done =
         asked-done (parsed s).command (parsed s) r.begun (left_as (message_in (last r lent.message)).indicator)
@@ -95,16 +98,17 @@ module _ (number : ℕ) (s : List ℕ) (r : Rehearsal) (lent : Lent) where
         ∙ ap (λ (z : Asked). done_as z line.command line) (sym t)
 
     module _ {d : Acted} {o : List ℕ} where
-      pub call-done : {c : Call} {b : List ℕ} {after : Lent} → a ≡ asked.Call c → b ≡ call_bytes line.command s x r.date r.batch
+      pub call-done : {c : Call} {b : List ℕ} {after : Lent} → a ≡ Ok (Some c) → b ≡ call_bytes line.command s x r.date r.batch
           → Did (called (event_of c line.desk b) r lent) d after o → Did (done number s r lent) d after o
       call-done {c} {b} {after} g p u =
           subst (λ (z : Done). Did z d after o)
           (ap (λ (y : List ℕ). called (event_of c line.desk y) r lent)
           (p ∙ ap (λ (z : Message). call_bytes line.command s z r.date r.batch) h)
-          ∙ sym (is-done ∙ ap (λ (z : Asked). done_as z line.command line) g))
+          ∙ sym (is-done ∙ ap (λ (z : Attempt (Option Call) Unobeyed). done_as (asked_as z) line.command line) g))
           u
 
-      pub no_call-done : {error : ℕ} → a ≡ asked.Error error → d.rehearsal ≡ changed_after error line.command line.settings r
-          → Text (said error number line.command r lent) d.written o → Did (done number s r lent) d lent o
-      no_call-done g u v =
+      pub no_call-done : (u : Option Unobeyed) → asked_as a ≡ asked.Error (number_in u)
+          → d.rehearsal ≡ changed_after (number_in u) line.command line.settings r
+          → Text (said (number_in u) number line.command r lent) d.written o → Did (done number s r lent) d lent o
+      no_call-done x g u v =
           subst (λ (z : Done). Did z d lent o) (sym (is-done ∙ ap (λ (z : Asked). done_as z line.command line) g)) (wrote lent u v)

@@ -1,5 +1,5 @@
 -- Laws of a script's lines, answered one after the other.
-use Rattle.std.proofs.Common.{◌≡◌, refl, sym, ap, ◌∙◌, List, [], ◌++◌, append_assoc, append-nil, Bool, true, false, cond, not, ◌||◌, true≢false, ℕ, zero, suc, ◌+◌, ◌-◌, ◌%◌, ◌^◌, ◌≤◌, ◌<◌, arith, eq-eqb, ne_eqb, ltb, eqb, length}
+use Rattle.std.proofs.Common.{◌≡◌, refl, sym, ap, ◌∙◌, List, [], ◌++◌, append_assoc, append-nil, Bool, true, false, cond, not, ◌||◌, true≢false, ℕ, zero, suc, ◌+◌, ◌%◌, ◌^◌, ◌<◌, arith, ltb, eqb, length}
 use Rattle.texts.specs.Text.{Text, text}
 use Rattle.texts.proofs.Texts.{start}
 use Rattle.words.specs.Lines.{trimmed}
@@ -34,15 +34,15 @@ module _ (number : ℕ) (s : List ℕ) (r : Rehearsal) (lent : Lent) where
   unfolding answered
   answered-long e t = rw e (record { rehearsal_is = refl; lent_is = refl; text_is = t })
 
-  pub answered-none : (o : List ℕ) → ltb 4096 (length s) ≡ false → length (words_in s) ≡ 0
+  pub answered-none : (o : List ℕ) → ltb 4096 (length s) ≡ false → eqb (length (words_in s)) 0 ≡ true
       → Did (answered number s r lent) (record { rehearsal = r; written = 0 }) lent o
   unfolding answered
-  answered-none o e z = rw (e, eq-eqb _ _ z) (record { rehearsal_is = refl; lent_is = refl; text_is = start o })
+  answered-none o e z = rw (e, z) (record { rehearsal_is = refl; lent_is = refl; text_is = start o })
 
-  pub answered_words : {a : Acted} {lent2 : Lent} {o : List ℕ} → ltb 4096 (length s) ≡ false → (length (words_in s) ≡ 0 → ⊥)
+  pub answered_words : {a : Acted} {lent2 : Lent} {o : List ℕ} → ltb 4096 (length s) ≡ false → eqb (length (words_in s)) 0 ≡ false
       → Did (done number (words_in s) r lent) a lent2 o → Did (answered number s r lent) a lent2 o
   unfolding answered
-  answered_words e z d = rw (e, ne_eqb _ _ z) d
+  answered_words e z d = rw (e, z) d
 
 answered-cut : (number : ℕ) {s t : List ℕ} (r : Rehearsal) (lent : Lent) → Cut s t → answered number s r lent ≡ answered number t r lent
 unfolding answered
@@ -59,18 +59,18 @@ answered-cut number {s} {t} r lent c = go (ltb 4096 (length t)) refl
 same : {s u : List ℕ} {n m : ℕ} {r q : Rehearsal} {a b : Lent} → s ≡ u → n ≡ m → r ≡ q → a ≡ b → script_at s n r a ≡ script_at u m q b
 same e f g h = rw (e, f, g, h)
 
--- a script has come this far, with turns left: whatever bytes come further
+-- a script has come this far after some turns: whatever bytes come further
 pub record Going (input : Input) (chunk₀ : List ℕ) (r₀ : Rehearsal) (turns : ℕ) (at : Input) (chunk : List ℕ) (r : Rehearsal) (lent : Lent) : Type 0 where
   pub brought : List ℕ
   pub lines : ℕ
   pub file_is : at.file ≡ input.file
-  pub counted : turns + lines ≡ 18446744073709551615
+  pub counted : lines ≡ turns
   pub stands : (x : List ℕ) → after_lines lines (script_at (left_in input.left chunk₀ ++ brought ++ x) input.number r₀ blank)
       ≡ script_at (left_in at.left chunk ++ x) at.number r lent
 
-pub going : {turns : ℕ} (input : Input) (chunk : List ℕ) (r : Rehearsal) → turns ≡ 18446744073709551615 → Going input chunk r turns input chunk r blank
+pub going : (input : Input) (chunk : List ℕ) (r : Rehearsal) → Going input chunk r 0 input chunk r blank
 unfolding after_lines
-going input chunk r e = record { brought = []; lines = 0; file_is = refl; counted = omega arith; stands = λ x. rw append-nil refl }
+going input chunk r = record { brought = []; lines = 0; file_is = refl; counted = refl; stands = λ x. rw append-nil refl }
 
 -- one line more
 module _ {input at at2 : Input} {chunk₀ chunk line c l o : List ℕ} {r₀ r : Rehearsal} {turns : ℕ} {lent lent2 : Lent} {a : Acted}
@@ -98,8 +98,8 @@ module _ {input at at2 : Input} {chunk₀ chunk line c l o : List ℕ} {r₀ r :
       ap after_line q
       ∙ same (rw (b, n.takes.left_is)) (sym n.number_is) (rw f (sym did.rehearsal_is)) (rw f (sym did.lent_is))
 
-  pub goes_on : at2.ended ≡ false → 0 < turns → Going input chunk₀ r₀ (turns - 1) at2 c a.rehearsal lent2
-  goes_on e h =
+  pub goes_on : at2.ended ≡ false → Going input chunk₀ r₀ (turns + 1) at2 c a.rehearsal lent2
+  goes_on e =
       let w = next-whole n e in
       record {
         brought = g.brought ++ n.takes.brought;
@@ -123,7 +123,7 @@ module _ {input at at2 : Input} {chunk₀ chunk line c l o : List ℕ} {r₀ r :
 
 -- no turn is left
 pub turned : {input at : Input} {chunk c : List ℕ} {turns : ℕ} {r₀ r : Rehearsal} {lent : Lent} → Going input chunk r₀ turns at c r lent
-    → turns ≤ 0 → at.ended ≡ false → Rehearses r₀ input chunk (record { input = at; rehearsal = r }) c
+    → turns ≡ 18446744073709551615 → at.ended ≡ false → Rehearses r₀ input chunk (record { input = at; rehearsal = r }) c
 turned {lent = lent} g z e =
     record {
       brought = g.brought;
@@ -132,7 +132,7 @@ turned {lent = lent} g z e =
       file_is = g.file_is;
       stands = simp append-nil at (g.stands []);
       all = λ f. absurd (true≢false (sym f ∙ e));
-      stops = λ f. omega (arith, g.counted);
+      stops = λ f. g.counted ∙ z;
     }
 
 -- a script whose lines are numbered from 1

@@ -7,7 +7,6 @@ ghost use Rattle.stage.specs.Stage.{after_call};
 ghost use Rattle.rehearse.specs.Rehearsal.{Did};
 ghost use Rattle.rehearse.specs.Commands.{done};
 
-use lines::Asked;
 use stage::Rehearsal;
 use terminal::{Step, Terminal};
 
@@ -32,23 +31,23 @@ pub fn act(
 {
     let line = script::parse(s);
     let command = line.command;
-    let settings = line.settings;
-    let desk = line.desk;
     let sent = lines::last_message(r, message);
-    let a = lines::asked_by(command, r.begun, centre_types::left_as(sent.indicator));
-    match a {
-        Asked::Call(c) => {
-            let state = r.state;
-            let terminal = Terminal { state: state };
-            let mut bytes = [0u8; 2048];
-            let n = lines::bytes_into(command, s, sent, r.date, r.batch, &mut bytes);
-            let step = terminal.make(c, desk, &bytes[..n], journal, message);
+    let asked = lines::asked_by(command, r.begun, centre_types::left_as(sent.indicator));
+    match asked {
+        Ok(Some(c)) => {
+            let mut bytes = [0; 2048];
+            let n = lines::bytes_into(command, s, &sent, r.date, r.batch, &mut bytes);
+            let terminal = Terminal { state: r.state };
+            let step = terminal.make(c, line.desk, &bytes[..n], journal, message);
             told(step, r, message, out)
         }
-        Asked::Error(error) => Acted {
-            rehearsal: lines::changed(error, command, settings, r),
-            written: lines::say(error, number, command, r, journal, message, out),
-        },
+        Ok(None) | Err(_) => {
+            let unobeyed = asked.err();
+            Acted {
+                rehearsal: lines::changed(unobeyed, command, line.settings, r),
+                written: lines::say(unobeyed, number, command, r, journal, message, out),
+            }
+        }
     }
 }
 
@@ -56,11 +55,8 @@ pub fn act(
 fn told(step: Step, r: Rehearsal, message: &[u8], out: &mut [u8]) -> Acted
     ensures { (result.rehearsal ≡ after_call step.outcome step.terminal.state r) × Text (outcome_line step.outcome message.now) result.written out.new }
 {
-    let outcome = step.outcome;
-    let terminal = step.terminal;
-    let state = terminal.state;
     Acted {
-        rehearsal: stage::after_call(outcome, state, r),
-        written: screen::add_outcome(outcome, message, 0, out),
+        rehearsal: stage::after_call(step.outcome, step.terminal.state, r),
+        written: screen::add_outcome(step.outcome, message, 0, out),
     }
 }

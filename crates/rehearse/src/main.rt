@@ -76,7 +76,7 @@ fn rehearse(script: i32) -> Stopped
 }
 
 // Answers each line before the next is read, until the input ends. The text has room for a journal of 300 entries. A proved loop
-// has to end, and nothing says that the input does, so the loop counts its turns down.
+// has to end, and nothing says that the input does, so the loop counts its turns.
 fn rehearse_lines(r: Rehearsal, input: Input, chunk: &mut [u8]) -> Stopped
     ensures { Rehearses r input chunk.old result chunk.new }
 {
@@ -86,22 +86,19 @@ fn rehearse_lines(r: Rehearsal, input: Input, chunk: &mut [u8]) -> Stopped
     let mut text = io::large_buffer();
     let mut rehearsal = r;
     let mut at = input;
-    let mut turns = u64::MAX;
-    while turns > 0 {
+    for _ in 0..u64::MAX {
         at = input::next(at, chunk, &mut line);
         write_echo(rehearsal, at, &line);
         let acted = answer(rehearsal, at, &line, &mut journal, &mut message, &mut text);
-        let n = acted.written;
-        io::write_all(STDOUT, &text[..n]);
+        io::write_all(STDOUT, &text[..acted.written]);
         rehearsal = acted.rehearsal;
         if at.ended {
             break;
         }
-        turns -= 1;
     }
     Stopped {
         input: at,
-        rehearsal: rehearsal,
+        rehearsal,
     }
 }
 
@@ -117,7 +114,7 @@ fn echoed(r: Rehearsal, at: Input, line: &[u8], text: &mut [u8]) -> usize
     ensures { Text (echoed (in_hand at.whole at.len line.now) r) result text.new }
 {
     let words = input::trimmed(at, line);
-    if !r.echo | input::is_too_long(at, line) | (words.len() == 0) {
+    if !r.echo || input::is_too_long(at, line) || words.is_empty() {
         return 0;
     }
     echo::add_echo(words, 0, text)
@@ -141,7 +138,7 @@ fn answer(
         };
     }
     let words = input::words_of(at, line);
-    if words.len() == 0 {
+    if words.is_empty() {
         return Acted {
             rehearsal: r,
             written: 0,

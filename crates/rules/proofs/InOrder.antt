@@ -1,4 +1,5 @@
 -- What follows from rules 1 and 2 having passed, extracted once for the calls.
+use Rattle.std.specs.Prelude.{Option}
 use mathlib.Core.Path.{◌≡◌, refl}
 use mathlib.Core.List.{List}
 use mathlib.Core.Bool.{Bool, true, false, cond, not, ◌&&◌, ◌||◌, and-eq-true_iff, true≢false}
@@ -8,7 +9,6 @@ use lib.Dec.{leb, ltb}
 use lib.ListN.{length}
 use borrow.Author.Tests.{leb-true, ltb-false}
 use Rattle.numbers.specs.Limits.{largest_total}
-use Rattle.journal.specs.declared.Found.{Found}
 use Rattle.message.specs.Message.{largest}
 use Rattle.entry.specs.Entry.{entry_size}
 use Rattle.entry.specs.Form.{in_form, keeps_voided, keeps_unmarked, keeps_resends, keeps_silent}
@@ -25,7 +25,7 @@ use Rattle.rules.specs.Rules.{too_short, journal_clauses, journal_kept, in_uploa
 use Rattle.state_rules.specs.StateRules.{state_kept, sums_kept}
 
 -- rule 2 of the journal
-pub record JournalHolds (l : ℕ) (due : Entry → Bool) (uploading : Bool) (item : Found) (es : List Entry) : Type 0 where
+pub record JournalHolds (l : ℕ) (due : Entry → Bool) (uploading : Bool) (item : Option ℕ) (es : List Entry) : Type 0 where
   pub form : every (λ i e. in_form e) 0 es ≡ true
   pub apart : distinct es ≡ true
   pub voided : every (λ i e. keeps_voided e) 0 es ≡ true
@@ -41,7 +41,7 @@ pub record InOrder (s : State) (es : List Entry) : Type 0 where
   pub journal : JournalHolds s.settings.sendings (due s.phase) (in_upload s.phase) (awaited_item s.phase) es
   pub phase_kept : phase_kept s.settings s.entries es s.phase ≡ true
 
-pub journal-holds : (l : ℕ) (due : Entry → Bool) (uploading : Bool) (item : Found) (es : List Entry)
+pub journal-holds : (l : ℕ) (due : Entry → Bool) (uploading : Bool) (item : Option ℕ) (es : List Entry)
     → journal_kept l due uploading item es ≡ true → JournalHolds l due uploading item es
 unfolding journal_kept sums_kept
 journal-holds l due uploading item es e =

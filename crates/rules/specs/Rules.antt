@@ -1,5 +1,5 @@
 -- Document 01, "Why a call is turned down", rules 1 and 2.
-use Rattle.std.specs.Prelude.{List, [], ◌∷◌, ◌++◌, Bool, true, false, cond, not, ◌&&◌, ◌||◌, ℕ, ◌*◌, ltb, eqb, length}
+use Rattle.std.specs.Prelude.{List, [], ◌∷◌, ◌++◌, Bool, true, false, cond, not, ◌&&◌, ◌||◌, ℕ, ◌*◌, ltb, eqb, length, Some, None, Option}
 use Rattle.numbers.specs.Numbers.{within}
 use Rattle.message.specs.Message.{largest}
 use Rattle.kinds.specs.Kinds.{takes_original}
@@ -7,8 +7,6 @@ use Rattle.entry.specs.Entry.{entry_size}
 use Rattle.entry.specs.Form.{in_form, due_entry, keeps_voided, keeps_unmarked, keeps_resends, keeps_silent}
 use Rattle.entry.specs.declared.Entry.{Entry}
 use Rattle.journal.specs.Journal.{entries_of, entry_at, every, original_for, nowhere, is_at, next_due, totals_of, absent, distinct}
-use Rattle.journal.specs.declared.Found.{Found}
-use Rattle.journal.specs.declared.Found.TheVariants.{At, Nowhere}
 use Rattle.state.specs.declared.Request.{Request}
 use Rattle.state.specs.declared.Awaited.{Awaited}
 use Rattle.state.specs.declared.Awaited.TheVariants as awaited
@@ -28,7 +26,7 @@ too_short s lent = ltb (length lent.message) largest || ltb (length lent.journal
 -- 2. Settings, state or journal break a rule: in three parts, each in the page's order.
 
 -- Rule 2, the journal: by L, which entries are due, whether it is the upload, and the place of the awaited item.
-abbrev pub journal_clauses : ℕ → (Entry → Bool) → Bool → Found → List Entry → List Bool
+abbrev pub journal_clauses : ℕ → (Entry → Bool) → Bool → Option ℕ → List Entry → List Bool
 journal_clauses l due uploading item es =
     -- each value is in its range and form
     every (λ i e. in_form e) 0 es
@@ -46,7 +44,7 @@ journal_clauses l due uploading item es =
     ∷ every (λ i e. keeps_silent l (is_at item i) e) 0 es
     ∷ []
 
-unfoldable pub journal_kept : ℕ → (Entry → Bool) → Bool → Found → List Entry → Bool
+unfoldable pub journal_kept : ℕ → (Entry → Bool) → Bool → Option ℕ → List Entry → Bool
 journal_kept l due uploading item es = all_of (journal_clauses l due uploading item es)
 
 -- Rule 2, the phase.
@@ -70,24 +68,24 @@ abbrev pub due : Phase → Entry → Bool
 due p = due_entry
 
 -- the place of the awaited item
-abbrev pub item_in : Awaited → Found
-item_in (awaited.Request q) = Nowhere
-item_in (awaited.Reversal v) = Nowhere
-item_in (awaited.Settlement x) = Nowhere
-item_in (awaited.Item i) = At i
-item_in (awaited.End x) = Nowhere
+abbrev pub item_in : Awaited → Option ℕ
+item_in (awaited.Request q) = None
+item_in (awaited.Reversal v) = None
+item_in (awaited.Settlement x) = None
+item_in (awaited.Item i) = Some i
+item_in (awaited.End x) = None
 
-abbrev pub awaited_item : Phase → Found
-awaited_item Resting = Nowhere
+abbrev pub awaited_item : Phase → Option ℕ
+awaited_item Resting = None
 awaited_item (Waiting a) = item_in a
-awaited_item (Pending v) = Nowhere
-awaited_item Settling = Nowhere
-awaited_item Uploading = Nowhere
+awaited_item (Pending v) = None
+awaited_item Settling = None
+awaited_item Uploading = None
 
 -- the entry that a void is for is not voided yet
-abbrev pub unvoided_at : Found → List Entry → Bool
-unvoided_at (At i) es = eqb (entry_at es i).voided 0
-unvoided_at Nowhere es = false
+abbrev pub unvoided_at : Option ℕ → List Entry → Bool
+unvoided_at (Some i) es = eqb (entry_at es i).voided 0
+unvoided_at None es = false
 
 unfoldable pub original_unvoided : ℕ → ℕ → List Entry → Bool
 original_unvoided kind x es = cond (takes_original kind) (unvoided_at (original_for kind x es) es) true

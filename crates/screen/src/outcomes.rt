@@ -38,7 +38,6 @@ the length of field 62 is not allowed
 pub fn add_outcome(outcome: Outcome, message: &[u8], n: usize, out: &mut [u8]) -> usize
     ensures { Adds (outcome_line outcome message.now) n out.old result out.new }
 {
-    let reasons = REASONS;
     match outcome {
         Outcome::Send(length) => templates::add_filled(
             b"sent @ #\n",
@@ -50,8 +49,8 @@ pub fn add_outcome(outcome: Outcome, message: &[u8], n: usize, out: &mut [u8]) -
         Outcome::Quiet => texts::add(b"quiet\n", n, out),
         Outcome::Refused(number) => templates::add_filled(
             b"refused # $\n",
-            &[number as u64],
-            words::row(&reasons, number as usize),
+            &[u64::from(number)],
+            words::row(&REASONS, usize::from(number)),
             n,
             out,
         ),
@@ -59,6 +58,7 @@ pub fn add_outcome(outcome: Outcome, message: &[u8], n: usize, out: &mut [u8]) -
 }
 
 // Adds an error of a line.
+#[tactic(auto, using(crate::proofs::Lines::error_filled))]
 pub fn add_error(number: u64, why: &[u8], n: usize, out: &mut [u8]) -> usize
     ensures { Adds (error_line number why.now) n out.old result out.new }
 {

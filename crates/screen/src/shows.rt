@@ -26,12 +26,12 @@ pub fn add_counts(c: Counts, phase: Phase, n: usize, out: &mut [u8]) -> usize
     ensures { Adds (counts_line c (waiting phase)) n out.old result out.new }
 {
     let values = [
-        c.sent as u64,
-        c.approved as u64,
-        c.declined as u64,
-        c.reversed as u64,
-        c.given_up as u64,
-        c.unanswered as u64,
+        u64::from(c.sent),
+        u64::from(c.approved),
+        u64::from(c.declined),
+        u64::from(c.reversed),
+        u64::from(c.given_up),
+        u64::from(c.unanswered),
         state_rules::waiting_in(phase),
     ];
     templates::add_filled(
@@ -46,31 +46,27 @@ pub fn add_counts(c: Counts, phase: Phase, n: usize, out: &mut [u8]) -> usize
 pub fn add_totals(t: Totals, n: usize, out: &mut [u8]) -> usize
     ensures { Adds (totals_line t) n out.old result out.new }
 {
-    let values = [t.debit, t.debits as u64, t.credit, t.credits as u64];
+    let values = [t.debit, u64::from(t.debits), t.credit, u64::from(t.credits)];
     templates::add_filled(b"totals debit # # credit # #\n", &values, b"", n, out)
 }
 
 pub fn add_state(s: State, n: usize, out: &mut [u8]) -> usize
     ensures { Adds (state_line s) n out.old result out.new }
 {
-    let names = PHASES;
-    let batch = s.batch;
-    let next = s.next;
-    let values = [batch.0 as u64, next.0 as u64, s.entries as u64];
-    let name = words::row(&names, state_number(s));
-    if s.signed_on {
-        return templates::add_filled(
-            b"state on batch % trace % phase $ entries #\n",
-            &values,
-            name,
-            n,
-            out,
-        );
-    }
+    let template: &[u8] = if s.signed_on {
+        b"state on batch % trace % phase $ entries #\n"
+    } else {
+        b"state off batch % trace % phase $ entries #\n"
+    };
+    let values = [
+        u64::from(s.batch.0),
+        u64::from(s.next.0),
+        u64::from(s.entries),
+    ];
     templates::add_filled(
-        b"state off batch % trace % phase $ entries #\n",
+        template,
         &values,
-        name,
+        words::row(&PHASES, state_number(s)),
         n,
         out,
     )
@@ -84,10 +80,8 @@ pub fn add_journal(journal: &[u8], entries: u16, n: usize, out: &mut [u8]) -> us
         return texts::add(b"journal empty\n", n, out);
     }
     let mut at = n;
-    let mut i: u16 = 0;
-    while i < entries {
+    for i in 0..entries {
         at = entry_text::add_entry(i + 1, journal::entry_at(journal, entries, i), at, out);
-        i += 1;
     }
     at
 }
@@ -96,7 +90,7 @@ pub fn add_journal(journal: &[u8], entries: u16, n: usize, out: &mut [u8]) -> us
 pub fn add_message(message: &[u8], n: usize, out: &mut [u8]) -> usize
     ensures { Adds (message_line message.now) n out.old result out.new }
 {
-    if message.len() == 0 {
+    if message.is_empty() {
         return texts::add(b"message none\n", n, out);
     }
     templates::add_filled(b"message @\n", &[], message, n, out)
@@ -127,16 +121,15 @@ fn phase_number(phase: Phase) -> usize
 }
 
 // The number of a state's phase, where the answer to a sign-on or the card's word may be awaited.
+#[tactic(auto, unfolding(crate::specs::Shows::state_number))]
 fn state_number(s: State) -> usize
     ensures { result ≡ state_number s }
 {
-    let chip = s.chip;
-    let phase = s.phase;
     if s.signs_on() {
         return 10;
     }
-    if chip.approved {
+    if s.chip.approved {
         return 9;
     }
-    phase_number(phase)
+    phase_number(s.phase)
 }

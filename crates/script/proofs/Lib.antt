@@ -1,3 +1,2 @@
 -- Laws of a script's lines, for the proofs of this crate.
-pub mod Starts
 pub mod Says

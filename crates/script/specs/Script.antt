@@ -1,7 +1,5 @@
 -- A line of a script as a command, with settings and desk data beside it.
-use Rattle.std.specs.Prelude.{List, [], Bool, false, cond, not, ◌&&◌, ℕ, ◌/◌, ◌%◌, length, get_or, replicate}
-use Rattle.digits.specs.declared.Number.{Number}
-use Rattle.digits.specs.declared.Number.TheVariants.{Is, Not}
+use Rattle.std.specs.Prelude.{List, [], Bool, false, cond, not, ◌&&◌, ℕ, ◌/◌, ◌%◌, length, get_or, replicate, unwrap_or, Some, None, Option, Ok, Err, Result}
 use Rattle.digits.specs.Packed.{numeral}
 use Rattle.digits.specs.Lists.{same_bytes}
 use Rattle.texts.specs.Text.{text}
@@ -13,9 +11,8 @@ use Rattle.words.specs.Words.{word_at}
 use Rattle.word_values.specs.Values.{number_in, number_up_to, is_text, text_in, is_good}
 use Rattle.script.specs.declared.Name.{Name}
 use Rattle.script.specs.declared.Name.TheVariants as name
+use Rattle.grammar.specs.declared.Fault.{Fault}
 use Rattle.grammar.specs.declared.Fault.TheVariants as fault
-use Rattle.grammar.specs.declared.Verdict.{Verdict}
-use Rattle.grammar.specs.declared.Verdict.TheVariants.{Fine, Wrong}
 use Rattle.grammar.specs.Table.{commands}
 use Rattle.grammar.specs.Shapes.{is_empty, is_bad, line_fault}
 use Rattle.script.specs.declared.Command.{Command}
@@ -38,17 +35,13 @@ unfoldable pub month_day : List ℕ → ℕ
 month_day w = numeral (number_in 4 w)
 
 -- an amount that is answered, of up to twelve digits; another word is none, for which a larger amount stands
-abbrev pub answered_of : Number → ℕ
-answered_of (Is x) = x
-answered_of Not = 1000000000000
-
 unfoldable pub answered_in : List ℕ → ℕ
-answered_in w = answered_of (number_up_to 999999999999 w)
+answered_in w = unwrap_or (number_up_to 999999999999 w) 1000000000000
 
 -- a card is a word of digits; another word is none
-abbrev pub card_of : Number → ℕ → Card
-card_of (Is x) n = record { number = x; length = n }
-card_of Not n = record { number = 0; length = 0 }
+abbrev pub card_of : Option ℕ → ℕ → Card
+card_of (Some x) n = record { number = x; length = n }
+card_of None n = record { number = 0; length = 0 }
 
 unfoldable pub card_in : List ℕ → Card
 card_in w = card_of (number_in 19 w) (length w)
@@ -134,9 +127,9 @@ command_of (name.Call c) s = command.Call c 9
 command_of (name.Show x) s = command.Show x
 command_of name.Unknown s = command.Wrong fault.Unknown
 
-abbrev pub judged_command : Verdict → Name → List ℕ → Command
-judged_command Fine n s = command_of n s
-judged_command (Wrong f) n s = command.Wrong f
+abbrev pub judged_command : Result (Unit {0}) Fault → Name → List ℕ → Command
+judged_command (Ok _) n s = command_of n s
+judged_command (Err f) n s = command.Wrong f
 
 -- a line that has row k
 abbrev pub line_of : ℕ → List ℕ → Line

@@ -9,7 +9,7 @@ ghost use Rattle.script.specs.Script.{command_of, judged_command, parsed};
 
 use calls::Call;
 use desk::Desk;
-use grammar::{Fault, Verdict};
+use grammar::Fault;
 use state::Settings;
 
 // What is shown.
@@ -75,20 +75,21 @@ pub struct Line {
 }
 
 // The line of these words, which have no spaces before or after them.
+#[tactic(auto, unfolding(crate::specs::Script::parsed))]
 pub fn parse(s: &[u8]) -> Line
     ensures { result ≡ parsed s.now }
 {
     let k = grammar::row_of(words::word(s, 0));
     let name = names::name_at(k);
-    let verdict = grammar::line_fault(k, s);
     Line {
-        command: judged_command(verdict, name, s),
+        command: judged_command(grammar::line_fault(k, s), name, s),
         settings: values::settings_in(s),
         desk: values::desk_of(name, s),
     }
 }
 
 // The command of a line `reply`; no word stands after `bad`.
+#[tactic(auto, unfolding(crate::specs::Script::replied_by))]
 fn replied(s: &[u8]) -> Command
     ensures { result ≡ command_of Name.Reply s.now }
 {
@@ -96,14 +97,14 @@ fn replied(s: &[u8]) -> Command
     let amount = words::word(s, 2);
     let last = words::word(s, 3);
     let bad = grammar::is_bad(amount);
-    if bad & (last.len() != 0) {
+    if bad && !last.is_empty() {
         return Command::Wrong(Fault::Count);
     }
     Command::Reply {
         first: texts::byte_at(code, 0),
         second: texts::byte_at(code, 1),
         amount: values::answered_in(amount),
-        good: !bad & (last.len() == 0),
+        good: !bad && last.is_empty(),
     }
 }
 
@@ -126,21 +127,21 @@ fn command_of(name: Name, s: &[u8]) -> Command
         Name::Date => Command::Date(values::month_day(words::word(s, 1))),
         Name::CentreBatch => Command::CentreBatch(values::number32(words::word(s, 1))),
         Name::Echo => Command::Echo(digits::same(words::word(s, 1), b"on")),
-        Name::Call(c) => Command::Call { call: c, word: 9 },
+        Name::Call(call) => Command::Call { call, word: 9 },
         Name::Show(x) => Command::Show(x),
         Name::Unknown => Command::Wrong(Fault::Unknown),
-        _ => Command::Call {
+        Name::Void(_) | Name::Authorised(_) | Name::Refund | Name::Start => Command::Call {
             call: Call::Start,
             word: 9,
         },
     }
 }
 
-fn judged_command(verdict: Verdict, name: Name, s: &[u8]) -> Command
+fn judged_command(verdict: Result<(), Fault>, name: Name, s: &[u8]) -> Command
     ensures { result ≡ judged_command verdict name s.now }
 {
     match verdict {
-        Verdict::Fine => command_of(name, s),
-        Verdict::Wrong(f) => Command::Wrong(f),
+        Ok(()) => command_of(name, s),
+        Err(f) => Command::Wrong(f),
     }
 }

@@ -42,9 +42,5 @@ const NAMES: [Name; 30] = [
 pub fn name_at(k: usize) -> Name
     ensures { result ≡ get_or names k Name.Unknown }
 {
-    let names = NAMES;
-    if k < 30 {
-        return names[k];
-    }
-    Name::Unknown
+    NAMES.get(k).copied().unwrap_or(Name::Unknown)
 }

@@ -19,8 +19,7 @@ use Rattle.field.specs.declared.Prefix.{Prefix}
 use Rattle.field.specs.declared.Prefix.TheVariants.{Absent, One, Two}
 use Rattle.field.specs.declared.Format.{Format}
 use Rattle.field.proofs.Contents.{allowed-bounds, late-holds}
-use Rattle.span.specs.Span.{count_in, passed_at, contents_at, span_at, field_bytes}
-use Rattle.span.specs.declared.Span.TheVariants.{Held}
+use Rattle.span.specs.Span.{count_in, passed_at, contents_at, span_at, field_bytes, spans}
 use Rattle.span.proofs.Held.{IsHeld}
 
 -- a field with no length has one count, and one with a length can write each count
@@ -99,7 +98,7 @@ module _ (f : Format) (n : ℕ) (b rest : List ℕ) where
 
   -- a field that is written is found again
   pub span_back : well_formed f ≡ true → allowed f n ≡ true → length b ≡ size f.class n → fault f.class n b ≡ 0
-      → span_at f (field_bytes f n b ++ rest) ≡ Held n (skip f.prefix) (size f.class n)
+      → span_at f (field_bytes f n b ++ rest) ≡ spans n (skip f.prefix) (size f.class n)
   unfolding span_at contents_at
   span_back w a l x =
       let k = skip f.prefix in
@@ -122,7 +121,7 @@ module _ (f : Format) (n : ℕ) (b rest : List ℕ) where
       )
 
 -- of one whose length is judged late a length 0 is found again, and nothing is held
-span_none : (f : Format) (rest : List ℕ) → well_formed f ≡ true → late f ≡ true → span_at f (field_bytes f 0 [] ++ rest) ≡ Held 0 (skip f.prefix) 0
+span_none : (f : Format) (rest : List ℕ) → well_formed f ≡ true → late f ≡ true → span_at f (field_bytes f 0 [] ++ rest) ≡ spans 0 (skip f.prefix) 0
 unfolding span_at contents_at passed_at
 span_none f rest w a =
     let k = skip f.prefix in
@@ -144,7 +143,7 @@ span_none f rest w a =
 
 -- what is kept of a field that stands is found again
 pub span-kept : (f : Format) (n : ℕ) (b rest : List ℕ) → well_formed f ≡ true → stands f n ≡ true → length b ≡ size f.class (kept f n)
-    → fault f.class (kept f n) b ≡ 0 → span_at f (field_bytes f (kept f n) b ++ rest) ≡ Held (kept f n) (skip f.prefix) (size f.class (kept f n))
+    → fault f.class (kept f n) b ≡ 0 → span_at f (field_bytes f (kept f n) b ++ rest) ≡ spans (kept f n) (skip f.prefix) (size f.class (kept f n))
 span-kept f n b rest w y l x = go (allowed f n) refl y l x
   where
     none : (c : Class) → size c 0 ≡ 0
@@ -157,7 +156,7 @@ span-kept f n b rest w y l x = go (allowed f n) refl y l x
     empty (x ∷ b) l = absurd (omega (arith, l))
 
     go : (t : Bool) → allowed f n ≡ t → (t || late f) ≡ true → length b ≡ size f.class (cond t n 0) → fault f.class (cond t n 0) b ≡ 0
-        → span_at f (field_bytes f (cond t n 0) b ++ rest) ≡ Held (cond t n 0) (skip f.prefix) (size f.class (cond t n 0))
+        → span_at f (field_bytes f (cond t n 0) b ++ rest) ≡ spans (cond t n 0) (skip f.prefix) (size f.class (cond t n 0))
     go true a y l x = span_back f n b rest w a l x
     go false a y l x = rw (empty b (l ∙ none f.class), none f.class) (span_none f rest w y)
 

@@ -1,4 +1,5 @@
 -- A field is found where its frame stands and its contents are in form.
+use Rattle.std.specs.Prelude.{Err, Result, Ok}
 use mathlib.Core.Path.{◌≡◌, refl}
 use mathlib.Core.List.{List}
 use mathlib.Core.Bool.{Bool, true, false, cond}
@@ -12,18 +13,17 @@ use Rattle.field.specs.Contents.{size, skip, allowed, fault}
 use Rattle.field.specs.declared.Prefix.TheVariants.{Absent}
 use Rattle.field.specs.declared.Format.{Format}
 use Rattle.field.proofs.Contents.{none-in_form}
-use Rattle.span.specs.Span.{count_in, passed_at, contents_at, span_at, sized_at, frame_at}
+use Rattle.span.specs.Span.{count_in, passed_at, contents_at, span_at, sized_at, frame_at, spans}
 use Rattle.span.specs.declared.Span.{Span}
-use Rattle.span.specs.declared.Span.TheVariants.{Held, Refused}
-use Rattle.span.proofs.Held.{Fits, passed_no, passed_yes, passed-held, size-bound}
+use Rattle.span.proofs.Held.{Fits, same_spans, passed_no, passed_yes, passed-held, size-bound}
 
 -- a frame's contents are judged after it
-abbrev judged : Format → List ℕ → Span → Span
-judged f s (Refused e) = Refused e
-judged f s (Held n p z) =
-    cond (eqb (fault f.class n (take z (drop p s))) 0) (Held n p z) (Refused (fault f.class n (take z (drop p s))))
+abbrev judged : Format → List ℕ → Result Span ℕ → Result Span ℕ
+judged f s (Err e) = Err e
+judged f s (Ok x) =
+    cond (eqb (fault f.class x.count (take x.size (drop x.skip s))) 0) (Ok x) (Err (fault f.class x.count (take x.size (drop x.skip s))))
 
-judged-cond : (f : Format) (s : List ℕ) (b : Bool) (x y : Span) → judged f s (cond b x y) ≡ cond b (judged f s x) (judged f s y)
+judged-cond : (f : Format) (s : List ℕ) (b : Bool) (x y : Result Span ℕ) → judged f s (cond b x y) ≡ cond b (judged f s x) (judged f s y)
 judged-cond f s true x y = refl
 judged-cond f s false x y = refl
 
@@ -36,17 +36,17 @@ unfolding span_at contents_at frame_at sized_at
 span_frame f s = rw (judged-cond, judged-cond, judged-cond, judged-cond, judged-passed)
 
 module _ (f : Format) (s : List ℕ) where
-  pub frame_refused : {e : ℕ} → frame_at f s ≡ Refused e → span_at f s ≡ Refused e
+  pub frame_refused : {e : ℕ} → frame_at f s ≡ Err e → span_at f s ≡ Err e
   frame_refused q = rw (span_frame f s, q)
 
-  module _ {n p z : ℕ} (q : frame_at f s ≡ Held n p z) where
-    pub frame_held : fault f.class n (take z (drop p s)) ≡ 0 → span_at f s ≡ Held n p z
+  module _ {n p z : ℕ} (q : frame_at f s ≡ spans n p z) where
+    pub frame_held : fault f.class n (take z (drop p s)) ≡ 0 → span_at f s ≡ spans n p z
     frame_held e = rw (span_frame f s, q, eq-eqb _ _ e)
 
-    pub frame_fault : {e : ℕ} → fault f.class n (take z (drop p s)) ≡ e → (e ≡ 0 → ⊥) → span_at f s ≡ Refused e
+    pub frame_fault : {e : ℕ} → fault f.class n (take z (drop p s)) ≡ e → (e ≡ 0 → ⊥) → span_at f s ≡ Err e
     frame_fault {e} g k = rw (span_frame f s, q, g, ne_eqb e 0 k)
 
-pub frame_fits : (f : Format) (s : List ℕ) {n p z : ℕ} → frame_at f s ≡ Held n p z → Fits f s p z
+pub frame_fits : (f : Format) (s : List ℕ) {n p z : ℕ} → frame_at f s ≡ spans n p z → Fits f s p z
 unfolding frame_at sized_at
 frame_fits f s {n} {p} {z} q =
     let a = passed_no (ltb (length s) k) 3 _ q in
@@ -63,12 +63,13 @@ frame_fits f s {n} {p} {z} q =
     w = size f.class m
 
     go : (t : Bool) → allowed f m ≡ t → k ≤ length s
-        → cond t (cond (ltb (length (drop k s)) w) (Refused 3) (Held m k w)) (passed_at f m (drop k s)) ≡ Held n p z → Fits f s p z
+        → cond t (cond (ltb (length (drop k s)) w) (Err 3) (spans m k w)) (passed_at f m (drop k s)) ≡ spans n p z → Fits f s p z
     go true t kp q =
-        let d = passed_no (ltb (length (drop k s)) w) 3 (Held m k w) q in
+        let d = passed_no (ltb (length (drop k s)) w) 3 (spans m k w) q in
         let wr : w ≤ length (drop k s) = ltb-false (length (drop k s)) w d.0 in
-        let kq : k ≡ p = cc in
-        let zw : w ≡ z = cc in
+        let same = same_spans d.1 in
+        let kq : k ≡ p = same.1.0 in
+        let zw : w ≡ z = same.1.1 in
         record { within = omega (arith, length-drop k s); placed = rw (← zw) (size-bound f m t) }
     go false t kp q =
         let h = passed-held f m s q kp in

@@ -1,4 +1,5 @@
 -- What a field that was found says of its bytes.
+use Rattle.std.specs.Prelude.{Result, Ok, Err}
 use mathlib.Core.Path.{◌≡◌, refl, ap, sym, ◌∙◌}
 use mathlib.Core.List.{List}
 use mathlib.Core.Bool.{Bool, true, false, cond}
@@ -14,9 +15,8 @@ use Rattle.field.specs.declared.Prefix.{Prefix}
 use Rattle.field.specs.declared.Prefix.TheVariants.{Absent, One, Two}
 use Rattle.field.specs.declared.Format.{Format}
 use Rattle.field.proofs.Contents.{size_mono, allowed-bounds, late-holds}
-use Rattle.span.specs.Span.{count_in, passed_at, contents_at, span_at, span}
+use Rattle.span.specs.Span.{count_in, passed_at, contents_at, span_at, span, spans}
 use Rattle.span.specs.declared.Span.{Span}
-use Rattle.span.specs.declared.Span.TheVariants.{Held, Refused}
 
 pub record IsHeld (f : Format) (s : List ℕ) (n p z : ℕ) : Type 0 where
   pub skip_is : p ≡ skip f.prefix
@@ -32,15 +32,23 @@ skip_le Absent = omega arith
 skip_le One = omega arith
 skip_le Two = omega arith
 
-pub refused-held : {e n p z : ℕ} → Refused e ≡ Held n p z → ⊥
+-- spans that are equal are equal part by part
+abbrev part : (Span → ℕ) → Result Span ℕ → ℕ
+part f (Ok x) = f x
+part f (Err e) = 0
+
+pub same_spans : {a b c n p z : ℕ} → spans a b c ≡ spans n p z → (a ≡ n) × ((b ≡ p) × (c ≡ z))
+same_spans q = (ap (part (λ x. x.count)) q, (ap (part (λ x. x.skip)) q, ap (part (λ x. x.size)) q))
+
+pub refused-held : {e n p z : ℕ} → Err e ≡ spans n p z → ⊥
 refused-held {e} {n} {p} {z} q = let y : ◌≡◌ {A = ℕ} 0 1 = cc in omega arith
 
 -- a test that refuses where it holds, and one that refuses where it does not
-pub passed_no : (b : Bool) (e : ℕ) (y : Span) {n p z : ℕ} → cond b (Refused e) y ≡ Held n p z → (b ≡ false) × (y ≡ Held n p z)
+pub passed_no : (b : Bool) (e : ℕ) (y : Result Span ℕ) {n p z : ℕ} → cond b (Err e) y ≡ spans n p z → (b ≡ false) × (y ≡ spans n p z)
 passed_no true e y q = absurd (refused-held q)
 passed_no false e y q = (refl, q)
 
-pub passed_yes : (b : Bool) (e : ℕ) (y : Span) {n p z : ℕ} → cond b y (Refused e) ≡ Held n p z → (b ≡ true) × (y ≡ Held n p z)
+pub passed_yes : (b : Bool) (e : ℕ) (y : Result Span ℕ) {n p z : ℕ} → cond b y (Err e) ≡ spans n p z → (b ≡ true) × (y ≡ spans n p z)
 passed_yes true e y q = (refl, q)
 passed_yes false e y q = absurd (refused-held q)
 
@@ -51,26 +59,24 @@ pub record IsPassed (f : Format) (s : List ℕ) (n p z : ℕ) : Type 0 where
   pub size_none : z ≡ 0
   pub within : p ≤ length s
 
-pub passed-held : (f : Format) (m : ℕ) (s : List ℕ) {n p z : ℕ} → passed_at f m (drop (skip f.prefix) s) ≡ Held n p z
+pub passed-held : (f : Format) (m : ℕ) (s : List ℕ) {n p z : ℕ} → passed_at f m (drop (skip f.prefix) s) ≡ spans n p z
     → skip f.prefix ≤ length s → IsPassed f s n p z
 unfolding passed_at
 passed-held f m s {n} {p} {z} q l =
     let k = skip f.prefix in
     let r = drop k s in
     let a = passed_yes (late f) 7 _ q in
-    let b = passed_no (ltb (length r) m) 3 (Held 0 (k + m) 0) a.1 in
+    let b = passed_no (ltb (length r) m) 3 (spans 0 (k + m) 0) a.1 in
     let mr : m ≤ length r = ltb-false (length r) m b.0 in
-    let n0 : 0 ≡ n = cc in
-    let pk : k + m ≡ p = cc in
-    let z0 : 0 ≡ z = cc in
-    record { is_late = a.0; count_none = sym n0; size_none = sym z0; within = omega (arith, length-drop k s) }
+    let e = same_spans b.1 in
+    record { is_late = a.0; count_none = sym e.0; size_none = sym e.1.1; within = omega (arith, length-drop k s, e.1.0) }
 
 -- a field that was found is held, or was walked past
 pub data Found (f : Format) (s : List ℕ) (n p z : ℕ) : Type 0 where
   held : IsHeld f s n p z → Found f s n p z
   passed : IsPassed f s n p z → Found f s n p z
 
-pub span-found : (f : Format) (s : List ℕ) {n p z : ℕ} → span_at f s ≡ Held n p z → Found f s n p z
+pub span-found : (f : Format) (s : List ℕ) {n p z : ℕ} → span_at f s ≡ spans n p z → Found f s n p z
 unfolding span_at contents_at
 span-found f s {n} {p} {z} q =
     let k = skip f.prefix in
@@ -91,16 +97,17 @@ span-found f s {n} {p} {z} q =
     x = fault f.class m (take w (drop k s))
 
     go : (t : Bool) → allowed f m ≡ t → k ≤ length s → is_packed (2 * k) (take k s) ≡ true
-        → cond t (cond (ltb (length (drop k s)) w) (Refused 3) (cond (eqb x 0) (Held m k w) (Refused x))) (passed_at f m (drop k s)) ≡ Held n p z
+        → cond t (cond (ltb (length (drop k s)) w) (Err 3) (cond (eqb x 0) (spans m k w) (Err x))) (passed_at f m (drop k s)) ≡ spans n p z
         → Found f s n p z
     go true t kp pk q =
         let d = passed_no (ltb (length (drop k s)) w) 3 _ q in
-        let e = passed_yes (eqb x 0) x (Held m k w) d.1 in
+        let e = passed_yes (eqb x 0) x (spans m k w) d.1 in
         let wr : w ≤ length (drop k s) = ltb-false (length (drop k s)) w d.0 in
         let x0 : x ≡ 0 = eqb-true x 0 e.0 in
-        let mn : m ≡ n = cc in
-        let kq : k ≡ p = cc in
-        let zw : w ≡ z = cc in
+        let same = same_spans e.1 in
+        let mn : m ≡ n = same.0 in
+        let kq : k ≡ p = same.1.0 in
+        let zw : w ≡ z = same.1.1 in
         held
         (record {
           skip_is = sym kq;
@@ -114,7 +121,7 @@ span-found f s {n} {p} {z} q =
     go false t kp pk q = passed (passed-held f m s q kp)
 
 -- what has an allowed count is held
-pub span-held : (f : Format) (s : List ℕ) {n p z : ℕ} → span_at f s ≡ Held n p z → allowed f n ≡ true → IsHeld f s n p z
+pub span-held : (f : Format) (s : List ℕ) {n p z : ℕ} → span_at f s ≡ spans n p z → allowed f n ≡ true → IsHeld f s n p z
 span-held f s {n} {p} {z} q a = go (span-found f s q)
   where
     go : Found f s n p z → IsHeld f s n p z
@@ -122,7 +129,7 @@ span-held f s {n} {p} {z} q a = go (span-found f s q)
     go (passed h) = let y : allowed f 0 ≡ true = rw (← h.count_none) a in let e = late-holds f h.is_late in absurd (let t : ◌≡◌ {A = ℕ} 0 1 = cc in omega arith)
 
 -- the bytes that a field takes are there
-pub span-within : (f : Format) (s : List ℕ) {n p z : ℕ} → span_at f s ≡ Held n p z → p + z ≤ length s
+pub span-within : (f : Format) (s : List ℕ) {n p z : ℕ} → span_at f s ≡ spans n p z → p + z ≤ length s
 span-within f s {n} {p} {z} q = go (span-found f s q)
   where
     go : Found f s n p z → p + z ≤ length s
@@ -144,17 +151,16 @@ pub record Fits (f : Format) (s : List ℕ) (p z : ℕ) : Type 0 where
   pub within : p + z ≤ length s
   pub placed : z ≤ room f
 
-pub span_fits : (f : Format) (bm s : List ℕ) {n p z : ℕ} → span f bm s ≡ Held n p z → Fits f s p z
+pub span_fits : (f : Format) (bm s : List ℕ) {n p z : ℕ} → span f bm s ≡ spans n p z → Fits f s p z
 unfolding span
 span_fits f bm s {n} {p} {z} q = go (names bm f.number) q
   where
-    go : (b : Bool) → cond b (span_at f s) (Held 0 0 0) ≡ Held n p z → Fits f s p z
+    go : (b : Bool) → cond b (span_at f s) (spans 0 0 0) ≡ spans n p z → Fits f s p z
     go true q = found (span-found f s q)
       where
         found : Found f s n p z → Fits f s p z
         found (held h) = record { within = h.fits; placed = rw h.size_is (size-bound f n h.allows) }
         found (passed h) = record { within = omega (arith, h.within, h.size_none); placed = omega (arith, h.size_none) }
     go false q =
-        let pe : 0 ≡ p = cc in
-        let ze : 0 ≡ z = cc in
-        record { within = omega arith; placed = omega arith }
+        let e = same_spans q in
+        record { within = omega (arith, e.1.0, e.1.1); placed = omega (arith, e.1.1) }

@@ -2,17 +2,20 @@
 #![tactic(auto)]
 
 ghost use Rattle.std.specs.Prelude.{◌≡◌, ◌+◌, ◌*◌, ◌<◌};
+ghost use Rattle.checks.specs.Refusals.{numbered};
 ghost use Rattle.field.specs.Contents.{skip};
 ghost use Rattle.span.specs.Span.{count_in, passed_at, sized_at, frame_at};
 
+use checks::Refusal;
 use field::{Format, Prefix};
 
-// A field's count, the bytes before its contents and the bytes of its contents; or why it is refused. Key material of a length that is
-// not allowed has no contents: all its bytes stand before them.
+// A field's count, the bytes before its contents and the bytes of its contents. Key material of a length that is not allowed has no
+// contents: all its bytes stand before them.
 #[derive(Clone, Copy)]
-pub enum Span {
-    Held { count: u8, skip: usize, size: usize },
-    Refused(u8),
+pub struct Span {
+    pub count: u8,
+    pub skip: usize,
+    pub size: usize,
 }
 
 // The bytes of a length.
@@ -27,27 +30,35 @@ pub fn skip_of(prefix: Prefix) -> usize
 }
 
 // The field at the front of s, its contents not judged.
-pub fn frame_of(f: Format, s: &[u8]) -> Span
-    ensures { result ≡ frame_at f s.now }
+pub fn frame_of(f: Format, s: &[u8]) -> Result<Span, Refusal>
+    ensures { numbered result ≡ frame_at f s.now }
 {
-    let prefix = f.prefix;
-    match prefix {
-        Prefix::Absent => sized_at(f, wide(f.high), s),
+    match f.prefix {
+        Prefix::Absent => sized_at(f, usize::from(f.high), s),
         Prefix::One => prefixed_at(f, s),
         Prefix::Two => prefixed_at(f, s),
     }
 }
 
-fn wide(x: u8) -> usize
-    ensures { (result ≡ x) × (result < 256) }
+// The field at the front of s after its length.
+fn prefixed_at(f: Format, s: &[u8]) -> Result<Span, Refusal>
+    ensures { numbered result ≡ frame_at f s.now }
 {
-    x as usize
+    let skip = skip_of(f.prefix);
+    if s.len() < skip {
+        return Err(Refusal::EndsEarly);
+    }
+    if digits::is_packed(&s[..skip], 2 * skip) {
+        let n = count_in(f.prefix, f.high, &s[..skip]);
+        return sized_at(f, n, &s[skip..]);
+    }
+    Err(Refusal::BadDigit)
 }
 
 fn two_digits(tens: u8, ones: u8) -> usize
     ensures { (result ≡ tens * 10 + ones) × (result < 2816) }
 {
-    wide(tens) * 10 + wide(ones)
+    usize::from(tens) * 10 + usize::from(ones)
 }
 
 // The count that the length bytes s say; with no length the field's only count.
@@ -55,7 +66,7 @@ fn count_in(prefix: Prefix, high: u8, s: &[u8]) -> usize
     ensures { (result ≡ count_in prefix high s.now) × (result < 0x100000) }
 {
     match prefix {
-        Prefix::Absent => wide(high),
+        Prefix::Absent => usize::from(high),
         Prefix::One => two_digits(digits::half_at(s, 0), digits::half_at(s, 1)),
         Prefix::Two => {
             let hundreds = two_digits(digits::half_at(s, 0), digits::half_at(s, 1));
@@ -66,58 +77,36 @@ fn count_in(prefix: Prefix, high: u8, s: &[u8]) -> usize
 }
 
 // The contents of n digits or bytes at the front of s, not judged.
-fn sized_at(f: Format, n: usize, s: &[u8]) -> Span
+fn sized_at(f: Format, n: usize, s: &[u8]) -> Result<Span, Refusal>
     requires { n < 0x100000 }
-    ensures { result ≡ sized_at f n s.now }
+    ensures { numbered result ≡ sized_at f n s.now }
 {
-    if field::is_allowed(f, n) {
-        let class = f.class;
-        let prefix = f.prefix;
-        let count = n as u8;
-        let size = field::size_of(class, count);
-        if s.len() < size {
-            return Span::Refused(3);
-        }
-        return Span::Held {
-            count: count,
-            skip: skip_of(prefix),
-            size: size,
-        };
+    if !field::is_allowed(f, n) {
+        return passed_at(f, n, s);
     }
-    passed_at(f, n, s)
+    let count = n as u8;
+    let size = field::size_of(f.class, count);
+    if s.len() < size {
+        return Err(Refusal::EndsEarly);
+    }
+    let skip = skip_of(f.prefix);
+    Ok(Span { count, skip, size })
 }
 
 // Contents of n digits or bytes at the front of s where that many are not allowed.
-fn passed_at(f: Format, n: usize, s: &[u8]) -> Span
+fn passed_at(f: Format, n: usize, s: &[u8]) -> Result<Span, Refusal>
     requires { n < 0x100000 }
-    ensures { result ≡ passed_at f n s.now }
+    ensures { numbered result ≡ passed_at f n s.now }
 {
-    if field::is_late(f) {
-        if s.len() < n {
-            return Span::Refused(3);
-        }
-        let prefix = f.prefix;
-        return Span::Held {
-            count: 0,
-            skip: skip_of(prefix) + n,
-            size: 0,
-        };
+    if !field::is_late(f) {
+        return Err(Refusal::BadLength);
     }
-    Span::Refused(7)
-}
-
-// The field at the front of s after its length.
-fn prefixed_at(f: Format, s: &[u8]) -> Span
-    ensures { result ≡ frame_at f s.now }
-{
-    let prefix = f.prefix;
-    let skip = skip_of(prefix);
-    if s.len() < skip {
-        return Span::Refused(3);
+    if s.len() < n {
+        return Err(Refusal::EndsEarly);
     }
-    if digits::is_packed(&s[..skip], 2 * skip) {
-        let n = count_in(prefix, f.high, &s[..skip]);
-        return sized_at(f, n, &s[skip..]);
-    }
-    Span::Refused(6)
+    Ok(Span {
+        count: 0,
+        skip: skip_of(f.prefix) + n,
+        size: 0,
+    })
 }

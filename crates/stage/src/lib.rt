@@ -31,8 +31,8 @@ impl Rehearsal {
             limit: 0,
             sendings: 0,
             refund: 0,
-            terminal: [0u8; 8],
-            merchant: [0u8; 15],
+            terminal: [0; 8],
+            merchant: [0; 15],
         };
         Rehearsal {
             begun: false,
@@ -52,53 +52,28 @@ pub fn begun(settings: Settings, r: Rehearsal) -> Rehearsal
     Rehearsal {
         begun: true,
         state: State::new(settings),
-        date: r.date,
         batch: AS_SENT,
         length: 0,
-        echo: r.echo,
+        ..r
     }
 }
 
 pub fn dated(date: u16, r: Rehearsal) -> Rehearsal
     ensures { result ≡ dated date r }
 {
-    let state = r.state;
-    Rehearsal {
-        begun: r.begun,
-        state: state,
-        date: date,
-        batch: r.batch,
-        length: r.length,
-        echo: r.echo,
-    }
+    Rehearsal { date, ..r }
 }
 
 pub fn numbered(batch: u32, r: Rehearsal) -> Rehearsal
     ensures { result ≡ numbered batch r }
 {
-    let state = r.state;
-    Rehearsal {
-        begun: r.begun,
-        state: state,
-        date: r.date,
-        batch: batch,
-        length: r.length,
-        echo: r.echo,
-    }
+    Rehearsal { batch, ..r }
 }
 
 pub fn echoing(on: bool, r: Rehearsal) -> Rehearsal
     ensures { result ≡ echoing on r }
 {
-    let state = r.state;
-    Rehearsal {
-        begun: r.begun,
-        state: state,
-        date: r.date,
-        batch: r.batch,
-        length: r.length,
-        echo: on,
-    }
+    Rehearsal { echo: on, ..r }
 }
 
 // After a call that gave this outcome and left this state.
@@ -107,11 +82,9 @@ pub fn after_call(outcome: Outcome, state: State, r: Rehearsal) -> Rehearsal
 {
     Rehearsal {
         begun: true,
-        state: state,
-        date: r.date,
-        batch: r.batch,
+        state,
         length: length_after(outcome, r.length),
-        echo: r.echo,
+        ..r
     }
 }
 
@@ -120,7 +93,6 @@ fn length_after(outcome: Outcome, old: usize) -> usize
 {
     match outcome {
         Outcome::Send(n) => n,
-        Outcome::Quiet => old,
-        Outcome::Refused(_) => old,
+        Outcome::Quiet | Outcome::Refused(_) => old,
     }
 }

@@ -1,7 +1,7 @@
 // Templates: texts in which marks stand for numbers and for another text.
 #![tactic(auto)]
 
-ghost use Rattle.std.specs.Prelude.{◌≡◌, ◌≤◌, get_or};
+ghost use Rattle.std.specs.Prelude.{◌≡◌, ◌≤◌};
 ghost use Rattle.texts.specs.Text.{Adds};
 ghost use Rattle.templates.specs.Template.{meant, taken, filled};
 
@@ -13,51 +13,32 @@ pub fn add_filled(template: &[u8], values: &[u64], x: &[u8], n: usize, out: &mut
 {
     let mut at = n;
     let mut k = 0;
-    let mut i = 0;
-    while i < template.len() {
-        let c = template[i];
-        at = add_meant(c, value_at(values, k), x, at, out);
+    for &c in template {
+        let value = values.get(k).copied().unwrap_or(0);
+        at = add_meant(c, value, x, at, out);
         k += taken(c);
-        i += 1;
     }
     at
 }
 
 // Adds what a character of a template stands for.
+#[tactic(auto, unfolding(crate::specs::Template::meant))]
 fn add_meant(c: u8, value: u64, x: &[u8], n: usize, out: &mut [u8]) -> usize
     ensures { Adds (meant c value x.now) n out.old result out.new }
 {
-    if c == b'#' {
-        return texts::add_decimal(value, n, out);
+    match c {
+        b'#' => texts::add_decimal(value, n, out),
+        b'%' => texts::add_six(value, n, out),
+        b'$' => texts::add(x, n, out),
+        b'@' => texts::add_hex(x, n, out),
+        _ => texts::add(&[c], n, out),
     }
-    if c == b'%' {
-        return texts::add_six(value, n, out);
-    }
-    if c == b'$' {
-        return texts::add(x, n, out);
-    }
-    if c == b'@' {
-        return texts::add_hex(x, n, out);
-    }
-    texts::add(&[c], n, out)
 }
 
 // How many values a character of a template takes.
+#[tactic(auto, unfolding(crate::specs::Template::taken))]
 fn taken(c: u8) -> usize
     ensures { (result ≡ taken c) × (result ≤ 1) }
 {
-    if (c == b'#') | (c == b'%') {
-        return 1;
-    }
-    0
-}
-
-// Value k; 0 where there are fewer.
-fn value_at(values: &[u64], k: usize) -> u64
-    ensures { result ≡ get_or values.now k 0 }
-{
-    if k < values.len() {
-        return values[k];
-    }
-    0
+    usize::from(matches!(c, b'#' | b'%'))
 }

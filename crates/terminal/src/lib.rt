@@ -73,80 +73,70 @@ impl Terminal {
     pub fn sign_on(self, journal: &mut [u8], message: &mut [u8]) -> Step
         ensures { step_result result (lend journal.new message.new) ≡ call sign_on_event self.state (lend journal.old message.old) }
     {
-        let state = self.state;
-        step_of(call_sign_on::sign_on(state, journal, message))
+        step_of(call_sign_on::sign_on(self.state, journal, message))
     }
 
     // A card request leaves.
     pub fn start(self, desk: Desk, chip: &[u8], journal: &mut [u8], message: &mut [u8]) -> Step
         ensures { step_result result (lend journal.new message.new) ≡ call (starts desk chip.now) self.state (lend journal.old message.old) }
     {
-        let state = self.state;
-        step_of(call_start::start(state, desk, chip, journal, message))
+        step_of(call_start::start(self.state, desk, chip, journal, message))
     }
 
     // The centre's bytes, and the key pad's word on the MAC.
     pub fn answer(self, bytes: &[u8], good: bool, journal: &mut [u8], message: &mut [u8]) -> Step
         ensures { step_result result (lend journal.new message.new) ≡ call (answers bytes.now good) self.state (lend journal.old message.old) }
     {
-        let state = self.state;
-        step_of(call_answer::answer(state, bytes, good, journal, message))
+        step_of(call_answer::answer(self.state, bytes, good, journal, message))
     }
 
     // The line has fallen silent.
     pub fn no_answer(self, journal: &mut [u8], message: &mut [u8]) -> Step
         ensures { step_result result (lend journal.new message.new) ≡ call no_answer_event self.state (lend journal.old message.old) }
     {
-        let state = self.state;
-        step_of(call_answer::no_answer(state, journal, message))
+        step_of(call_answer::no_answer(self.state, journal, message))
     }
 
     // Power has returned.
     pub fn power_returned(self, journal: &mut [u8], message: &mut [u8]) -> Step
         ensures { step_result result (lend journal.new message.new) ≡ call power_returned_event self.state (lend journal.old message.old) }
     {
-        let state = self.state;
-        step_of(call_answer::power_returned(state, journal, message))
+        step_of(call_answer::power_returned(self.state, journal, message))
     }
 
     // The card agrees to the request that the centre has approved.
     pub fn card_agrees(self, journal: &mut [u8], message: &mut [u8]) -> Step
         ensures { step_result result (lend journal.new message.new) ≡ call card_agrees_event self.state (lend journal.old message.old) }
     {
-        let state = self.state;
-        step_of(call_card::card_agrees(state, journal, message))
+        step_of(call_card::card_agrees(self.state, journal, message))
     }
 
     // The card declines it.
     pub fn card_declines(self, journal: &mut [u8], message: &mut [u8]) -> Step
         ensures { step_result result (lend journal.new message.new) ≡ call card_declines_event self.state (lend journal.old message.old) }
     {
-        let state = self.state;
-        step_of(call_card::card_declines(state, journal, message))
+        step_of(call_card::card_declines(self.state, journal, message))
     }
 
     // The pending reversal leaves.
     pub fn send_reversal(self, journal: &mut [u8], message: &mut [u8]) -> Step
         ensures { step_result result (lend journal.new message.new) ≡ call send_reversal_event self.state (lend journal.old message.old) }
     {
-        let state = self.state;
-        step_of(call_reversal::send_reversal(state, journal, message))
+        step_of(call_reversal::send_reversal(self.state, journal, message))
     }
 
     // The batch's totals leave.
     pub fn settle(self, journal: &mut [u8], message: &mut [u8]) -> Step
         ensures { step_result result (lend journal.new message.new) ≡ call settles self.state (lend journal.old message.old) }
     {
-        let state = self.state;
-        step_of(call_settle::settle(state, journal, message))
+        step_of(call_settle::settle(self.state, journal, message))
     }
 
     // The next due entry leaves, or the upload's end.
     pub fn send_next_upload(self, journal: &mut [u8], message: &mut [u8]) -> Step
         ensures { step_result result (lend journal.new message.new) ≡ call send_next_upload_event self.state (lend journal.old message.old) }
     {
-        let state = self.state;
-        step_of(call_upload::send_next_upload(state, journal, message))
+        step_of(call_upload::send_next_upload(self.state, journal, message))
     }
 
     // The call that a value names, with what the desk keyed and the bytes of its field 55 or of an answer.
@@ -178,11 +168,8 @@ impl Terminal {
 fn step_of(c: Called) -> Step
     ensures { result ≡ step_of c }
 {
-    let outcome = c.outcome;
-    let state = c.state;
-    let terminal = Terminal { state: state };
     Step {
-        outcome: outcome,
-        terminal: terminal,
+        outcome: c.outcome,
+        terminal: Terminal { state: c.state },
     }
 }

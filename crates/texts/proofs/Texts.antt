@@ -5,8 +5,8 @@ use Prim.Native.Nat.{ℕ, zero, suc, ◌+◌, ◌-◌, ◌*◌, ◌/◌, ◌%◌
 use native.Mathlib.Omega.{arith}
 use native.Mathlib.Decide.{dec_lt}
 use native.Mathlib.Numerals.{add-one}
-use lib.ListN.{length, take, drop, get_or, length-append, length-drop, get_or-append}
-use lib.Seq.{take-length, take-suc, take-append-le, take-append-add, length-take-le, take-paste, length-paste, get_or_at, drop-length}
+use lib.ListN.{length, take, drop, get_or, length-append, get_or-append}
+use lib.Seq.{take-length, take-suc, take-append-le, take-append-add, take-paste, length-paste, get_or_at}
 use borrow.Rule.Slice.PartMut.{put_mid, Post-is}
 use Rattle.digits.specs.Lists.{tabulate}
 use Rattle.hexadecimal.specs.Hexadecimal.{to_hex, hex_at}
@@ -24,14 +24,6 @@ nothing w t = rw append-nil t
 
 pub and_then : {x y o l l2 : List ℕ} {n r r2 : ℕ} → Adds x n o r l → Adds y r l r2 l2 → Adds (x ++ y) n o r2 l2
 and_then {x} {y} a b w t = rw append_assoc at (b (w ++ x) (a w t))
-
--- a text past the buffer's end is none
-pub past_the_end : (x o : List ℕ) (n : ℕ) → length o < n → Adds x n o n o
-past_the_end x o n h w t = absurd (omega (arith, within t))
-
--- b, copied into a buffer of its length
-pub copied : (b d e : List ℕ) → length d ≡ length b → e ≡ take (length b) b ++ drop (length b) d → e ≡ b
-copied b d e h q = q ∙ rw (take-length, ← h, drop-length, append-nil)
 
 -- as much of x as there is room for, after the text w
 pub grows : {w o l : List ℕ} {n k : ℕ} (x : List ℕ) → Text w n o → k ≡ min (length x) (length o - n)
@@ -53,12 +45,6 @@ grows {w} {o} {l} {n} {k} x t e q =
         rw (z, take-length, take-append-add)
 
 module _ (x o : List ℕ) (n k : ℕ) (h : n ≤ length o) (q : k ≡ min (length x) (length o - n)) where
-  -- the part of the buffer for as much of x as there is room for
-  pub part_length : length (take (n + k - n) (drop n o)) ≡ length (take k x)
-  part_length =
-      let z : n + k - n ≡ k = omega arith in
-      rw (z, length-take-le k x (omega arith)) (length-take-le k (drop n o) (rw length-drop (omega arith)))
-
   -- x, copied there
   pub adds-copied : (e : List ℕ) → e ≡ take k x
       → Adds x n o (n + k) (put_mid n (n + k - n) o e)

@@ -8,9 +8,8 @@ use lib.Dec.{eqb}
 use lib.ListN.{length, take}
 use borrow.Author.Tests.{ne_eqb}
 use Rattle.entry.specs.declared.Entry.{Entry}
-use Rattle.journal.specs.declared.Found.TheVariants.{At, Nowhere}
-use Rattle.journal.specs.Journal.{entry_at, first_of, has_trace, absent}
-use Rattle.journal.proofs.Traces.{absent-first, absent-at, absent_more}
+use Rattle.journal.specs.Journal.{entry_at, has_trace, absent}
+use Rattle.journal.proofs.Traces.{absent-at, absent_more}
 
 pub absent_none : (x : ℕ) → absent x [] ≡ true
 unfolding absent
@@ -43,8 +42,3 @@ not_absent x es h = by (absent x es) h
 -- entry i has it
 pub present_at : (x i : ℕ) (es : List Entry) → i < length es → (entry_at es i).trace.0 ≡ x → absent x es ≡ false
 present_at x i es h q = not_absent x es (λ r. absent-at x es r i h q)
-
--- a search finds it
-pub present_found : (x k : ℕ) (es : List Entry) → first_of (has_trace x) 0 es ≡ At k → absent x es ≡ false
-present_found x k es q =
-    not_absent x es (λ r. let z : At k ≡ Nowhere = sym q ∙ absent-first x es r in let y : ◌≡◌ {A = ℕ} 0 1 = cc in omega arith)

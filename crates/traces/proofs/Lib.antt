@@ -2,7 +2,6 @@
 pub mod Entries
 pub mod Absent
 pub mod Ordered
-pub mod Compared
 pub mod Noted
 pub mod Passing
 pub mod Free

@@ -7,13 +7,11 @@ use native.Mathlib.Omega.{arith}
 use native.Mathlib.Numerals.{add-one}
 use native.Mathlib.Decide.{ℕ_discrete}
 use lib.ListN.{length, get_or, take, set}
-use lib.Seq.{take_all, length-take-le, get_or-take, get_or-set_same, get_or-set_other}
+use lib.Seq.{length-take-le, get_or-take, get_or-set_same, get_or-set_other}
 use borrow.Author.Tests.{ne_eqb, not-true, eqb-false}
-use Rattle.numbers.specs.Limits.{most_entries}
 use Rattle.digits.proofs.Lists.{all-at, all_true}
 use Rattle.entry.specs.declared.Entry.{Entry}
-use Rattle.journal.specs.Journal.{entries_of, entry_at, absent, distinct}
-use Rattle.journal.proofs.Entries.{length-entries_le}
+use Rattle.journal.specs.Journal.{entry_at, absent, distinct}
 use Rattle.journal.proofs.Traces.{absent-all, distinct-last, distinct-at}
 use Rattle.traces.specs.Traces.{trace_at, unseen}
 use Rattle.traces.proofs.Entries.{take-entry, entry-take}
@@ -26,18 +24,11 @@ pub unseen-all : (t : ℕ) (xs : List ℕ) → ((k : ℕ) → k < length xs → 
 unfolding unseen
 unseen-all t xs h = all_true _ (length xs) (λ k l. rw (ne_eqb (get_or xs k 0) t (h k l)))
 
--- entries that are few enough
-pub few-below : (n i : ℕ) (j : List ℕ) → n ≤ most_entries → i < length (entries_of n j) → i < most_entries
-few-below n i j m h = omega (arith, length-entries_le n j)
-
 -- the first i entries have different traces, and these are noted
 pub record Noted (es : List Entry) (i : ℕ) (seen : List ℕ) : Type 0 where
   pub bound : i ≤ length es
   pub apart : distinct (take i es) ≡ true
   pub held : (k : ℕ) → k < i → get_or seen k 0 ≡ trace_at es k
-
-pub noted_none : (es : List Entry) (seen : List ℕ) → Noted es 0 seen
-noted_none es seen = record { bound = omega arith; apart = refl; held = λ k l. absurd (omega arith) }
 
 module _ {es : List Entry} {i t : ℕ} {seen : List ℕ} (r : Noted es i seen) (h : i < length es) (l : i < length seen) (q : t ≡ trace_at es i) where
   note : (k : ℕ) → k < length (take i seen) → get_or (take i seen) k 0 ≡ trace_at es k
@@ -80,6 +71,3 @@ module _ {es : List Entry} {i t : ℕ} {seen : List ℕ} (r : Noted es i seen) (
           let n : length (take i seen) ≡ i = length-take-le i seen (omega arith) in
           absurd (true≢false (sym (unseen-all t (take i seen)
           (λ k m e. distinct-at es d k i (omega arith) h (sym q ∙ sym e ∙ note k m))) ∙ u))
-
-pub noted_done : {es : List Entry} {i : ℕ} {seen : List ℕ} → Noted es i seen → length es ≤ i → distinct es ≡ true
-noted_done {es} {i} r h = ap distinct (sym (take_all i es h)) ∙ r.apart

@@ -1,17 +1,14 @@
 -- Entries in the order in which traces are taken have no trace twice.
-use mathlib.Core.Path.{◌≡◌, refl, ◌∙◌}
+use mathlib.Core.Path.{◌≡◌, refl}
 use mathlib.Core.List.{List, [], ◌∷◌}
 use mathlib.Core.Bool.{Bool, true, false, not, ◌&&◌, ◌||◌}
-use Prim.Native.Nat.{ℕ, suc, ◌+◌, ◌≤◌, ◌<◌}
+use Prim.Native.Nat.{ℕ, ◌≤◌, ◌<◌}
 use native.Mathlib.Omega.{arith}
-use native.Mathlib.Numerals.{add-one}
 use lib.Dec.{ltb}
-use lib.ListN.{length, drop, drop_of_length-le}
 use borrow.Author.Tests.{ltb-true}
 use Rattle.entry.specs.declared.Entry.{Entry}
-use Rattle.journal.specs.Journal.{entry_at, absent, distinct}
-use Rattle.traces.specs.Traces.{trace_at, may_follow, rising, ordered}
-use Rattle.traces.proofs.Entries.{drop-entry}
+use Rattle.journal.specs.Journal.{absent, distinct}
+use Rattle.traces.specs.Traces.{may_follow, rising, ordered}
 use Rattle.traces.proofs.Absent.{absent_none, absent_other}
 
 never : {P : Type 0} → ◌≡◌ {A = Bool} false true → P
@@ -86,38 +83,3 @@ ordered-distinct (e ∷ es) h =
       passed-absent e.trace.0 e.trace.0 e.trace.0 es (omega arith) (omega arith) h,
       rising-distinct e.trace.0 e.trace.0 es (omega arith) h,
     )
-
--- the entries before i stand in order, the first is f and the last of them x: what a loop that goes over them keeps
-pub record Rising (es : List Entry) (f : ℕ) (wrapped : Bool) (x i : ℕ) : Type 0 where
-  pub bound : i ≤ length es
-  pub eq : ordered es ≡ rising f wrapped x (drop i es)
-
-pub rising_none : (es : List Entry) → length es ≡ 0 → ordered es ≡ true
-rising_none [] h = refl
-rising_none (e ∷ es) h = absurd (omega arith)
-
-first : (es : List Entry) → 0 < length es → ordered es ≡ rising (entry_at es 0).trace.0 false (entry_at es 0).trace.0 (drop 1 es)
-first [] h = absurd (omega arith)
-first (e ∷ es) h = refl
-
-pub rising-first : {es : List Entry} {x : ℕ} → 0 < length es → x ≡ trace_at es 0 → Rising es x false x 1
-unfolding trace_at
-rising-first {es} {x} h q = record { bound = omega arith; eq = first es h ∙ rw (← q) }
-
-step : (es : List Entry) (f : ℕ) (w : Bool) (x i : ℕ) → i < length es
-    → rising f w x (drop i es)
-    ≡ (may_follow f w x (trace_at es i) && rising f (w || not (ltb x (trace_at es i))) (trace_at es i) (drop (suc i) es))
-unfolding trace_at
-step es f w x i h = rw (drop-entry es i h)
-
-pub rising-more : {es : List Entry} {f : ℕ} {w : Bool} {x i t : ℕ} → Rising es f w x i → i < length es → t ≡ trace_at es i
-    → may_follow f w x t ≡ true → Rising es f (w || not (ltb x t)) t (i + 1)
-rising-more {es} {f} {w} {x} {i} {t} r h q m =
-    record { bound = omega arith; eq = r.eq ∙ step es f w x i h ∙ rw (← q, m, add-one) }
-
-pub rising_stop : {es : List Entry} {f : ℕ} {w : Bool} {x i t : ℕ} → Rising es f w x i → i < length es → t ≡ trace_at es i
-    → may_follow f w x t ≡ false → ordered es ≡ false
-rising_stop {es} {f} {w} {x} {i} {t} r h q m = r.eq ∙ step es f w x i h ∙ rw (← q, m)
-
-pub rising-done : {es : List Entry} {f : ℕ} {w : Bool} {x i : ℕ} → Rising es f w x i → length es ≤ i → ordered es ≡ true
-rising-done {es} {f} {w} {x} {i} r h = r.eq ∙ rw (drop_of_length-le es {i = i} h)

@@ -7,7 +7,6 @@ use native.Mathlib.Omega.{arith}
 use native.Mathlib.Numerals.{add-one}
 use lib.Dec.{eqb, ltb}
 use lib.ListN.{length, take}
-use lib.Seq.{take-length}
 use borrow.Author.Tests.{eq-eqb, lt-ltb, eqb-true, ltb-true}
 use Rattle.numbers.specs.Numbers.{following}
 use Rattle.numbers.specs.declared.Trace.{Trace}
@@ -64,23 +63,6 @@ passing_other {es} {x} {left} {i} {y} {rest} {t} r h q m a b =
   where
     no : t ≡ y → 0 < rest → ⊥
     no f k = let z : ◌≡◌ {A = Bool} true false = (rw (eq-eqb t y f, lt-ltb 0 rest k) at m) in let w : ◌≡◌ {A = ℕ} 0 1 = cc in omega arith
-
-pub passing_done : {es : List Entry} {x left i y rest : ℕ} → Passing es x left i y rest → length es ≤ i → Pass es x left y rest
-passing_done {es} {x} {left} {i} {y} {rest} r h =
-    record {
-      same = r.same;
-      fewer = r.fewer;
-      free = λ a b. let m : i ≡ length es = omega (arith, r.bound) in (rw (m, take-length) at (r.free a b));
-    }
-
--- the search goes on from where a pass has come to
-pub pass_begun : {es : List Entry} {x left y rest : ℕ} → Pass es x left y rest → Pass es (taken_from rest es y) left y rest
-pass_begun r = record { same = refl; fewer = r.fewer; free = r.free }
-
--- the next pass
-pub pass_on : {es : List Entry} {x left y rest z fewer : ℕ} → Pass es x left y rest → Pass es (taken_from rest es y) rest z fewer
-    → Pass es x rest z fewer
-pass_on r s = record { same = r.same ∙ s.same; fewer = s.fewer; free = s.free }
 
 -- a pass that left none behind was the last
 stays : (es : List Entry) (y rest : ℕ) → (0 < rest → absent y es ≡ true) → taken_from rest es y ≡ y

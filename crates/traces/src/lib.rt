@@ -1,15 +1,13 @@
 // Trace numbers in the journal: none twice, and the next one that is free (document 01, "State and journal").
 #![tactic(auto)]
 
-ghost use Rattle.std.specs.Prelude.{◌≡◌, ◌+◌, ◌*◌, ◌≤◌, length, take, drop};
+ghost use Rattle.std.specs.Prelude.{◌≡◌, ◌≤◌, map, length};
 ghost use Rattle.numbers.specs.Limits.{most_entries};
-ghost use Rattle.entry.specs.Entry.{entry_size, trace_offset};
-ghost use Rattle.digits.specs.Packed.{packed_number};
+ghost use Rattle.entry.specs.Entry.{decode};
 ghost use Rattle.journal.specs.Journal.{entries_of, absent, distinct, taken_from, taken};
 ghost use Rattle.traces.specs.Traces.{may_follow, ordered, unseen, Pass};
 
 use entry::Entry;
-use journal::{Found, Query};
 use numbers::Trace;
 
 // The most entries whose traces are noted.
@@ -19,57 +17,40 @@ const MOST: usize = numbers::MOST_ENTRIES as usize;
 #[derive(Clone, Copy)]
 struct Passed {
     next: Trace,
-    left: u16,
+    left: usize,
 }
 
 // Whether no two of the first n entries have one trace: at once where they stand in order.
 pub fn are_distinct(journal: &[u8], n: u16) -> bool
     ensures { result ≡ distinct (entries_of n journal.now) }
 {
-    if is_ordered(journal, n) {
+    let entries = journal::entries_of(journal, n);
+    if is_ordered(entries) {
         return true;
     }
-    if n as usize <= MOST {
-        return are_few_apart(journal, n);
+    if entries.len() <= MOST {
+        are_few_apart(entries)
+    } else {
+        are_apart(entries)
     }
-    are_apart(journal, n)
 }
 
 // The first trace number from next on that none of the first n entries has.
 pub fn take(journal: &[u8], n: u16, next: Trace) -> Trace
     ensures { result ≡ record { 0 = taken (entries_of n journal.now) next.0 } }
 {
-    let mut left = count_of(journal, n);
-    let mut p = pass(journal, n, next, left);
+    let entries = journal::entries_of(journal, n);
+    let mut left = entries.len();
+    let mut p = pass(entries, next, left);
     while p.left < left {
         left = p.left;
-        p = pass(journal, n, p.next, left);
+        p = pass(entries, p.next, left);
     }
     p.next
 }
 
-// How many of the first n entries are there.
-fn count_of(journal: &[u8], n: u16) -> u16
-    ensures { result ≡ length (entries_of n journal.now) }
-{
-    let whole = journal.len() / Entry::SIZE;
-    if whole < n as usize {
-        return whole as u16;
-    }
-    n
-}
-
-// The trace of entry i.
-fn trace_at(journal: &[u8], i: u16) -> u32
-    requires { entry_size * i + entry_size ≤ length journal.now }
-    ensures { result ≡ packed_number 6 (take 3 (drop (entry_size * i + trace_offset) journal.now)) }
-{
-    let at = Entry::SIZE * i as usize + Entry::TRACE;
-    let end = at + 3;
-    digits::packed_number(&journal[at..end]) as u32
-}
-
 // Whether t may come after x, in the order in which traces are taken.
+#[tactic(auto, unfolding(crate::specs::Traces::may_follow))]
 fn may_follow(first: u32, wrapped: bool, x: u32, t: u32) -> bool
     ensures { result ≡ may_follow first wrapped x t }
 {
@@ -77,108 +58,84 @@ fn may_follow(first: u32, wrapped: bool, x: u32, t: u32) -> bool
 }
 
 // Whether the traces stand in the order in which they are taken.
-fn is_ordered(journal: &[u8], n: u16) -> bool
-    ensures { result ≡ ordered (entries_of n journal.now) }
+fn is_ordered(entries: &[[u8; Entry::SIZE]]) -> bool
+    ensures { result ≡ ordered (map decode entries.now) }
 {
-    let count = count_of(journal, n);
-    if count == 0 {
+    let Some((b, rest)) = entries.split_first() else {
         return true;
-    }
-    let first = trace_at(journal, 0);
+    };
+    let first = entry::trace_of(b).0;
     let mut last = first;
     let mut wrapped = false;
-    let mut i: u16 = 1;
-    while i < count {
-        let t = trace_at(journal, i);
+    for b in rest {
+        let t = entry::trace_of(b).0;
         if !may_follow(first, wrapped, last, t) {
             return false;
         }
-        wrapped = wrapped | !(last < t);
+        wrapped |= t <= last;
         last = t;
-        i += 1;
     }
     true
 }
 
-// Whether none of the first n entries has a trace.
-fn is_absent(journal: &[u8], n: u16, x: Trace) -> bool
-    ensures { result ≡ absent x.0 (entries_of n journal.now) }
+// Whether none of the entries has a trace.
+fn is_absent(entries: &[[u8; Entry::SIZE]], x: Trace) -> bool
+    ensures { result ≡ absent x.0 (map decode entries.now) }
 {
-    match journal::find(journal, n, Query::Trace(x)) {
-        Found::At(_) => false,
-        Found::Nowhere => true,
-    }
+    entries.iter().all(|b| entry::trace_of(b).0 != x.0)
 }
 
 // Whether none of the numbers is t; without an exit, so that the machine compares several at once.
+#[tactic(auto, unfolding(crate::specs::Traces::unseen))]
 fn is_new(t: u32, seen: &[u32]) -> bool
     ensures { result ≡ unseen t seen.now }
 {
     let mut new = true;
-    let mut k = 0;
-    while k < seen.len() {
-        new = new & !(seen[k] == t);
-        k += 1;
+    for x in seen {
+        new &= *x != t;
     }
     new
 }
 
 // Whether no two of the entries, which are few enough to note their traces, have one trace.
-fn are_few_apart(journal: &[u8], n: u16) -> bool
-    requires { n ≤ most_entries }
-    ensures { result ≡ distinct (entries_of n journal.now) }
+fn are_few_apart(entries: &[[u8; Entry::SIZE]]) -> bool
+    requires { length entries.now ≤ most_entries }
+    ensures { result ≡ distinct (map decode entries.now) }
 {
-    let count = count_of(journal, n);
-    let mut seen = [0u32; MOST];
-    let mut i: u16 = 0;
-    while i < count {
-        let t = trace_at(journal, i);
-        let k = i as usize;
-        if !is_new(t, &seen[..k]) {
+    let mut seen = [0; MOST];
+    for (i, b) in entries.iter().enumerate() {
+        let t = entry::trace_of(b).0;
+        if !is_new(t, &seen[..i]) {
             return false;
         }
-        seen[k] = t;
-        i += 1;
+        seen[i] = t;
     }
     true
 }
 
 // Whether no entry has the trace of one after it, each compared with all that follow.
-fn are_apart(journal: &[u8], n: u16) -> bool
-    ensures { result ≡ distinct (entries_of n journal.now) }
+fn are_apart(entries: &[[u8; Entry::SIZE]]) -> bool
+    ensures { result ≡ distinct (map decode entries.now) }
 {
-    let count = count_of(journal, n);
-    let mut i: u16 = 0;
-    let mut at = 0;
-    while i < count {
-        let t = trace_at(journal, i);
-        i += 1;
-        at += Entry::SIZE;
-        if !is_absent(&journal[at..], n - i, Trace(t)) {
+    let mut left = entries;
+    while let Some((b, rest)) = left.split_first() {
+        if !is_absent(rest, entry::trace_of(b)) {
             return false;
         }
+        left = rest;
     }
     true
 }
 
-// Goes once over the entries, from x on to the next number whenever it meets the one it has come to.
-fn pass(journal: &[u8], n: u16, x: Trace, left: u16) -> Passed
-    ensures { Pass (entries_of n journal.now) (taken_from left (entries_of n journal.now) x.0) left result.next.0 result.left }
+// Goes once over the entries, from next on to the following number whenever it meets the one it has come to.
+fn pass(entries: &[[u8; Entry::SIZE]], mut next: Trace, mut left: usize) -> Passed
+    ensures { Pass (map decode entries.now) (taken_from left (map decode entries.now) next.0) left result.next.0 result.left }
 {
-    let count = count_of(journal, n);
-    let mut next = x;
-    let mut rest = left;
-    let mut i: u16 = 0;
-    while i < count {
-        let t = trace_at(journal, i);
-        if (t == next.0) & (0 < rest) {
+    for b in entries {
+        if (entry::trace_of(b).0 == next.0) & (0 < left) {
             next = next.following();
-            rest -= 1;
+            left -= 1;
         }
-        i += 1;
     }
-    Passed {
-        next: next,
-        left: rest,
-    }
+    Passed { next, left }
 }

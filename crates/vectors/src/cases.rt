@@ -1,7 +1,7 @@
 // The bytes of a case: a head, its journal and the bytes handed in, those of an answer or of the desk's field 55. The head has the event
 // at 0, what the desk keyed, the word on the MAC, how long the message buffer, the journal and the bytes handed in are, and the image of the
 // state.
-use crate::integers::{bytes_at, from, part, u16_at, u32_at, u64_at};
+use crate::integers::{bytes_at, from, part, u16_at};
 use calls::Call;
 use desk::Desk;
 use numbers::Trace;
@@ -26,7 +26,7 @@ const HEAD: usize = STATE + image::SIZE;
 
 // How long the message buffer of a case is.
 pub fn message_length(s: &[u8]) -> usize {
-    u16_at(s, MESSAGE_LENGTH) as usize
+    usize::from(u16_at(s, MESSAGE_LENGTH))
 }
 
 // The image of the state, the bytes of the journal and those handed in.
@@ -35,44 +35,36 @@ pub fn state_bytes(s: &[u8]) -> &[u8] {
 }
 
 pub fn journal_of(s: &[u8]) -> &[u8] {
-    part(s, HEAD, u16_at(s, JOURNAL_LENGTH) as usize)
+    part(s, HEAD, usize::from(u16_at(s, JOURNAL_LENGTH)))
 }
 
 fn handed_in(s: &[u8]) -> &[u8] {
-    let at = HEAD + u16_at(s, JOURNAL_LENGTH) as usize;
-    part(s, at, u16_at(s, BYTES_LENGTH) as usize)
+    let at = HEAD + usize::from(u16_at(s, JOURNAL_LENGTH));
+    part(s, at, usize::from(u16_at(s, BYTES_LENGTH)))
 }
 
-// Whether a case has all its bytes, and names an event, a word on chip and MAC, and a state.
+// Whether a case has all its bytes, and names an event and a word on chip and MAC.
 pub fn is_whole(s: &[u8]) -> bool {
-    let event = texts::byte_at(s, 0);
-    let journal = u16_at(s, JOURNAL_LENGTH);
-    let handed = u16_at(s, BYTES_LENGTH);
-    let reading = image::read(state_bytes(s));
-    (s.len() == HEAD + journal as usize + handed as usize)
-        & (handed <= 1024)
-        & (1 <= event)
-        & (event <= 10)
-        & (texts::byte_at(s, CHIP) <= 1)
-        & (texts::byte_at(s, MAC) <= 1)
-        & reading.accepted
+    let journal = usize::from(u16_at(s, JOURNAL_LENGTH));
+    let handed = usize::from(u16_at(s, BYTES_LENGTH));
+    s.len() == HEAD + journal + handed
+        && handed <= 1024
+        && matches!(texts::byte_at(s, 0), 1..=10)
+        && texts::byte_at(s, CHIP) <= 1
+        && texts::byte_at(s, MAC) <= 1
 }
 
 // What the desk keyed, from its 43 bytes.
 fn desk_of(s: &[u8]) -> Desk {
-    let mut authorisation = [0u8; 6];
-    let mut reference = [0u8; 12];
-    bytes_at(s, 24, &mut authorisation);
-    bytes_at(s, 30, &mut reference);
     Desk {
         kind: texts::byte_at(s, 0),
-        amount: u64_at(s, 1),
+        amount: u64::from_be_bytes(bytes_at(s, 1)),
         card: card_of(from(s, 9)),
-        original: Trace(u32_at(s, 18)),
+        original: Trace(u32::from_be_bytes(bytes_at(s, 18))),
         month: texts::byte_at(s, 22),
         day: texts::byte_at(s, 23),
-        authorisation: authorisation,
-        reference: reference,
+        authorisation: bytes_at(s, 24),
+        reference: bytes_at(s, 30),
         chip: texts::byte_at(s, 42) == 1,
     }
 }
@@ -80,18 +72,16 @@ fn desk_of(s: &[u8]) -> Desk {
 // A card, from its nine bytes.
 fn card_of(s: &[u8]) -> Card {
     Card {
-        number: u64_at(s, 0),
+        number: u64::from_be_bytes(bytes_at(s, 0)),
         length: texts::byte_at(s, 8),
     }
 }
 
-// The call of a case.
-pub fn call(s: &[u8], journal: &mut [u8], message: &mut [u8]) -> Step {
-    let reading = image::read(state_bytes(s));
-    let state = reading.state;
-    let terminal = Terminal { state: state };
+// What the call of a case gives; nothing where its state is no image.
+pub fn call(s: &[u8], journal: &mut [u8], message: &mut [u8]) -> Option<Step> {
+    let state = image::read(state_bytes(s))?;
     let desk = desk_of(part(s, DESK, 43));
-    terminal.make(call_of(s), desk, handed_in(s), journal, message)
+    Some(Terminal { state }.make(call_of(s), desk, handed_in(s), journal, message))
 }
 
 fn call_of(s: &[u8]) -> Call {

@@ -4,7 +4,7 @@
 mod cases;
 mod integers;
 
-use hexadecimal::Hex;
+use hexadecimal::HexError;
 use input::Input;
 use state::Outcome;
 
@@ -23,7 +23,7 @@ fn add_outcome(o: Outcome, n: usize, out: &mut [u8]) -> usize {
     match o {
         Outcome::Send(k) => add_named(b"send ", k as u64, n, out),
         Outcome::Quiet => texts::add(b"quiet", n, out),
-        Outcome::Refused(k) => add_named(b"refused ", k as u64, n, out),
+        Outcome::Refused(k) => add_named(b"refused ", u64::from(k), n, out),
     }
 }
 
@@ -38,7 +38,7 @@ fn add_bytes(before: &[u8], after: &[u8], n: usize, out: &mut [u8]) -> usize {
 
 // Writes what the call of a case gave in one piece; the message buffer was blank.
 fn say(s: &[u8], outcome: Outcome, state: &[u8], blank: &[u8], journal: &[u8], message: &[u8]) {
-    let mut text = [0u8; 4224];
+    let mut text = [0; 4224];
     let mut n = add_outcome(outcome, 0, &mut text);
     n = add_bytes(cases::state_bytes(s), state, n, &mut text);
     n = add_bytes(cases::journal_of(s), journal, n, &mut text);
@@ -47,12 +47,13 @@ fn say(s: &[u8], outcome: Outcome, state: &[u8], blank: &[u8], journal: &[u8], m
     io::write_all(STDOUT, texts::front(&text, n));
 }
 
-fn show(s: &[u8], blank: &[u8], journal: &mut [u8], message: &mut [u8]) {
-    let step = cases::call(s, journal, message);
-    let outcome = step.outcome;
-    let terminal = step.terminal;
-    let state = image::image_of(terminal.state);
-    say(s, outcome, &state, blank, journal, message);
+fn show(s: &[u8], blank: &[u8], journal: &mut [u8], message: &mut [u8]) -> bool {
+    let Some(step) = cases::call(s, journal, message) else {
+        return false;
+    };
+    let state = image::image_of(step.terminal.state);
+    say(s, step.outcome, &state, blank, journal, message);
+    true
 }
 
 // Lends a case its buffers and shows it; false where these bytes are no case.
@@ -60,25 +61,18 @@ fn show_case(s: &[u8]) -> bool {
     let m = cases::message_length(s);
     let before = cases::journal_of(s);
     let j = before.len();
-    if 640 < m {
+    if 640 < m || 1024 < j || !cases::is_whole(s) {
         return false;
     }
-    if 1024 < j {
-        return false;
-    }
-    if !cases::is_whole(s) {
-        return false;
-    }
-    let blank = [0xEEu8; 640];
+    let blank = [0xEE; 640];
     let mut message = blank;
-    let mut journal = [0u8; 1024];
+    let mut journal = [0; 1024];
     texts::add(before, 0, &mut journal);
-    show(s, &blank[..m], &mut journal[..j], &mut message[..m]);
-    true
+    show(s, &blank[..m], &mut journal[..j], &mut message[..m])
 }
 
 fn complain(number: u64, reason: &[u8]) {
-    let mut text = [0u8; 64];
+    let mut text = [0; 64];
     let mut n = add_named(b"error line ", number, 0, &mut text);
     n = texts::add(reason, n, &mut text);
     io::write_all(STDOUT, texts::front(&text, n));
@@ -90,20 +84,15 @@ fn complain_of_length(number: u64) {
 
 // The answer to a line's words.
 fn answer(number: u64, words: &[u8]) {
-    let mut bytes = [0u8; 2048];
-    let h = hexadecimal::hex_into(words, &mut bytes);
-    match h {
-        Hex::Bytes(n) => {
+    let mut bytes = [0; 2048];
+    match hexadecimal::hex_into(words, &mut bytes) {
+        Ok(n) => {
             if !show_case(texts::front(&bytes, n)) {
                 complain(number, b" not a case\n");
             }
         }
-        Hex::Not => {
-            complain(number, b" not hexadecimal\n");
-        }
-        Hex::TooLong => {
-            complain_of_length(number);
-        }
+        Err(HexError::NotHexadecimal) => complain(number, b" not hexadecimal\n"),
+        Err(HexError::TooLong) => complain_of_length(number),
     }
 }
 
@@ -114,23 +103,21 @@ fn answer_line(at: Input, line: &[u8]) {
         return;
     }
     let words = input::words_of(at, line);
-    if words.len() != 0 {
+    if !words.is_empty() {
         answer(at.number, words);
     }
 }
 
 // Answers each line before the next is read, until the input ends. A proved loop has to end, and nothing says that the
-// input does, so the loop counts its turns down.
+// input does, so the loop counts its turns.
 fn answer_all(chunk: &mut [u8], line: &mut [u8]) {
     let mut at = Input::new(STDIN);
-    let mut turns = u64::MAX;
-    while turns > 0 {
+    for _ in 0..u64::MAX {
         at = input::next(at, chunk, line);
         answer_line(at, line);
         if at.ended {
-            break;
+            return;
         }
-        turns -= 1;
     }
 }
 

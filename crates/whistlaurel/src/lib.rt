@@ -12,11 +12,11 @@ ghost use Rattle.call_definitions.specs.Events.{event_of, sign_on_event, starts,
 ghost use Rattle.interface_definitions.specs.Interface.{gives, number_of, length_of, on_image, settings_of, desk_of, nothing_keyed, returned, fresh_image, number_at, totals_on, sums_values, sums_on, read_number, held, field_at};
 
 use calls::Call;
+use checks::Refusal;
 use desk::Desk;
 use kinds::Sums;
 use numbers::Trace;
-use parts::Taken;
-use reading::ReadOutcome;
+use parts::NotTaken;
 use state::{Card, Outcome, Settings, State};
 use terminal::Terminal;
 
@@ -62,12 +62,12 @@ pub extern "C" fn whistlaurel_fresh(
     ensures { returned result image.new ≡ fresh_image (settings_of limit sendings refund terminal.now merchant.now) image.old }
 {
     if image.len() != image::SIZE {
-        return 2;
+        return Refusal::OutOfForm.into();
     }
     let settings = Settings {
-        limit: limit,
-        sendings: sendings,
-        refund: refund,
+        limit,
+        sendings,
+        refund,
         terminal: *terminal,
         merchant: *merchant,
     };
@@ -110,15 +110,15 @@ pub extern "C" fn whistlaurel_start(
     ensures { gives result length.new image.new journal.new message.new ≡ on_image (starts (desk_of kind amount card_number card_length original month day authorisation.now reference.now has_chip) chip.now) image.old (lend journal.old message.old) }
 {
     let desk = Desk {
-        kind: kind,
-        amount: amount,
+        kind,
+        amount,
         card: Card {
             number: card_number,
             length: card_length,
         },
         original: Trace(original),
-        month: month,
-        day: day,
+        month,
+        day,
         authorisation: *authorisation,
         reference: *reference,
         chip: has_chip,
@@ -246,15 +246,16 @@ pub extern "C" fn whistlaurel_number(image: &[u8], row: usize, number: &mut u64)
     ensures { returned result number.new ≡ number_at image.now row number.old }
 {
     if image::ROWS <= row {
-        return 2;
+        return Refusal::OutOfForm.into();
     }
-    let held = image::read(image);
-    if !held.accepted {
-        return 2;
+    match image::read(image) {
+        Some(state) => {
+            let values = image::values_of(state);
+            *number = values[row];
+            0
+        }
+        None => Refusal::OutOfForm.into(),
     }
-    let values = image::values_of(held.state);
-    *number = values[row];
-    0
 }
 
 // The debit amount and count and the credit amount and count in an image.
@@ -262,14 +263,14 @@ pub extern "C" fn whistlaurel_number(image: &[u8], row: usize, number: &mut u64)
 pub extern "C" fn whistlaurel_totals(image: &[u8], totals: &mut [u64; 4]) -> u8
     ensures { returned result totals.new ≡ totals_on image.now totals.old }
 {
-    let held = image::read(image);
-    if !held.accepted {
-        return 2;
+    match image::read(image) {
+        Some(state) => {
+            let t = state.totals;
+            *totals = [t.debit, t.debits as u64, t.credit, t.credits as u64];
+            0
+        }
+        None => Refusal::OutOfForm.into(),
     }
-    let state = held.state;
-    let t = state.totals;
-    *totals = [t.debit, t.debits as u64, t.credit, t.credits as u64];
-    0
 }
 
 // The five sums of the journal in the order of 001, 4.3.2: amount and count of sales, completions, refunds, sale voids, completion voids.
@@ -277,17 +278,16 @@ pub extern "C" fn whistlaurel_totals(image: &[u8], totals: &mut [u64; 4]) -> u8
 pub extern "C" fn whistlaurel_sums(image: &[u8], journal: &[u8], sums: &mut [u64; 10]) -> u8
     ensures { returned result sums.new ≡ sums_on image.now journal.now sums.old }
 {
-    let held = image::read(image);
-    if !held.accepted {
-        return 2;
+    match image::read(image) {
+        Some(state) => match rules::judge_report(state, journal) {
+            Ok(_) => {
+                *sums = sums_values(journal::sums_of(journal, state.entries));
+                0
+            }
+            Err(e) => e.into(),
+        },
+        None => Refusal::OutOfForm.into(),
     }
-    let state = held.state;
-    let number = rules::report_refusal(state, journal);
-    if number != 0 {
-        return number;
-    }
-    *sums = sums_values(journal::sums_of(journal, state.entries));
-    0
 }
 
 // Whether bytes are a message: 0, or the number by which they are refused.
@@ -296,8 +296,8 @@ pub extern "C" fn whistlaurel_read(bytes: &[u8]) -> u8
     ensures { result ≡ read_number (read_message bytes.now).outcome }
 {
     match reading::outcome_of(bytes) {
-        ReadOutcome::Read => 0,
-        ReadOutcome::Refused(e) => e,
+        Ok(()) => 0,
+        Err(e) => e.into(),
     }
 }
 
@@ -306,42 +306,33 @@ pub extern "C" fn whistlaurel_read(bytes: &[u8]) -> u8
 pub extern "C" fn whistlaurel_field(bytes: &[u8], n: u8, out: &mut [u8], count: &mut usize) -> u8
     ensures { returned result (held count.new out.new) ≡ field_at bytes.now n (held count.old out.old) }
 {
-    let r = reading::read(bytes);
-    let outcome = r.outcome;
-    if let ReadOutcome::Refused(e) = outcome {
-        return e;
-    }
-    let m = r.message;
-    let taken = parts::take_field(message::head_of(m), &m.contents, n, out);
-    match taken {
-        Taken::Absent => ABSENT,
-        Taken::TooLong => 1,
-        Taken::Count(k) => {
-            *count = k;
-            0
-        }
+    match reading::read(bytes) {
+        Ok(m) => match parts::take_field(&m, n, out) {
+            Ok(k) => {
+                *count = k;
+                0
+            }
+            Err(NotTaken::Absent) => ABSENT,
+            Err(NotTaken::TooLong) => Refusal::TooSmall.into(),
+        },
+        Err(e) => e.into(),
     }
 }
 
 fn sums_values(x: Sums) -> [u64; 10]
     ensures { result ≡ sums_values x }
 {
-    let sales = x.sales;
-    let completions = x.completions;
-    let refunds = x.refunds;
-    let sale_voids = x.sale_voids;
-    let completion_voids = x.completion_voids;
     [
-        sales.amount,
-        sales.count as u64,
-        completions.amount,
-        completions.count as u64,
-        refunds.amount,
-        refunds.count as u64,
-        sale_voids.amount,
-        sale_voids.count as u64,
-        completion_voids.amount,
-        completion_voids.count as u64,
+        x.sales.amount,
+        x.sales.count as u64,
+        x.completions.amount,
+        x.completions.count as u64,
+        x.refunds.amount,
+        x.refunds.count as u64,
+        x.sale_voids.amount,
+        x.sale_voids.count as u64,
+        x.completion_voids.amount,
+        x.completion_voids.count as u64,
     ]
 }
 
@@ -359,8 +350,8 @@ fn nothing_keyed() -> Desk
         original: Trace(0),
         month: 0,
         day: 0,
-        authorisation: [0u8; 6],
-        reference: [0u8; 12],
+        authorisation: [0; 6],
+        reference: [0; 12],
         chip: false,
     }
 }
@@ -391,18 +382,15 @@ fn make(
     ensures { gives result length.new image.new journal.new message.new ≡ on_image (event_of call desk bytes.now) image.old (lend journal.old message.old) }
 {
     *length = 0;
-    let held = image::read(image);
-    if !held.accepted {
-        return 2;
+    match image::read(image) {
+        Some(state) => {
+            let step = Terminal { state }.make(call, desk, bytes, journal, message);
+            put_image(step.terminal.state, image);
+            *length = length_of(step.outcome);
+            number_of(step.outcome)
+        }
+        None => Refusal::OutOfForm.into(),
     }
-    let state = held.state;
-    let terminal = Terminal { state: state };
-    let step = terminal.make(call, desk, bytes, journal, message);
-    let outcome = step.outcome;
-    let after = step.terminal;
-    put_image(after.state, image);
-    *length = length_of(outcome);
-    number_of(outcome)
 }
 
 // Puts the image of a state.
@@ -420,7 +408,7 @@ fn length_of(o: Outcome) -> usize
     match o {
         Outcome::Send(n) => n,
         Outcome::Quiet => 0,
-        Outcome::Refused(k) => 0,
+        Outcome::Refused(_) => 0,
     }
 }
 
@@ -428,7 +416,7 @@ fn number_of(o: Outcome) -> u8
     ensures { result ≡ number_of o }
 {
     match o {
-        Outcome::Send(n) => SENDS,
+        Outcome::Send(_) => SENDS,
         Outcome::Quiet => 0,
         Outcome::Refused(k) => k,
     }

@@ -1,9 +1,7 @@
 -- What a word says: a number in decimal, a text, or whether a MAC is good.
-use Rattle.std.specs.Prelude.{List, Bool, cond, ◌&&◌, ℕ, ◌+◌, ◌-◌, ◌*◌, leb, eqb, length, get_or, drop}
+use Rattle.std.specs.Prelude.{List, Bool, cond, ◌&&◌, ℕ, ◌+◌, ◌-◌, ◌*◌, leb, eqb, length, get_or, drop, Some, None, Option}
 use Rattle.digits.specs.Lists.{tabulate}
 use Rattle.digits.specs.Numbers.{number_of}
-use Rattle.digits.specs.declared.Number.{Number}
-use Rattle.digits.specs.declared.Number.TheVariants.{Is, Not}
 use Rattle.hexadecimal.specs.Hexadecimal.{is_hex, from_hex}
 use Rattle.texts.specs.Text.{text}
 use Rattle.digits.specs.Lists.{same_bytes}
@@ -13,19 +11,19 @@ unfoldable pub digit_of : ℕ → ℕ
 digit_of b = cond (leb 0x30 b && leb b 0x39) (b - 0x30) 10
 
 -- the number that a word of 1 to so many digits says; at most 19 are read
-unfoldable pub number_in : ℕ → List ℕ → Number
+unfoldable pub number_in : ℕ → List ℕ → Option ℕ
 number_in longest w =
     cond (leb 1 (length w) && leb (length w) longest)
     (number_of (tabulate (length w) (λ i. digit_of (get_or w i 0))))
-    Not
+    None
 
 -- a number that is at most so much
-abbrev pub up_to : ℕ → Number → Number
-up_to most (Is x) = cond (leb x most) (Is x) Not
-up_to most Not = Not
+abbrev pub up_to : ℕ → Option ℕ → Option ℕ
+up_to most (Some x) = cond (leb x most) (Some x) None
+up_to most None = None
 
 -- numbers are decimal, up to 18 digits
-unfoldable pub number_up_to : ℕ → List ℕ → Number
+unfoldable pub number_up_to : ℕ → List ℕ → Option ℕ
 number_up_to most w = up_to most (number_in 18 w)
 
 -- a word that begins with = is bytes in hexadecimal

@@ -1,5 +1,4 @@
-pub mod Places
 -- Laws of words, for the proofs of this crate.
 pub mod Lines
+pub mod Places
 pub mod Tables
-pub mod Words

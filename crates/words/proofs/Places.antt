@@ -1,29 +1,29 @@
 -- Where a byte stands first.
-use Rattle.std.proofs.Common.{◌≡◌, ℕ, zero, suc, ◌+◌, ◌<◌, ◌≤◌, true, false, List, [], ◌∷◌, length, eqb, get_or, ap, refl, arith}
-use borrow.Author.Tests.{eq-eqb, ne_eqb}
+use Rattle.std.proofs.Common.{◌≡◌, ℕ, ◌+◌, ◌≤◌, Bool, true, false, cond, List, Option, Some, None, eqb, ltb, length, unwrap_or, refl, ltb-false, arith}
+use Rattle.std.specs.List.{position_or_len}
+use Rattle.std.proofs.lemmas.List.Sums.{prefix_len-le-length}
+use Rattle.std.proofs.lemmas.List.Recursion.{is_position_or_len}
 use Rattle.words.specs.Bytes.{index_of, index_after}
 
--- no place below n holds b
-pub record Without (b : ℕ) (s : List ℕ) (n : ℕ) : Type 0 where
-  pub passed : (k : ℕ) → k < n → get_or s k 0 ≡ b → ⊥
+step : (t : Bool) (n : ℕ) → index_after t n ≡ cond t 0 (1 + n)
+unfolding index_after
+step true n = refl
+step false n = omega arith
 
-pub without_none : (b : ℕ) (s : List ℕ) → Without b s 0
-without_none b s = record { passed = λ k h e. absurd (omega arith) }
+index_of-position : (b : ℕ) (s : List ℕ) → index_of b s ≡ position_or_len (λ x. eqb x b) s
+unfolding index_of
+index_of-position b s = is_position_or_len (index_of b) (λ x. eqb x b) refl (λ x xs. step (eqb x b) (index_of b xs)) s
 
-tail_without : (b x : ℕ) (s : List ℕ) (n : ℕ) → Without b (x ∷ s) (suc n) → Without b s n
-tail_without b x s n w = record { passed = λ k h e. w.passed (suc k) (omega arith) e }
+index_of-le : (b : ℕ) (s : List ℕ) → index_of b s ≤ length s
+index_of-le b s = rw index_of-position (prefix_len-le-length _ s)
 
-pub index_of-here : (b : ℕ) (s : List ℕ) (n : ℕ) → n < length s → get_or s n 0 ≡ b → Without b s n → index_of b s ≡ n
-unfolding index_of index_after
-index_of-here b [] n h e w = absurd (omega arith)
-index_of-here b (x ∷ s) zero h e w = let q : eqb x b ≡ true = eq-eqb x b e in rw q
-index_of-here b (x ∷ s) (suc n) h e w =
-    let q : eqb x b ≡ false = ne_eqb x b (λ z. w.passed 0 (omega arith) z) in
-    rw q (ap suc (index_of-here b s n (omega arith) e (tail_without b x s n w)))
-
-pub index_of-none : (b : ℕ) (s : List ℕ) → Without b s (length s) → index_of b s ≡ length s
-unfolding index_of index_after
-index_of-none b [] w = refl
-index_of-none b (x ∷ s) w =
-    let q : eqb x b ≡ false = ne_eqb x b (λ z. w.passed 0 (omega arith) z) in
-    rw q (ap suc (index_of-none b s (tail_without b x s (length s) w)))
+-- the place that `position` found, or the length where it found none
+pub index_of-found : (b : ℕ) (s : List ℕ) (r : Option ℕ)
+    → r ≡ cond (ltb (position_or_len (λ x. eqb x b) s) (length s)) (Some (position_or_len (λ x. eqb x b) s)) None
+    → (unwrap_or r (length s) ≡ index_of b s) × (unwrap_or r (length s) ≤ length s)
+index_of-found b s r e = rw (e, ← index_of-position b s) (go (ltb (index_of b s) (length s)) refl)
+  where
+    go : (t : Bool) → ltb (index_of b s) (length s) ≡ t
+        → (unwrap_or (cond t (Some (index_of b s)) None) (length s) ≡ index_of b s) × (unwrap_or (cond t (Some (index_of b s)) None) (length s) ≤ length s)
+    go true q = (refl, index_of-le b s)
+    go false q = (omega (arith, ltb-false (index_of b s) (length s) q, index_of-le b s), omega arith)

@@ -4,23 +4,25 @@
 mod rows;
 pub mod scan;
 
-ghost use Rattle.std.specs.Prelude.{◌≡◌, length};
-ghost use Rattle.words.specs.Lines.{spaces, last_end, trimmed, skipped};
+ghost use Rattle.std.specs.Prelude.{◌≡◌, drop};
+ghost use Rattle.words.specs.Lines.{spaces, cut, trimmed, skipped};
 ghost use Rattle.words.specs.Words.{past_word, first_word, rest, after, word_at};
 
 pub use rows::{row, row_named};
 
 // What follows k words of a line.
-pub fn after(s: &[u8], k: u8) -> &[u8]
+#[tactic(auto, using(crate::proofs::Tables::after_next))]
+pub fn after(mut s: &[u8], k: u8) -> &[u8]
     ensures { result.now ≡ after k s.now }
 {
-    if k == 0 {
-        return s;
+    for _ in 0..k {
+        s = rest(s);
     }
-    after(rest(s), k - 1)
+    s
 }
 
 // Word k of a line, the first being 0; empty where there are fewer.
+#[tactic(auto, unfolding(crate::specs::Words::word_at))]
 pub fn word(s: &[u8], k: u8) -> &[u8]
     ensures { result.now ≡ word_at k s.now }
 {
@@ -28,65 +30,58 @@ pub fn word(s: &[u8], k: u8) -> &[u8]
 }
 
 // A line without the spaces before its first word and after its last.
+#[tactic(auto, unfolding(crate::specs::Lines::trimmed))]
 pub fn trim(s: &[u8]) -> &[u8]
     ensures { result.now ≡ trimmed s.now }
 {
-    let rest = &s[spaces_before(s)..];
-    &rest[..words_end(rest)]
+    trim_end(trim_start(s))
 }
 
 // Whether a line of these words is skipped: it is blank, or its first character is `#`.
+#[tactic(auto, unfolding(crate::specs::Lines::skipped))]
 pub fn is_skipped(s: &[u8]) -> bool
     ensures { result ≡ skipped s.now }
 {
-    if s.len() == 0 {
-        return true;
-    }
-    s[0] == 0x23
+    matches!(s, [] | [b'#', ..])
 }
 
+#[tactic(auto, unfolding(crate::specs::Words::past_word))]
 fn past_word(s: &[u8]) -> &[u8]
     ensures { result.now ≡ past_word s.now }
 {
-    let end = scan::find(s, b' ');
-    &s[end..]
+    &s[scan::find(s, b' ')..]
 }
 
+#[tactic(auto, unfolding(crate::specs::Words::first_word))]
 fn first_word(s: &[u8]) -> &[u8]
     ensures { result.now ≡ first_word s.now }
 {
-    let end = scan::find(s, b' ');
-    &s[..end]
+    &s[..scan::find(s, b' ')]
 }
 
+#[tactic(auto, unfolding(crate::specs::Words::rest))]
 fn rest(s: &[u8]) -> &[u8]
     ensures { result.now ≡ rest s.now }
 {
     trim(past_word(s))
 }
 
-fn spaces_before(s: &[u8]) -> usize
-    ensures { result ≡ spaces s.now }
+#[tactic(auto, using(crate::proofs::Lines::start_more, crate::proofs::Lines::start_done))]
+fn trim_start(mut s: &[u8]) -> &[u8]
+    ensures { result.now ≡ drop (spaces s.now) s.now }
 {
-    let mut i = 0;
-    while i < s.len() {
-        if s[i] != 0x20 {
-            return i;
-        }
-        i += 1;
+    while let [b' ', rest @ ..] = s {
+        s = rest;
     }
-    i
+    s
 }
 
-fn words_end(s: &[u8]) -> usize
-    ensures { result ≡ last_end s.now (length s.now) }
+#[tactic(auto, using(crate::proofs::Lines::end_more, crate::proofs::Lines::end_done, crate::proofs::Lines::end_none))]
+fn trim_end(mut s: &[u8]) -> &[u8]
+    ensures { result.now ≡ cut s.now }
 {
-    let mut n = s.len();
-    while 0 < n {
-        if s[n - 1] != 0x20 {
-            return n;
-        }
-        n -= 1;
+    while let [rest @ .., b' '] = s {
+        s = rest;
     }
-    n
+    s
 }

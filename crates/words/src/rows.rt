@@ -5,6 +5,7 @@ ghost use Rattle.words.specs.Rows.{first_row, other_rows, rows_after, row, row_n
 use crate::{scan, word};
 
 // Row k of a table, the first being 0; empty where there are fewer.
+#[tactic(auto, unfolding(crate::specs::Rows::row))]
 pub fn row(t: &[u8], k: usize) -> &[u8]
     ensures { result.now ≡ row k t.now }
 {
@@ -15,32 +16,32 @@ pub fn row(t: &[u8], k: usize) -> &[u8]
 pub fn row_named(n: usize, w: &[u8], t: &[u8]) -> usize
     ensures { result ≡ row_named n w.now t.now }
 {
-    let mut k = 0;
-    while k < n {
+    for k in 0..n {
         if digits::same(w, word(row(t, k), 0)) {
             return k;
         }
-        k += 1;
     }
     n
 }
 
-fn rows_after(t: &[u8], k: usize) -> &[u8]
+#[tactic(auto, using(crate::proofs::Tables::rows_next))]
+fn rows_after(mut t: &[u8], k: usize) -> &[u8]
     ensures { result.now ≡ rows_after k t.now }
 {
-    if k == 0 {
-        return t;
+    for _ in 0..k {
+        t = other_rows(t);
     }
-    rows_after(other_rows(t), k - 1)
+    t
 }
 
+#[tactic(auto, unfolding(crate::specs::Rows::first_row))]
 fn first_row(t: &[u8]) -> &[u8]
     ensures { result.now ≡ first_row t.now }
 {
-    let end = scan::find(t, b'\n');
-    &t[..end]
+    &t[..scan::find(t, b'\n')]
 }
 
+#[tactic(auto, unfolding(crate::specs::Rows::other_rows))]
 fn other_rows(t: &[u8]) -> &[u8]
     ensures { result.now ≡ other_rows t.now }
 {

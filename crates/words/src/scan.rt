@@ -6,12 +6,5 @@ ghost use Rattle.words.specs.Bytes.{index_of};
 pub fn find(s: &[u8], b: u8) -> usize
     ensures { (result ≡ index_of b s.now) × (result ≤ length s.now) }
 {
-    let mut i = 0;
-    while i < s.len() {
-        if s[i] == b {
-            return i;
-        }
-        i += 1;
-    }
-    s.len()
+    s.iter().position(|&x| x == b).unwrap_or(s.len())
 }

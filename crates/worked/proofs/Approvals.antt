@@ -15,8 +15,7 @@ use Rattle.field.specs.Contents.{allowed, all_printable}
 use Rattle.message.specs.Message.{largest}
 use Rattle.message.specs.Build.{Item, has, find, digits, bytes, message_of}
 use Rattle.message.specs.declared.Message.{Message}
-use Rattle.reading.specs.Reading.{read_message}
-use Rattle.reading.specs.declared.Reading.{Reading}
+use Rattle.reading.specs.Reading.{read_message, Reading}
 use Rattle.writing.specs.Writing.{message_bytes}
 use Rattle.parts.specs.Parts.{matches, number_in, part_of}
 use Rattle.parts.specs.declared.Part.TheVariants as part

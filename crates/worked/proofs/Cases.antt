@@ -1,14 +1,13 @@
 -- The starred cases but *i: each side computes to the same value.
+use Rattle.std.specs.Prelude.{Some, Ok}
 use mathlib.Core.Path.{◌≡◌, refl, ap}
 use mathlib.Core.List.{List, [], ◌∷◌}
 use Prim.Native.Nat.{ℕ}
 use lib.ListN.{take, drop, replicate}
-use Rattle.digits.specs.declared.Number.TheVariants.{Is}
 use Rattle.field.specs.Table.{formats}
 use Rattle.message.specs.Message.{largest}
 use Rattle.message.specs.Build.{message_of}
 use Rattle.writing.specs.Writing.{field_fault, fields_fault, message_fault, write_message}
-use Rattle.writing.specs.declared.Writing.TheVariants.{Written}
 use Rattle.parts.specs.Parts.{part_of}
 use Rattle.parts.specs.declared.Part.TheVariants as part
 use Rattle.state.specs.declared.Outcome.TheVariants.{Send, Refused}
@@ -35,7 +34,7 @@ pub e : first_sent.outcome ≡ Send 77
 unfolding machine
 e = refl
 
-pub longest : (write_message (message_of 0x0510 (fullest formats)) (replicate largest 0)).outcome ≡ Written largest
+pub longest : (write_message (message_of 0x0510 (fullest formats)) (replicate largest 0)).outcome ≡ Ok largest
 unfolding machine field_fault fields_fault message_fault write_message
 longest = refl
 
@@ -51,19 +50,19 @@ pub f_settles : (run (settles ∷ []) after_f).outcome ≡ Send 80
 unfolding machine
 f_settles = refl
 
-pub f_debit : part_of (settlement_of after_f) part.DebitAmount ≡ Is 12000
+pub f_debit : part_of (settlement_of after_f) part.DebitAmount ≡ Some 12000
 unfolding machine
 f_debit = refl
 
-pub f_debits : part_of (settlement_of after_f) part.DebitCount ≡ Is 1
+pub f_debits : part_of (settlement_of after_f) part.DebitCount ≡ Some 1
 unfolding machine
 f_debits = refl
 
-pub f_credit : part_of (settlement_of after_f) part.CreditAmount ≡ Is 12000
+pub f_credit : part_of (settlement_of after_f) part.CreditAmount ≡ Some 12000
 unfolding machine
 f_credit = refl
 
-pub f_credits : part_of (settlement_of after_f) part.CreditCount ≡ Is 1
+pub f_credits : part_of (settlement_of after_f) part.CreditCount ≡ Some 1
 unfolding machine
 f_credits = refl
 

@@ -11,8 +11,7 @@ use Rattle.numbers.specs.Numbers.{within, following}
 use Rattle.field.specs.Contents.{all_printable}
 use Rattle.message.specs.Message.{largest}
 use Rattle.message.specs.declared.Message.{Message}
-use Rattle.reading.specs.Reading.{read_message}
-use Rattle.reading.specs.declared.ReadOutcome.TheVariants.{Read}
+use Rattle.reading.specs.Reading.{read_message, Read}
 use Rattle.writing.specs.Writing.{message_bytes}
 use Rattle.kinds.specs.Kinds.{is_debit, side_of, takes_original}
 use Rattle.kinds.specs.Sums.{together}

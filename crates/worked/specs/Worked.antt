@@ -1,5 +1,5 @@
 -- Document 01, "Worked at the desk": the starred cases, one line each.
-use Rattle.std.specs.Prelude.{◌≡◌, List, [], ◌∷◌, cond, ℕ, zero, suc, eqb, take, drop, replicate}
+use Rattle.std.specs.Prelude.{◌≡◌, List, [], ◌∷◌, cond, ℕ, zero, suc, eqb, take, drop, replicate, Some, Ok}
 use Rattle.field.specs.Table.{formats}
 use Rattle.field.specs.Bitmap.{names}
 use Rattle.field.specs.Contents.{room}
@@ -17,13 +17,11 @@ use Rattle.state.specs.declared.Phase.TheVariants.{Resting, Pending}
 use Rattle.state.specs.declared.Reason.TheVariants.{Silence}
 use Rattle.state.specs.State.{usual}
 use Rattle.state.specs.Calls.{Result}
-use Rattle.digits.specs.declared.Number.TheVariants.{Is}
 use Rattle.reading.specs.Reading.{read_message}
 use Rattle.parts.specs.Parts.{part_of}
 use Rattle.parts.specs.declared.Part.TheVariants as part
 use Rattle.call_definitions.specs.Events.{run, no_answer_event, send_reversal_event, settles}
 use Rattle.worked.specs.Desk.{settings, opened, keyed, sale, approval, to_reversal, totals}
-use Rattle.writing.specs.declared.Writing.TheVariants.{Written}
 
 -- the fields from n on that a bitmap names, k of them looked at
 abbrev pub fields_named : List ℕ → ℕ → ℕ → List ℕ
@@ -136,17 +134,17 @@ pub record Worked : Type 0 where
   -- *e a sale with a 16-digit card is 77 bytes
   pub e : first_sent.outcome ≡ Send 77
   -- all fields together make 614 bytes
-  pub longest : (write_message (message_of 0x0510 (fullest formats)) (replicate largest 0)).outcome ≡ Written largest
+  pub longest : (write_message (message_of 0x0510 (fullest formats)) (replicate largest 0)).outcome ≡ Ok largest
   -- *f sale 12,000 approved, sale 8,000 silent, reversal answered 25, first sale voided:
   -- debit 12,000/1, credit 12,000/1; sent 3, approved 2, reversed 1
   pub f : totals after_f ≡ record { debit = 12000; debits = 1; credit = 12000; credits = 1 }
   pub f_counts : after_f.state.counts ≡ counts_f
   -- and so the settlement says
   pub f_settles : (run (settles ∷ []) after_f).outcome ≡ Send 80
-  pub f_debit : part_of (settlement_of after_f) part.DebitAmount ≡ Is 12000
-  pub f_debits : part_of (settlement_of after_f) part.DebitCount ≡ Is 1
-  pub f_credit : part_of (settlement_of after_f) part.CreditAmount ≡ Is 12000
-  pub f_credits : part_of (settlement_of after_f) part.CreditCount ≡ Is 1
+  pub f_debit : part_of (settlement_of after_f) part.DebitAmount ≡ Some 12000
+  pub f_debits : part_of (settlement_of after_f) part.DebitCount ≡ Some 1
+  pub f_credit : part_of (settlement_of after_f) part.CreditAmount ≡ Some 12000
+  pub f_credits : part_of (settlement_of after_f) part.CreditCount ≡ Some 1
   -- *g L = 3, a silent sale, then three silent reversals: given up 1, desk free
   pub g : after_g.state.counts.given_up ≡ 1
   pub g_free : after_g.state.phase ≡ Resting

@@ -1,4 +1,5 @@
 -- The bytes of a message: how many there are, and what the loop that writes the fields keeps.
+use Rattle.std.specs.Prelude.{Result, Ok, Err}
 use mathlib.Core.Path.{◌≡◌, refl, ap, sym, ◌∙◌}
 use mathlib.Core.List.{List, [], ◌∷◌, ◌++◌, append_assoc, append-nil}
 use mathlib.Core.Bool.{Bool, true, false, cond}
@@ -10,6 +11,9 @@ use lib.Dec.{eqb}
 use lib.ListN.{length, get_or, take, drop, set, length-append, length-drop, length-take, length-set}
 use lib.Seq.{drop-drop, take_at, drop_at, take-add, take-length, length-take-le}
 use borrow.Author.Tests.{le-ltb, eq-eqb, ne_eqb}
+use Rattle.checks.specs.Refusals.{number_of, refused_by}
+use Rattle.checks.specs.declared.Refusal.{Refusal}
+use Rattle.checks.proofs.Refusals.{number_positive, ok_same}
 use Rattle.digits.proofs.Lists.{tail_part, put_tail}
 use Rattle.field.specs.Table.{among, indicators, formats, rows}
 use Rattle.field.specs.Bitmap.{names, listed}
@@ -25,11 +29,9 @@ use Rattle.message.specs.declared.Message.{Message}
 use Rattle.message.proofs.Places.{width, widths_of, largest-formats, At, Place, place_none, place-part, place-more, place-room, first_count}
 use Rattle.contents.proofs.Taken.{copied}
 use Rattle.field_writing.specs.Placing.{held_fault, put_fault, Placing}
-use Rattle.field_writing.specs.declared.Placed.{Placed}
 use Rattle.field_writing.proofs.Counts.{set-two}
 use Rattle.field_writing.proofs.Parts.{placing_refused}
 use Rattle.writing.specs.Writing.{field_fault, fields_fault, named_bytes, fields_bytes, head, message_bytes, message_fault, written, write_message}
-use Rattle.writing.specs.declared.Writing.TheVariants.{Written}
 use Rattle.writing.proofs.Faults.{fields-sound, fault_inversion}
 
 pub field_fits : (f : Format) (bm : List ℕ) (n : ℕ) (bs : List ℕ) → field_fault f bm n bs ≡ 0 → length (named_bytes f bm n bs) ≤ width f
@@ -119,7 +121,7 @@ module _ {bm cs bs : List ℕ} {most k at : ℕ} {out : List ℕ} {f : Format} (
         whole = turn-bytes ∙ rw no;
       }
 
-  module _ {t : Bool} {s : ℕ} {p : Placed} {y : List ℕ} (q : t ≡ names bm f.number) (e : t ≡ true) (st : Place bs k s)
+  module _ {t : Bool} {s : ℕ} {p : Result ℕ Refusal} {y : List ℕ} (q : t ≡ names bm f.number) (e : t ≡ true) (st : Place bs k s)
       (w : Placing (put_fault f (get_or cs k 0) (take (rooms - s) (drop s bs)) (take (length out - at) (drop at out)))
       (field_bytes f (kept f (get_or cs k 0)) (take (size f.class (kept f (get_or cs k 0))) (take (rooms - s) (drop s bs)))) p y) where
     same : r.from ≡ s
@@ -137,17 +139,17 @@ module _ {bm cs bs : List ℕ} {most k at : ℕ} {out : List ℕ} {f : Format} (
         rw (same, named, ← put_fault_lem f (get_or cs k 0) (drop s bs) (drop at out) hb ho)
         (rw (place-part st, tail_part at out) at w)
 
-    pub putting_stop : (p.fault ≡ 0 → ⊥) → {o : List ℕ} → Placing (fields_fault formats bm cs bs) (fields_bytes formats bm cs bs) p o
-    putting_stop n =
-        let x = turned.fault_is in
-        placing_refused (turn-fault ∙ rw (← x, ne_eqb _ _ n)) n
+    pub putting_stop : (e : Refusal) → p ≡ Err e → {o : List ℕ} → Placing (fields_fault formats bm cs bs) (fields_bytes formats bm cs bs) (Err e) o
+    putting_stop e n =
+        let x : number_of e ≡ field_fault f bm (get_or cs k 0) (drop r.from bs) = rw n at turned.fault_is in
+        placing_refused (turn-fault ∙ rw (← x, ne_eqb _ _ (number_positive e)))
 
-    pub putting_more : p.fault ≡ 0 → length y ≡ length (take (length out - at) (drop at out))
-        → Putting bm cs bs most (k + 1) (at + p.size) (take at out ++ (y ++ drop (length out - at) (drop at out)))
-    putting_more z l =
+    pub putting_more : {m : ℕ} → p ≡ Ok m → length y ≡ length (take (length out - at) (drop at out))
+        → Putting bm cs bs most (k + 1) (at + m) (take at out ++ (y ++ drop (length out - at) (drop at out)))
+    putting_more {m} z l =
         let ws : List ℕ = named_bytes f bm (get_or cs k 0) (drop r.from bs) in
-        let none : field_fault f bm (get_or cs k 0) (drop r.from bs) ≡ 0 = sym turned.fault_is ∙ z in
-        let n : p.size ≡ length ws = turned.size_is none in
+        let none : field_fault f bm (get_or cs k 0) (drop r.from bs) ≡ 0 = sym turned.fault_is ∙ ap refused_by z in
+        let n : m ≡ length ws = ok_same (sym z ∙ turned.size_is none) in
         let fit : length ws ≤ width f = field_fits f bm (get_or cs k 0) (drop r.from bs) none in
         let la : length (take at out) ≡ at = length-take-le at out (omega (arith, turn-room, r.len)) in
         let ly : length y ≡ length out - at = l ∙ rw (tail_part, length-drop) in
@@ -164,7 +166,7 @@ module _ {bm cs bs : List ℕ} {most k at : ℕ} {out : List ℕ} {f : Format} (
         })
 
 pub putting_done : {bm cs bs : List ℕ} {most k at : ℕ} {out : List ℕ} → Putting bm cs bs most k at out → rows ≤ k
-    → Placing (fields_fault formats bm cs bs) (fields_bytes formats bm cs bs) (record { fault = 0; size = at }) out
+    → Placing (fields_fault formats bm cs bs) (fields_bytes formats bm cs bs) (Ok at) out
 unfolding fields_fault fields_bytes
 putting_done {bm} {cs} {bs} {most} {k} {at} {out} r h =
     let e : k ≡ rows = omega (arith, r.place.bound) in
@@ -207,36 +209,51 @@ put_after p h fs o {b} {y} l f q e =
     rw (t, e, n, d, drop-drop) (sym (append_assoc h fs (drop (p + length fs) o)))
 
 -- a message of a listed type that names listed fields
-module _ (m : Message) {p : Placed} {o : List ℕ} (i : among m.indicator indicators ≡ true) (l : listed m.bitmap ≡ true)
+module _ (m : Message) {p : Result ℕ Refusal} {o : List ℕ} (i : among m.indicator indicators ≡ true) (l : listed m.bitmap ≡ true)
     (w : Placing (fields_fault formats m.bitmap m.counts m.contents) (fields_bytes formats m.bitmap m.counts m.contents) p o) where
-  pub contents-late : {x : ℕ} → p.fault ≡ 0 → x ≡ late_fault m
-      → Placing (message_fault m) (fields_bytes formats m.bitmap m.counts m.contents) (record { fault = x; size = p.size }) o
+  -- its fields are written, and it is judged as a whole
+  pub contents-late : {n : ℕ} (r : Result (Unit {0}) Refusal) → p ≡ Ok n → refused_by r ≡ late_fault m
+      → {q : Result ℕ Refusal} → refused_by q ≡ refused_by r → (refused_by r ≡ 0 → q ≡ Ok n)
+      → Placing (message_fault m) (fields_bytes formats m.bitmap m.counts m.contents) q o
   unfolding message_fault
-  contents-late z e =
-      let none = sym w.fault_is ∙ z in
-      record { fault_is = e ∙ rw (i, l, none); size_is = λ _. w.size_is none; bytes = λ _. w.bytes none }
+  contents-late r z e s k =
+      let none = sym w.fault_is ∙ ap refused_by z in
+      let f : refused_by _ ≡ message_fault m = s ∙ e ∙ rw (i, l, none) in
+      record { fault_is = f; size_is = λ g. k (sym s ∙ f ∙ g) ∙ sym z ∙ w.size_is none; bytes = λ _. w.bytes none }
 
-  pub contents_stop : (p.fault ≡ 0 → ⊥) → Placing (message_fault m) (fields_bytes formats m.bitmap m.counts m.contents) p o
+  pub contents_stop : (e : Refusal) → p ≡ Err e → Placing (message_fault m) (fields_bytes formats m.bitmap m.counts m.contents) (Err e) o
   unfolding message_fault
-  contents_stop n = rw (i, l, ne_eqb _ _ (λ z. n (w.fault_is ∙ z))) w
+  contents_stop e q =
+      let x : number_of e ≡ fields_fault formats m.bitmap m.counts m.contents = rw q at w.fault_is in
+      placing_refused (rw (i, l, ← x, ne_eqb _ _ (number_positive e)))
 
 -- the fields of a message that is not refused leave room for its type and its bitmap
-pub contents_fit : (m : Message) {p : Placed} {o : List ℕ} → Placing (message_fault m) (fields_bytes formats m.bitmap m.counts m.contents) p o
-    → p.fault ≡ 0 → 10 + p.size ≤ largest
-contents_fit m w z =
-    let none : message_fault m ≡ 0 = sym w.fault_is ∙ z in
-    omega (arith, w.size_is none, formats_fit m.bitmap m.counts m.contents (fault_inversion m none).no_fault)
+pub contents_fit : (m : Message) {n : ℕ} {p : Result ℕ Refusal} {o : List ℕ}
+    → Placing (message_fault m) (fields_bytes formats m.bitmap m.counts m.contents) p o → p ≡ Ok n → 10 + n ≤ largest
+contents_fit m {n} w z =
+    let none : message_fault m ≡ 0 = sym w.fault_is ∙ ap refused_by z in
+    let s : n ≡ length (fields_bytes formats m.bitmap m.counts m.contents) = ok_same (sym z ∙ w.size_is none) in
+    omega (arith, formats_fit m.bitmap m.counts m.contents (fault_inversion m none).no_fault)
+
+-- a message that is refused
+pub message-refused : (m : Message) (o fs : List ℕ) {p : Result ℕ Refusal} (e : Refusal) → largest ≤ length o
+    → Placing (message_fault m) (fields_bytes formats m.bitmap m.counts m.contents) p fs → p ≡ Err e → written (Err (number_of e)) o ≡ write_message m o
+unfolding write_message
+message-refused m o fs e h w z =
+    let x : number_of e ≡ message_fault m = rw z at w.fault_is in
+    rw (le-ltb _ _ h, ← x, ne_eqb _ _ (number_positive e))
 
 -- a message that is not refused, its fields' bytes at the front of fs
-pub message-written : (m : Message) (o fs : List ℕ) {p : Placed} {b : List ℕ} → length m.bitmap ≡ 8 → largest ≤ length o
-    → Placing (message_fault m) (fields_bytes formats m.bitmap m.counts m.contents) p fs → p.fault ≡ 0
-    → b ≡ (head m ++ take p.size fs) ++ drop (10 + length (take p.size fs)) o
-    → written (Written (10 + p.size)) b ≡ write_message m o
+pub message-written : (m : Message) (o fs : List ℕ) {n k : ℕ} {p : Result ℕ Refusal} {b : List ℕ} → largest ≤ length o
+    → Placing (message_fault m) (fields_bytes formats m.bitmap m.counts m.contents) p fs → p ≡ Ok n
+    → (k ≡ length (head m ++ take n fs)) × (b ≡ (head m ++ take n fs) ++ drop (length (head m ++ take n fs)) o)
+    → written (Ok k) b ≡ write_message m o
 unfolding write_message message_bytes
-message-written m o fs {p} {b} l h w z e =
-    let none : message_fault m ≡ 0 = sym w.fault_is ∙ z in
+message-written m o fs {n} {k} {b = b} h w z e =
+    let none : message_fault m ≡ 0 = sym w.fault_is ∙ ap refused_by z in
     let ws : List ℕ = fields_bytes formats m.bitmap m.counts m.contents in
-    let n : p.size ≡ length ws = w.size_is none in
-    let t : take p.size fs ≡ ws = rw n (w.bytes none) in
-    let c : length (message_bytes m) ≡ 10 + length ws = length-append (head m) ws ∙ omega (arith, l) in
-    rw (le-ltb _ _ h, eq-eqb _ _ none, e, t, n) (ap (λ (k : ℕ). written (Written k) ((head m ++ ws) ++ drop k o)) (sym c))
+    let s : n ≡ length ws = ok_same (sym z ∙ w.size_is none) in
+    let t : take n fs ≡ ws = rw s (w.bytes none) in
+    let l : k ≡ length (head m ++ ws) = e.0 ∙ rw t in
+    let y : b ≡ (head m ++ ws) ++ drop (length (head m ++ ws)) o = e.1 ∙ ap (λ (x : List ℕ). (head m ++ x) ++ drop (length (head m ++ x)) o) t in
+    rw (le-ltb _ _ h, eq-eqb _ _ none, l, y)

@@ -1,5 +1,5 @@
 -- Document 01, "Read and write a message": writing is judged by 1 (the message buffer alone), then 4 to 8 in the reading's order.
-use Rattle.std.specs.Prelude.{List, [], ◌∷◌, ◌++◌, cond, ℕ, ◌/◌, ◌%◌, ltb, eqb, length, get_or, take, drop}
+use Rattle.std.specs.Prelude.{List, [], ◌∷◌, ◌++◌, cond, ℕ, ◌/◌, ◌%◌, ltb, eqb, length, get_or, take, drop, Ok, Err, Result}
 use Rattle.field.specs.Table.{among, indicators, formats}
 use Rattle.field.specs.Bitmap.{names, listed}
 use Rattle.field.specs.Contents.{size, room, stands, kept, fault}
@@ -8,8 +8,6 @@ use Rattle.span.specs.Span.{field_bytes}
 use Rattle.message.specs.Message.{largest}
 use Rattle.message.specs.Late.{late_fault}
 use Rattle.message.specs.declared.Message.{Message}
-use Rattle.writing.specs.declared.Writing.{Writing}
-use Rattle.writing.specs.declared.Writing.TheVariants.{Written, Refused}
 
 -- what a field of n digits or bytes, with bs at its place, is refused for: length before contents; 0 for nothing
 unfoldable pub field_fault : Format → List ℕ → ℕ → List ℕ → ℕ
@@ -52,16 +50,16 @@ message_fault m = cond (among m.indicator indicators) (cond (listed m.bitmap) (c
 
 -- the answer of a call with the message buffer after it
 pub record WriteResult : Type 0 where
-  pub outcome : Writing
+  pub outcome : Result ℕ ℕ
   pub buffer : List ℕ
 
-abbrev pub written : Writing → List ℕ → WriteResult
+abbrev pub written : Result ℕ ℕ → List ℕ → WriteResult
 written r o = record { outcome = r; buffer = o }
 
 -- bytes past a written message stay; a refusal leaves the buffer
 unfoldable pub write_message : Message → List ℕ → WriteResult
 write_message m o =
-    cond (ltb (length o) largest) (written (Refused 1) o)
+    cond (ltb (length o) largest) (written (Err 1) o)
     (cond (eqb (message_fault m) 0)
-    (written (Written (length (message_bytes m))) (message_bytes m ++ drop (length (message_bytes m)) o))
-    (written (Refused (message_fault m)) o))
+    (written (Ok (length (message_bytes m))) (message_bytes m ++ drop (length (message_bytes m)) o))
+    (written (Err (message_fault m)) o))

@@ -8,4 +8,4 @@ returns-then-is_sign_on_answer c =
 
 pub returns : goal.returns
 returns c =
-    sign_on-refused _ _ _ _ c.is_sign_on_answer.ensures c.if-is_sign_on_answer.false c.refused.ensures
+    sign_on-refused _ _ _ _ c.is_sign_on_answer.ensures c.if-is_sign_on_answer.false (rw c.into.ensures at c.refused.ensures)

@@ -10,15 +10,3 @@ overflow_cast-result c =
     let e = named-date c.args.e _ (search rules)
     c.packed_number.ensures in
     omega (arith, e, number-below 4 c.args.e.date)
-
-pub returns-then-takes_original : goal.returns-then-takes_original
-returns-then-takes_original c =
-    rw (
-      named-date c.args.e _ (search rules) c.packed_number.ensures,
-      ← c.takes_original.ensures,
-      c.if-takes_original.true,
-    )
-
-pub returns : goal.returns
-returns c =
-    rw (← c.takes_original.ensures, c.if-takes_original.false)

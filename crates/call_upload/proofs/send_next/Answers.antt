@@ -9,8 +9,8 @@ pub send_item-requires : goal.send_item-requires
 send_item-requires c =
     let l : length c.args.s.settings.terminal ≡ 8 = search rules in
     let k : length c.args.s.settings.merchant ≡ 15 = search rules in (
-      resends_low c.args.s _ c.requires _ _ _ c.next_due.ensures c.in-At.is c.entry_at-e.ensures,
-      (item_fields_lem c.args.s _ c.requires l k _ _ _ c.next_due.ensures c.in-At.is c.entry_at-e.ensures, room c.args.s _ c.requires),
+      resends_low c.args.s _ c.requires _ _ _ c.next_due.ensures c.in-Some.is c.entry_at-e.ensures,
+      (item_fields_lem c.args.s _ c.requires l k _ _ _ c.next_due.ensures c.in-Some.is c.entry_at-e.ensures, room c.args.s _ c.requires),
     )
 
 pub send_end-requires : goal.send_end-requires
@@ -19,10 +19,10 @@ send_end-requires c =
     let k : length c.args.s.settings.merchant ≡ 15 = search rules in
     (end_fields_lem c.args.s _ c.requires l k _, room c.args.s _ c.requires)
 
-pub returns-in-At : goal.returns-in-At
-returns-in-At c =
-    item-next c.args.s _ _ _ _ _ _ c.next_due.ensures c.in-At.is c.entry_at-e.ensures c.send_item.ensures
+pub returns-in-Some : goal.returns-in-Some
+returns-in-Some c =
+    item-next c.args.s _ _ _ _ _ _ c.next_due.ensures c.in-Some.is c.entry_at-e.ensures c.send_item.ensures
 
-pub returns-in-Nowhere : goal.returns-in-Nowhere
-returns-in-Nowhere c =
-    end_next c.args.s _ _ _ _ _ c.next_due.ensures c.in-Nowhere.is c.take-trace.ensures c.send_end.ensures
+pub returns-in-None : goal.returns-in-None
+returns-in-None c =
+    end_next c.args.s _ _ _ _ _ c.next_due.ensures c.in-None.is c.take-trace.ensures c.send_end.ensures

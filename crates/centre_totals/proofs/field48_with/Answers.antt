@@ -1,6 +1,5 @@
 -- `centre_totals::field48_with` meets its contract.
-use mathlib.Core.List.{List, [], ◌∷◌}
-use Prim.Native.Nat.{ℕ}
+use Rattle.std.proofs.Common.{ℕ, List, [], ◌∷◌}
 use Rattle.parts.specs.Layout.{widths}
 use Rattle.parts.specs.declared.Part.TheVariants.{DebitAmount, DebitCount, CreditAmount, CreditCount}
 use Rattle.parts.proofs.Laid.{put_laid}
@@ -9,11 +8,7 @@ use Rattle.centre_totals.proofs.field48_with.Goals as goal
 
 pub returns : goal.returns
 returns c =
-    let xs : List ℕ = sent_part DebitAmount c.args.sent ∷ sent_part DebitCount c.args.sent ∷ sent_part CreditAmount c.args.sent ∷
-    sent_part CreditCount c.args.sent ∷ c.args.digit ∷ [] in
-    put_laid (widths 48) xs (rw (
-      c.put_sent-4.ensures,
-      c.put_sent-3.ensures,
-      c.put_sent-2.ensures,
-      c.put_sent.ensures,
-    ) at c.put_part.ensures)
+    let xs : List ℕ = sent_part DebitAmount c.args.sent.now ∷ sent_part DebitCount c.args.sent.now ∷ sent_part CreditAmount c.args.sent.now ∷
+    sent_part CreditCount c.args.sent.now ∷ c.args.digit ∷ [] in
+    put_laid (widths 48) xs
+    (rw (c.put_sent-4.ensures, c.put_sent-3.ensures, c.put_sent-2.ensures, c.put_sent.ensures, c.from.ensures) at c.put_part.ensures)

@@ -14,11 +14,11 @@ unfolding is_packed
 returns-then-b-count c = (rw (ne_eqb _ _ c.if-b-count.true), λ e. absurd (true≢false (sym e)))
 
 pub loop-i-init : goal.loop-i-init
-loop-i-init c = (search rules, passed_none, filled_none _ _)
+loop-i-init c = (passed_none, filled_none _ _)
 
 pub shape_of-out-then-x-gt159 : goal.shape_of-out-then-x-gt159
 shape_of-out-then-x-gt159 c =
-    c.loop-i.invariant.2.len
+    c.loop-i.invariant.1.len
 
 pub returns-then-x-gt159 : goal.returns-then-x-gt159
 returns-then-x-gt159 c =
@@ -26,7 +26,7 @@ returns-then-x-gt159 c =
 
 pub shape_of-out-then-x-gt9 : goal.shape_of-out-then-x-gt9
 shape_of-out-then-x-gt9 c =
-    c.loop-i.invariant.2.len
+    c.loop-i.invariant.1.len
 
 pub returns-then-x-gt9 : goal.returns-then-x-gt9
 returns-then-x-gt9 c =
@@ -34,27 +34,26 @@ returns-then-x-gt9 c =
 
 pub loop-i-preserved : goal.loop-i-preserved
 loop-i-preserved c = (
-  search rules,
-  byte_passes c.args.n c.args.b.now c.loop-i.i c.loop-i.invariant.1 (search rules) c.if-x-gt159.false c.if-x-gt9.false,
-  filled_more c.loop-i.invariant.2 (search rules) refl,
+  byte_passes c.args.n c.args.b.now c.loop-i.i c.loop-i.invariant.0 (search rules) c.if-x-gt159.false c.if-x-gt9.false,
+  filled_more c.loop-i.invariant.1 (search rules) refl,
 )
 
 pub shape_of-out-then-count-eq0 : goal.shape_of-out-then-count-eq0
 shape_of-out-then-count-eq0 c =
-    c.loop-i.invariant.2.len
+    c.loop-i.invariant.1.len
 
 pub returns-then-count-eq0 : goal.returns-then-count-eq0
 returns-then-count-eq0 c = (
-  sym (whole_even c.args.n c.args.b.now c.loop-i.i c.loop-i.invariant.1 (search rules) (search rules) c.if-count-eq0.true),
-  λ e. copied_all c.loop-i.invariant.2 (search rules) c.requires,
+  sym (whole_even c.args.n c.args.b.now c.loop-i.i c.loop-i.invariant.0 (search rules) (search rules) c.if-count-eq0.true),
+  λ e. copied_all c.loop-i.invariant.1 (search rules) c.requires,
 )
 
 pub shape_of-out : goal.shape_of-out
 shape_of-out c =
-    c.loop-i.invariant.2.len
+    c.loop-i.invariant.1.len
 
 pub returns : goal.returns
 returns c = (
-  sym (whole_odd c.args.n c.args.b.now c.loop-i.i c.loop-i.invariant.1 (search rules) (search rules) c.if-count-eq0.false),
-  λ e. copied_all c.loop-i.invariant.2 (search rules) c.requires,
+  sym (whole_odd c.args.n c.args.b.now c.loop-i.i c.loop-i.invariant.0 (search rules) (search rules) c.if-count-eq0.false),
+  λ e. copied_all c.loop-i.invariant.1 (search rules) c.requires,
 )

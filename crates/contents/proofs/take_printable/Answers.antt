@@ -11,11 +11,11 @@ use Rattle.contents.proofs.Packed.{copied_all}
 use Rattle.contents.proofs.take_printable.Goals as goal
 
 pub loop-i-init : goal.loop-i-init
-loop-i-init c = (search rules, passed_none, filled_none _ _)
+loop-i-init c = (passed_none, filled_none _ _)
 
 pub shape_of-out-then-x-lt32 : goal.shape_of-out-then-x-lt32
 shape_of-out-then-x-lt32 c =
-    c.loop-i.invariant.2.len
+    c.loop-i.invariant.1.len
 
 pub returns-then-x-lt32 : goal.returns-then-x-lt32
 unfolding all_printable
@@ -24,7 +24,7 @@ returns-then-x-lt32 c =
 
 pub shape_of-out-then-x-gt126 : goal.shape_of-out-then-x-gt126
 shape_of-out-then-x-gt126 c =
-    c.loop-i.invariant.2.len
+    c.loop-i.invariant.1.len
 
 pub returns-then-x-gt126 : goal.returns-then-x-gt126
 unfolding all_printable
@@ -33,14 +33,14 @@ returns-then-x-gt126 c =
 
 pub loop-i-preserved : goal.loop-i-preserved
 loop-i-preserved c =
-    let p = passed-more c.loop-i.invariant.1 (rw (le-leb _ _ c.if-x-lt32.false, le-leb _ _ c.if-x-gt126.false)) in
-    (search rules, p, filled_more c.loop-i.invariant.2 (search rules) refl)
+    let p = passed-more c.loop-i.invariant.0 (rw (le-leb _ _ c.if-x-lt32.false, le-leb _ _ c.if-x-gt126.false)) in
+    (p, filled_more c.loop-i.invariant.1 (search rules) refl)
 
 pub shape_of-out : goal.shape_of-out
-shape_of-out c = c.loop-i.invariant.2.len
+shape_of-out c = c.loop-i.invariant.1.len
 
 pub returns : goal.returns
 unfolding all_printable
 returns c =
     let e : c.loop-i.i ≡ length c.args.b.now = search rules in
-    (sym (rw e at c.loop-i.invariant.1.holds), λ e. copied_all c.loop-i.invariant.2 (search rules) c.requires)
+    (sym (rw e at c.loop-i.invariant.0.holds), λ e. copied_all c.loop-i.invariant.1 (search rules) c.requires)

@@ -1,6 +1,5 @@
 -- `contents::take_printable` meets its contract. The loop's invariant: the bytes passed are printable, and copied.
 use mathlib.Core.Bool.{◌&&◌}
-use Prim.Native.Nat.{◌≤◌, ◌-◌}
 use lib.Dec.{leb}
 use lib.ListN.{length, get_or}
 use Rattle.digits.proofs.Lists.{Passed, Filled}
@@ -8,7 +7,4 @@ use Rattle.contents.proofs.take_printable.Given as goal
 
 abbrev pub invariant-loop-i : goal.invariant-loop-i
 invariant-loop-i l =
-    (l.i ≤ length l.b) × Passed (λ k. leb 0x20 (get_or l.b k 0) && leb (get_or l.b k 0) 0x7E) l.i × Filled (λ k. get_or l.b k 0) l.initial.out l.i l.out
-
-abbrev pub decreases-loop-i : goal.decreases-loop-i
-decreases-loop-i l = length l.b - l.i
+    Passed (λ k. leb 0x20 (get_or l.b k 0) && leb (get_or l.b k 0) 0x7E) l.i × Filled (λ k. get_or l.b k 0) l.initial.out l.i l.out

@@ -5,8 +5,8 @@ use Rattle.decode.proofs.answer.Goals as goal
 
 pub slice_bounds-bytes-end : goal.slice_bounds-bytes-end
 slice_bounds-bytes-end c =
-    omega (arith, outcome_fits _ _ (sym c.hex_into-h.ensures.0 ∙ c.in-Bytes.is), c.hex_into-h.auto.out)
+    omega (arith, outcome_fits _ _ (sym c.hex_into.ensures.0 ∙ c.in-Ok.is), c.hex_into.auto.out)
 
 pub slice_bounds-show-end : goal.slice_bounds-show-end
 slice_bounds-show-end c =
-    sym (length-take-le _ _ (omega (arith, outcome_fits _ _ (sym c.hex_into-h.ensures.0 ∙ c.in-Bytes.is), c.hex_into-h.auto.out)))
+    sym (length-take-le _ _ (omega (arith, outcome_fits _ _ (sym c.hex_into.ensures.0 ∙ c.in-Ok.is), c.hex_into.auto.out)))

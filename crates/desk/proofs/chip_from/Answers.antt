@@ -6,6 +6,3 @@ pub returns-then-sends_field55 : goal.returns-then-sends_field55
 returns-then-sends_field55 c =
     λ h. chip_sent c.args.d c.args.chip.now
     c.sends_field55.ensures c.chip_of.ensures c.if-sends_field55.true h
-
-pub returns : goal.returns
-returns c = λ h. rw (c.none.ensures, ← c.sends_field55.ensures, c.if-sends_field55.false)

@@ -1,26 +1,23 @@
 -- `pack_into` meets its contract.
-use mathlib.Core.Path.{refl, sym, ◌∙◌}
+use Rattle.std.proofs.Common.{arith, length, refl, sym, ◌≡◌, ◌∙◌}
 use mathlib.Core.Bool.{and-false}
-use native.Mathlib.Omega.{arith}
 use borrow.Author.Tests.{eq-eqb, ne_eqb}
-use Rattle.digits.specs.Digits.{packable}
-use Rattle.digits.proofs.Packing.{bytes_for_lem}
+use Rattle.digits.specs.Digits.{bytes_for, packable}
+use Rattle.digits.proofs.pack_into.Goals.{then-out-div_ceil-via-then-out-div_ceil, then-out-div_ceil-via-else-out-div_ceil+then-not-all_digits}
 use Rattle.digits.proofs.pack_into.Goals as goal
 
-pub returns-then-out-n : goal.returns-then-out-n
+pub returns-then-out-div_ceil : goal.returns-then-out-div_ceil
 unfolding packable
-returns-then-out-n c = rw (bytes_for_lem, ne_eqb _ _ c.if-out-n.true) (refl, refl)
-
-pub pack_digits-requires : goal.pack_digits-requires
-pack_digits-requires c =
-    (omega arith, sym c.all_digits.ensures ∙ c.if-all_digits.true)
-
-pub returns-then-all_digits : goal.returns-then-all_digits
-unfolding packable
-returns-then-all_digits c =
-    let d = sym c.all_digits.ensures ∙ c.if-all_digits.true in
-    rw (bytes_for_lem, eq-eqb _ _ c.if-out-n.false, d) (refl, c.pack_digits.ensures)
+returns-then-out-div_ceil c =
+    elim c.then-out-div_ceil.branch [
+      | then-out-div_ceil-via-then-out-div_ceil w ↦
+          rw (ne_eqb (length c.args.out.now) (bytes_for (length c.args.ds.now)) (λ e. omega arith)) (refl, refl)
+      | then-out-div_ceil-via-else-out-div_ceil+then-not-all_digits w ↦
+          rw (sym w.all_digits.ensures ∙ w.if-not-all_digits.true, and-false) (refl, refl)
+    ]
 
 pub returns : goal.returns
 unfolding packable
-returns c = rw (sym c.all_digits.ensures ∙ c.if-all_digits.false, and-false) (refl, refl)
+returns c =
+    let l : length c.args.out.now ≡ bytes_for (length c.args.ds.now) = omega arith in
+    rw (eq-eqb _ _ l, sym c.all_digits.ensures ∙ c.if-not-all_digits.false) (refl, c.pack_digits.ensures)

@@ -6,5 +6,4 @@ use Rattle.dump.proofs.add_line.Goals as goal
 
 pub returns : goal.returns
 unfolding filled meant taken field_line
-returns c =
-    and_then (and_then c.add_filled-end.ensures c.add_contents-end.ensures) c.add.ensures
+returns c = and_then (and_then (rw c.from.ensures at c.add_filled-end.ensures) c.add_contents-end.ensures) c.add.ensures

@@ -5,6 +5,4 @@ use Rattle.dump.proofs.add_message.Goals as goal
 
 pub returns : goal.returns
 unfolding message_text
-returns c =
-    and_then (and_then c.add_type-end.ensures
-    c.add_lines-end.ensures) c.add_end.ensures
+returns c = and_then (and_then c.add_type-end.ensures c.add_lines-end.ensures) c.add_end.ensures

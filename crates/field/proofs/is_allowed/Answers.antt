@@ -4,4 +4,4 @@ use Rattle.field.proofs.is_allowed.Goals as goal
 
 pub returns : goal.returns
 unfolding allowed
-returns c = rw (c.wide.ensures, c.wide-2.ensures, c.is_listed_length.ensures)
+returns c = rw (c.from.ensures, c.from-2.ensures, c.is_listed_length.ensures)

@@ -24,4 +24,4 @@ returns-then-n-gt64 c =
 pub returns : goal.returns
 unfolding names bit
 returns c =
-    rw (c.wide-i.ensures, lt-ltb 0 c.args.n (omega arith))
+    rw (c.from-i.ensures, lt-ltb 0 c.args.n (omega arith))

@@ -1,6 +1,5 @@
 -- `field_writing::put_field` meets its contract.
-use mathlib.Core.Path.{sym, ◌∙◌}
-use native.Mathlib.Omega.{arith}
+use Rattle.std.proofs.Common.{sym, ◌∙◌}
 use Rattle.field_writing.specs.Placing.{put_fault}
 use Rattle.field_writing.proofs.Parts.{placing_refused}
 use Rattle.field_writing.proofs.put_field.Goals as goal
@@ -8,22 +7,15 @@ use Rattle.field_writing.proofs.put_field.Goals as goal
 pub returns-then-is_allowed : goal.returns-then-is_allowed
 unfolding put_fault
 returns-then-is_allowed c =
-    rw (sym c.is_allowed.ensures ∙ c.if-is_allowed.true)
-    c.put_held.ensures
+    rw (rw c.from.ensures at (sym c.is_allowed.ensures ∙ c.if-is_allowed.true)) c.put_held.ensures
 
 pub returns-then-is_late : goal.returns-then-is_late
 unfolding put_fault
 returns-then-is_late c =
-    rw (
-      sym c.is_allowed.ensures ∙
-          c.if-is_allowed.false,
-      sym c.is_late.ensures ∙ c.if-is_late.true,
-    ) c.put_held-then-is_late.ensures
+    rw (rw c.from.ensures at (sym c.is_allowed.ensures ∙ c.if-is_allowed.false), sym c.is_late.ensures ∙ c.if-is_late.true)
+    c.put_held-then-is_late.ensures
 
 pub returns : goal.returns
 unfolding put_fault
 returns c =
-    placing_refused (rw (
-      sym c.is_allowed.ensures ∙ c.if-is_allowed.false,
-      sym c.is_late.ensures ∙ c.if-is_late.false,
-    )) (λ z. omega (arith, z))
+    placing_refused (rw (rw c.from.ensures at (sym c.is_allowed.ensures ∙ c.if-is_allowed.false), sym c.is_late.ensures ∙ c.if-is_late.false))

@@ -1,8 +1,7 @@
 -- `hexadecimal::put_bytes` meets its contract.
-use borrow.Author.Rules.{rules}
+use Rattle.std.proofs.Common.{rules}
 use Rattle.hexadecimal.specs.Hexadecimal.{from_hex}
 use Rattle.digits.proofs.Lists.{filled_none, filled_more, filled-done}
-use Prim.Native.Nat.{◌-◌}
 use Rattle.hexadecimal.proofs.put_bytes.Goals as goal
 
 pub loop-j-init : goal.loop-j-init

@@ -1,8 +1,7 @@
 -- `hexadecimal::put_digits` meets its contract.
-use borrow.Author.Rules.{rules}
-use Rattle.hexadecimal.specs.Hexadecimal.{to_hex, hex_at}
+use Rattle.std.proofs.Common.{rules}
+use Rattle.hexadecimal.specs.Hexadecimal.{to_hex}
 use Rattle.digits.proofs.Lists.{filled_none, filled_more, filled-done}
-use Prim.Native.Nat.{◌-◌}
 use Rattle.hexadecimal.proofs.put_digits.Goals as goal
 
 pub loop-i-init : goal.loop-i-init

@@ -1,11 +1,7 @@
 -- `image::numbers_in` meets its contract: the rows passed are read.
-use Prim.Native.Nat.{◌-◌}
-use Rattle.image_definitions.specs.Layout.{widths, rows}
+use Rattle.image_definitions.specs.Layout.{widths}
 use Rattle.image_definitions.proofs.Laid.{ReadTo}
 use Rattle.image.proofs.numbers_in.Given as goal
 
 abbrev pub invariant-loop-k : goal.invariant-loop-k
-invariant-loop-k l = ReadTo l.widths l.b l.at l.k l.numbers
-
-abbrev pub decreases-loop-k : goal.decreases-loop-k
-decreases-loop-k l = rows - l.k
+invariant-loop-k l = ReadTo widths l.b l.at l.k l.numbers

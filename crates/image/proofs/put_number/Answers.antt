@@ -1,13 +1,10 @@
 -- `image::put_number` meets its contract: what is stored so far is the end of the bytes.
-use borrow.Author.Rules.{rules}
-use Rattle.image_definitions.proofs.Laid.{spelled_none, spelled_more, spelled_done}
+use Rattle.std.proofs.Common.{arith}
+use Rattle.image_definitions.proofs.Laid.{spelled_more, spelled_done}
 use Rattle.image.proofs.put_number.Goals as goal
 
-pub loop-i-init : goal.loop-i-init
-loop-i-init c = spelled_none _ _
-
 pub loop-i-preserved : goal.loop-i-preserved
-loop-i-preserved c = spelled_more c.loop-i.invariant (search rules)
+loop-i-preserved c = spelled_more c.loop-i.invariant (omega arith)
 
 pub returns : goal.returns
-returns c = spelled_done c.loop-i.invariant (search rules)
+returns c = spelled_done c.loop-i.invariant (omega arith)

@@ -4,5 +4,6 @@ use Rattle.image.proofs.values_of.Goals as goal
 
 pub returns : goal.returns
 returns c =
-    values_listed c.args.s c.settings_values-x.ensures c.member_values-m.ensures c.counts_values-c.ensures
-    c.totals_values-t.ensures c.phase_values-p.ensures c.chip_values-k.ensures
+    rw c.from.ensures
+    (values_listed c.args.s c.settings_values-x.ensures c.member_values-m.ensures c.counts_values-c.ensures c.totals_values-t.ensures
+    c.phase_values-p.ensures c.chip_values-k.ensures)

@@ -3,8 +3,8 @@ use Rattle.std.proofs.Common.{sym, refl, true≢false, arith, rules}
 use Rattle.input.proofs.Feeds.{takes-none-read, piece_within, takes_piece}
 use Rattle.input.proofs.more.Goals as goal
 
-pub returns-then-from-end : goal.returns-then-from-end
-returns-then-from-end c =
+pub returns-then-left : goal.returns-then-left
+returns-then-left c =
     let taken =
     takes-none-read c.at_end.result c.refilled-left.ensures (omega arith)
     c.at_end.ensures.2 c.at_end.ensures.3 c.at_end.ensures.5 c.at_end.ensures.6 in

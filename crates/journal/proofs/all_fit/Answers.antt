@@ -1,29 +1,21 @@
 -- `journal::all_fit` meets its contract.
-use mathlib.Core.Path.{sym, ◌∙◌}
-use native.Mathlib.Omega.{arith}
-use Prim.Native.Nat.{◌-◌}
-use Rattle.journal.proofs.Steps.{testing_none, testing_more, testing_fails, testing_short, testing_done}
+use Rattle.std.proofs.Common.{rules, ◌≡◌, ◌∙◌, sym, ℕ, List, map}
+use borrow.Author.Tests.{tests}
+use Rattle.std.proofs.lemmas.Iterator.{YieldsList-from_slice}
+use Rattle.std.proofs.lemmas.Iterator.Consumers.{YieldsList-from_enumerate}
+use Rattle.std.proofs.lemmas.Iterator.Search.{all_from_yields_List}
+use Rattle.entry.specs.Entry.{decode}
+use Rattle.journal.proofs.Chunks.{every-numbered}
+use Rattle.journal.proofs.Places.{fits_place, fits-place}
 use Rattle.journal.proofs.all_fit.Goals as goal
 
-pub loop-i-init : goal.loop-i-init
-loop-i-init c = testing_none
-
-pub returns-then-journal-at-lt-SIZE : goal.returns-then-journal-at-lt-SIZE
-returns-then-journal-at-lt-SIZE c =
-    testing_short c.loop-i.invariant c.if-journal-at-lt-SIZE.true
-
-pub bytes_at-b-requires : goal.bytes_at-b-requires
-bytes_at-b-requires c = omega arith
-
-pub returns-then-not-fits : goal.returns-then-not-fits
-returns-then-not-fits c =
-    let e = rw (c.bytes_at-b.ensures, c.is_at.ensures) at c.fits.ensures in
-    testing_fails c.loop-i.invariant c.loop-i-test.true (omega arith) (sym e ∙ c.if-not-fits.true)
-
-pub loop-i-preserved : goal.loop-i-preserved
-loop-i-preserved c =
-    let e = rw (c.bytes_at-b.ensures, c.is_at.ensures) at c.fits.ensures in
-    testing_more c.loop-i.invariant c.loop-i-test.true (omega arith) (sym e ∙ c.if-not-fits.false)
-
 pub returns : goal.returns
-returns c = testing_done c.loop-i.invariant c.loop-i-test.false
+returns c =
+    let s : c.map-awaited.result ≡ c.args.awaited = search rules in
+    rw (← c.entries_of.ensures)
+    (all_from_yields_List (λ (q : ℕ × List ℕ). fits_place c.args.sendings c.args.uploading c.map-awaited.result q.0 (decode q.1)) c.all.new.self _ c.all.result
+    c.all.ensures.ran
+    (YieldsList-from_enumerate (YieldsList-from_slice c.entries_of.result.now cc) (cc))
+    (λ x b q k. search (rules, tests))
+    ∙ rw s (sym (every-numbered _ 0 c.entries_of.result.now))
+    ∙ fits-place c.args.sendings c.args.uploading c.args.awaited 0 (map decode c.entries_of.result.now))

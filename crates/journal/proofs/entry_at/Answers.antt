@@ -1,19 +1,15 @@
 -- `journal::entry_at` meets its contract.
-use mathlib.Core.Path.{ap, sym, ◌∙◌}
-use native.Mathlib.Omega.{arith}
+use Rattle.std.proofs.Common.{sym, ◌∙◌, ap}
 use Rattle.entry.specs.Entry.{decode}
-use Rattle.journal.proofs.Entries.{entry_there, entry_beyond, entry-short}
+use Rattle.journal.proofs.Chunks.{entry-here, entry-past}
 use Rattle.journal.proofs.entry_at.Goals as goal
 
-pub returns-then-n-i : goal.returns-then-n-i
-returns-then-n-i c =
-    c.blank.ensures ∙ sym (entry_beyond c.args.n c.args.i c.args.journal.now (omega arith))
+pub returns-in-Some : goal.returns-in-Some
+returns-in-Some c =
+    let h = c.in-Some.ensures.lookup in
+    rw (c.entry_of.ensures, ← c.entries_of.ensures, ← c.from.ensures)
+    (ap decode h.1 ∙ sym (entry-here c.entries_of.result.now c.from.result c.in-Some.b.now h.3.0))
 
-pub returns-then-journal-at : goal.returns-then-journal-at
-returns-then-journal-at c =
-    c.blank-then-journal-at.ensures ∙ sym (entry-short c.args.n c.args.i c.args.journal.now (omega arith))
-
-pub returns : goal.returns
-returns c =
-    c.entry_of.ensures ∙ ap decode (rw c.wide-at.ensures.0 at c.bytes_at-b.ensures)
-    ∙ sym (entry_there c.args.n c.args.i c.args.journal.now (omega arith) (omega arith))
+pub returns-in-None : goal.returns-in-None
+returns-in-None c =
+    rw (c.blank.ensures, ← c.entries_of.ensures, ← c.from.ensures) (sym (entry-past c.entries_of.result.now c.from.result c.in-None.ensures.lookup.3))

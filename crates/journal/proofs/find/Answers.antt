@@ -1,27 +1,30 @@
 -- `journal::find` meets its contract.
-use mathlib.Core.Path.{sym, ◌∙◌}
-use native.Mathlib.Omega.{arith}
-use Prim.Native.Nat.{◌-◌}
-use Rattle.journal.proofs.Steps.{seeking_none, seeking_more, seeking_here, seeking_short, seeking_done}
+use Rattle.std.proofs.Common.{rules, List, ℕ, sym, ◌∙◌}
+use borrow.Author.Tests.{tests}
+use Rattle.std.proofs.lemmas.Iterator.{YieldsList-from_slice}
+use Rattle.std.proofs.lemmas.Iterator.Search.{position_from_yields_List}
+use Rattle.entry.specs.Entry.{decode}
+use Rattle.journal.specs.Journal.{asked}
+use Rattle.journal.proofs.Chunks.{first-position, few}
 use Rattle.journal.proofs.find.Goals as goal
 
-pub loop-i-init : goal.loop-i-init
-loop-i-init c = seeking_none
+pub returns-in_err-i : goal.returns-in_err-i
+returns-in_err-i c =
+    rw (← c.entries_of.ensures, first-position (asked c.args.query) c.entries_of.result.now)
+    (c.from_residual.ensures
+    ∙ sym c.in_err-i.was
+    ∙ position_from_yields_List (λ (b : List ℕ). asked c.args.query (decode b)) _ _ c.position.result c.position.ensures.ran
+    (YieldsList-from_slice c.entries_of.result.now cc) (λ x b q k. search (rules, tests)))
 
-pub returns-then-journal-at-lt-SIZE : goal.returns-then-journal-at-lt-SIZE
-returns-then-journal-at-lt-SIZE c =
-    seeking_short c.loop-i.invariant c.if-journal-at-lt-SIZE.true
-
-pub is_asked-requires : goal.is_asked-requires
-is_asked-requires c = omega arith
-
-pub returns-then-is_asked : goal.returns-then-is_asked
-returns-then-is_asked c =
-    seeking_here c.loop-i.invariant c.loop-i-test.true (omega arith) (sym c.is_asked.ensures ∙ c.if-is_asked.true)
-
-pub loop-i-preserved : goal.loop-i-preserved
-loop-i-preserved c =
-    seeking_more c.loop-i.invariant c.loop-i-test.true (omega arith) (sym c.is_asked.ensures ∙ c.if-is_asked.false)
+pub overflow_cast-result : goal.overflow_cast-result
+overflow_cast-result c =
+    let below = c.in_ok-i.ensures.bound in
+    let most = few c.args.n c.args.journal.now c.entries_of.result.now c.entries_of.ensures in
+    search rules
 
 pub returns : goal.returns
-returns c = seeking_done c.loop-i.invariant c.loop-i-test.false
+returns c =
+    rw (← c.entries_of.ensures, first-position (asked c.args.query) c.entries_of.result.now)
+    (sym c.in_ok-i.was
+    ∙ position_from_yields_List (λ (b : List ℕ). asked c.args.query (decode b)) _ _ c.position.result c.position.ensures.ran
+    (YieldsList-from_slice c.entries_of.result.now cc) (λ x b q k. search (rules, tests)))

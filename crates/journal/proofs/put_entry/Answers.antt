@@ -8,7 +8,7 @@ use Rattle.journal.proofs.put_entry.Goals as goal
 
 pub returns-then-end-journal : goal.returns-then-end-journal
 returns-then-end-journal c =
-    put_copied _ _ _ _ _ _ c.wide-at.ensures.0 (omega arith) (search rules) c.bytes_of-b.ensures (copied_whole _ _ c.copy.ensures (search rules))
+    put_copied _ _ _ _ _ _ c.from-at.ensures (omega arith) (search rules) c.bytes_of.ensures (copied_whole _ _ c.copy.ensures (search rules))
 
 pub returns-else-end-journal : goal.returns-else-end-journal
 returns-else-end-journal c = sym (put_short _ _ _ (omega arith))

@@ -7,7 +7,7 @@ use Rattle.journal.proofs.set_byte.Goals as goal
 
 pub returns-then-at-journal : goal.returns-then-at-journal
 unfolding set_byte
-returns-then-at-journal c = rw c.wide.ensures.0
+returns-then-at-journal c = rw (c.from.ensures, c.from-2.ensures)
 
 pub returns-else-at-journal : goal.returns-else-at-journal
 unfolding set_byte

@@ -1,7 +1,6 @@
 -- `masking::put_symbols` meets its contract.
 use Rattle.masking.specs.Masking.{digits_text}
 use Rattle.digits.proofs.Lists.{filled_none, filled_more, filled-done}
-use Prim.Native.Nat.{◌-◌}
 use borrow.Author.Rules.{rules}
 use Rattle.masking.proofs.put_symbols.Goals as goal
 

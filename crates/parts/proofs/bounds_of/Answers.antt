@@ -1,31 +1,21 @@
 -- `parts::bounds_of` meets its contract.
-use mathlib.Core.Path.{sym, ◌∙◌}
-use native.Mathlib.Omega.{arith}
+use Rattle.std.proofs.Common.{arith, sym, ◌∙◌}
+use Rattle.std.proofs.Math.Nat.{min_comm}
 use Rattle.message.proofs.Standing.{standing}
-use Rattle.parts.proofs.Places.{found_end, bounded_found, bounded_missing, bounded_in}
+use Rattle.parts.proofs.Places.{found_end, bounded_found, bounded_missing}
 use Rattle.parts.proofs.bounds_of.Goals as goal
 
-pub bounds-counts-row : goal.bounds-counts-row
-bounds-counts-row c =
-    omega (arith, standing _ (sym c.locate.ensures ∙ c.in-Found.is))
+pub held_in-held-requires : goal.held_in-held-requires
+held_in-held-requires c = (standing _ (sym c.locate.ensures ∙ c.in-Some.is)).row_below
 
 pub overflow_add-end : goal.overflow_add-end
 overflow_add-end c =
-    let e = sym c.locate.ensures ∙ c.in-Found.is in
-    omega (arith, found_end _ e c.wide-count.ensures.0 c.wide-count.ensures.1 c.size_of.ensures)
+    omega (arith, found_end _ (sym c.locate.ensures ∙ c.in-Some.is) c.held_in-held.ensures c.held_in-held.type_inv (rw c.held_in-held.ensures at c.size_of.ensures))
 
-pub returns-then-end-gt-ROOM : goal.returns-then-end-gt-ROOM
-returns-then-end-gt-ROOM c =
-    let e = sym c.locate.ensures ∙ c.in-Found.is in
-    bounded_in (λ bs l. bounded_found _ _ e c.wide-count.ensures.0 c.wide-count.ensures.1 l
-    c.size_of.ensures (omega arith))
+pub returns-in-Some : goal.returns-in-Some
+returns-in-Some c =
+    bounded_found _ _ (sym c.locate.ensures ∙ c.in-Some.is) (c.from.ensures ∙ c.held_in-held.ensures) (rw c.from.ensures c.held_in-held.type_inv)
+    (rw c.held_in-held.ensures at c.size_of.ensures) (c.min.ensures ∙ min_comm _ _)
 
-pub returns-else-end-gt-ROOM : goal.returns-else-end-gt-ROOM
-returns-else-end-gt-ROOM c =
-    let e = sym c.locate.ensures ∙ c.in-Found.is in
-    bounded_in (λ bs l. bounded_found _ _ e c.wide-count.ensures.0 c.wide-count.ensures.1 l
-    c.size_of.ensures (omega arith))
-
-pub returns-in-Missing : goal.returns-in-Missing
-returns-in-Missing c =
-    bounded_in (λ bs l. bounded_missing _ _ (sym c.locate.ensures ∙ c.in-Missing.is))
+pub returns-in-None : goal.returns-in-None
+returns-in-None c = bounded_missing _ _ (sym c.locate.ensures ∙ c.in-None.is)

@@ -3,12 +3,12 @@ use native.Mathlib.Omega.{arith}
 use Rattle.parts.proofs.Laid.{part-short, part_put}
 use Rattle.parts.proofs.put_part.Goals as goal
 
-pub returns-then-ds-from : goal.returns-then-ds-from
-returns-then-ds-from c =
+pub returns-then-ds-at : goal.returns-then-ds-at
+returns-then-ds-at c =
     part-short c.args.p c.args.x c.args.ds.now c.place_of-at.ensures (omega arith)
 
-pub returns-then-ds-from-2 : goal.returns-then-ds-from-2
-returns-then-ds-from-2 c =
+pub returns-then-ds-at-2 : goal.returns-then-ds-at-2
+returns-then-ds-at-2 c =
     part-short c.args.p c.args.x c.args.ds.now c.place_of-at.ensures (omega arith)
 
 pub returns : goal.returns

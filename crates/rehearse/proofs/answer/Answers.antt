@@ -1,5 +1,5 @@
 -- `rehearse::answer` meets its contract.
-use Rattle.std.proofs.Common.{sym, ap, ◌∙◌, [], length}
+use Rattle.std.proofs.Common.{sym, ◌∙◌, []}
 use Rattle.texts.proofs.Texts.{start}
 use Rattle.rehearse.proofs.Scripts.{answered-long, answered-none, answered_words}
 use Rattle.rehearse.proofs.answer.Goals as goal
@@ -8,11 +8,13 @@ pub returns-then-is_too_long : goal.returns-then-is_too_long
 returns-then-is_too_long c =
     answered-long _ _ _ _ (sym c.is_too_long.ensures ∙ c.if-is_too_long.true) (c.add_error.ensures [] (start _))
 
-pub returns-then-words-eq0 : goal.returns-then-words-eq0
-returns-then-words-eq0 c =
-    answered-none _ _ _ _ _ (sym c.is_too_long.ensures ∙ c.if-is_too_long.false) (sym (ap length c.words_of-words.ensures) ∙ c.if-words-eq0.true)
+pub returns-then-is_empty : goal.returns-then-is_empty
+returns-then-is_empty c =
+    answered-none _ _ _ _ _ (sym c.is_too_long.ensures ∙ c.if-is_too_long.false)
+    (rw c.words_of-words.ensures at (sym c.is_empty.ensures ∙ c.if-is_empty.true))
 
 pub returns : goal.returns
 returns c =
-    answered_words _ _ _ _ (sym c.is_too_long.ensures ∙ c.if-is_too_long.false) (λ z. c.if-words-eq0.false (ap length c.words_of-words.ensures ∙ z))
+    answered_words _ _ _ _ (sym c.is_too_long.ensures ∙ c.if-is_too_long.false)
+    (rw c.words_of-words.ensures at (sym c.is_empty.ensures ∙ c.if-is_empty.false))
     (rw c.words_of-words.ensures at c.act.ensures)

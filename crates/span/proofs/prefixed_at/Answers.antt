@@ -1,7 +1,6 @@
 -- `span::prefixed_at` meets its contract.
-use mathlib.Core.Path.{sym, ◌∙◌}
+use Rattle.std.proofs.Common.{sym, ◌∙◌}
 use borrow.Author.Tests.{lt-ltb, le-ltb}
-use lib.Seq.{length-take-le}
 use Rattle.digits.proofs.Lists.{tail_part}
 use Rattle.span.specs.Span.{frame_at}
 use Rattle.span.proofs.prefixed_at.Goals as goal
@@ -9,13 +8,6 @@ use Rattle.span.proofs.prefixed_at.Goals as goal
 pub returns-then-s-skip : goal.returns-then-s-skip
 unfolding frame_at
 returns-then-s-skip c = rw (← c.skip_of-skip.ensures, lt-ltb _ _ c.if-s-skip.true)
-
-pub slice_bounds-is_packed-end : goal.slice_bounds-is_packed-end
-slice_bounds-is_packed-end c = sym (length-take-le _ _ c.if-s-skip.false)
-
-pub slice_bounds-count_in-end : goal.slice_bounds-count_in-end
-slice_bounds-count_in-end c =
-    sym (length-take-le _ _ c.if-s-skip.false)
 
 pub returns-then-is_packed : goal.returns-then-is_packed
 unfolding frame_at

@@ -1,13 +1,11 @@
--- `are_apart` meets its contract: the entries passed have other traces than those after them.
-use mathlib.Core.Path.{◌≡◌}
-use Prim.Native.Nat.{◌*◌, ◌-◌}
-use Rattle.entry.specs.Entry.{entry_size}
-use Rattle.journal.specs.Journal.{entries_of}
-use Rattle.traces.proofs.Compared.{Compared}
+-- `are_apart`: the entries passed have other traces than those after them.
+use Rattle.std.proofs.Common.{◌≡◌, map, length}
+use Rattle.entry.specs.Entry.{decode}
+use Rattle.journal.specs.Journal.{distinct}
 use Rattle.traces.proofs.are_apart.Given as goal
 
-abbrev pub invariant-loop-i : goal.invariant-loop-i
-invariant-loop-i l = (l.at ≡ entry_size * l.i) × Compared (entries_of l.n l.journal) l.i
+abbrev pub invariant-loop-b : goal.invariant-loop-b
+invariant-loop-b l = distinct (map decode l.entries) ≡ distinct (map decode l.left)
 
-abbrev pub decreases-loop-i : goal.decreases-loop-i
-decreases-loop-i l = l.count - l.i
+abbrev pub decreases-loop-b : goal.decreases-loop-b
+decreases-loop-b l = length l.left

@@ -1,14 +1,8 @@
--- `are_few_apart` meets its contract: the traces passed are noted, and differ.
-use mathlib.Core.Path.{◌≡◌}
-use Prim.Native.Nat.{◌-◌}
-use lib.ListN.{length}
-use Rattle.numbers.specs.Limits.{most_entries}
-use Rattle.journal.specs.Journal.{entries_of}
+-- `are_few_apart`: the traces passed are noted, and differ.
+use Rattle.std.proofs.Common.{map}
+use Rattle.entry.specs.Entry.{decode}
 use Rattle.traces.proofs.Noted.{Noted}
 use Rattle.traces.proofs.are_few_apart.Given as goal
 
 abbrev pub invariant-loop-i : goal.invariant-loop-i
-invariant-loop-i l = (length l.seen ≡ most_entries) × Noted (entries_of l.n l.journal) l.i l.seen
-
-abbrev pub decreases-loop-i : goal.decreases-loop-i
-decreases-loop-i l = l.count - l.i
+invariant-loop-i l = Noted (map decode l.entries) l.i l.seen

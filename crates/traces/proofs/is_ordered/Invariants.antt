@@ -1,11 +1,8 @@
--- `is_ordered` meets its contract: the entries passed stand in order.
-use Prim.Native.Nat.{◌-◌}
-use Rattle.journal.specs.Journal.{entries_of}
-use Rattle.traces.proofs.Ordered.{Rising}
+-- `is_ordered`: the entries passed stand in order.
+use Rattle.std.proofs.Common.{◌≡◌, map, drop}
+use Rattle.entry.specs.Entry.{decode}
+use Rattle.traces.specs.Traces.{ordered, rising}
 use Rattle.traces.proofs.is_ordered.Given as goal
 
-abbrev pub invariant-loop-i : goal.invariant-loop-i
-invariant-loop-i l = Rising (entries_of l.n l.journal) l.first l.wrapped l.last l.i
-
-abbrev pub decreases-loop-i : goal.decreases-loop-i
-decreases-loop-i l = l.count - l.i
+abbrev pub invariant-loop-b : goal.invariant-loop-b
+invariant-loop-b l = ordered (map decode l.entries) ≡ rising l.first l.wrapped l.last (map decode (drop l.b-index l.rest))

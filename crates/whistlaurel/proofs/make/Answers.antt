@@ -1,25 +1,19 @@
 -- `whistlaurel::make` meets its contract.
-use borrow.Author.Tests.{not-true, not-false}
-use mathlib.Core.Path.{ap, sym, ◌∙◌}
 use Rattle.state.specs.Calls.{lend}
-use Rattle.image_definitions.specs.declared.Reading.{Reading}
-use Rattle.image_definitions.proofs.Found.{accepted-length}
 use Rattle.call_definitions.specs.Events.{event_of}
-use Rattle.interface_definitions.proofs.Leaves.{not_called, called}
+use Rattle.interface_definitions.proofs.Leaves.{image_long, not_called, called}
 use Rattle.whistlaurel.proofs.make.Goals as goal
 
-pub returns-then-not-held : goal.returns-then-not-held
-returns-then-not-held c =
-    not_called c.args.image.now c.read-held.ensures (event_of c.args.call c.args.desk c.args.bytes.now)
-    (lend c.args.journal.now c.args.message.now) (not-true _ c.if-not-held.true)
-
 pub put_image-requires : goal.put_image-requires
-put_image-requires c =
-    accepted-length _ (sym (ap (λ (x : Reading). x.accepted) c.read-held.ensures) ∙ (not-false _ c.if-not-held.false))
+put_image-requires c = image_long _ c.read.ensures c.in-Some.is
 
-pub returns : goal.returns
-returns c =
+pub returns-in-None : goal.returns-in-None
+returns-in-None c =
+    rw c.into.ensures (not_called c.args.image.now c.read.ensures (event_of c.args.call c.args.desk c.args.bytes.now)
+    (lend c.args.journal.now c.args.message.now) c.in-None.is)
+
+pub returns-in-Some : goal.returns-in-Some
+returns-in-Some c =
     rw (c.number_of.ensures, c.length_of.ensures, c.put_image.ensures)
-    (called c.args.image.now c.read-held.ensures (event_of c.args.call c.args.desk c.args.bytes.now)
-    (lend c.args.journal.now c.args.message.now)
-    (not-false _ c.if-not-held.false) c.make-step.ensures)
+    (called c.args.image.now c.read.ensures (event_of c.args.call c.args.desk c.args.bytes.now)
+    (lend c.args.journal.now c.args.message.now) c.in-Some.is c.make-step.ensures)

@@ -1,12 +1,9 @@
 -- `whistlaurel::whistlaurel_totals` meets its contract.
-use borrow.Author.Tests.{not-true, not-false}
 use Rattle.interface_definitions.proofs.Leaves.{no_totals, totals-read}
 use Rattle.whistlaurel.proofs.whistlaurel_totals.Goals as goal
 
-pub returns-then-not-held : goal.returns-then-not-held
-returns-then-not-held c =
-    no_totals _ c.read-held.ensures _ (not-true _ c.if-not-held.true)
+pub returns-in-None : goal.returns-in-None
+returns-in-None c = rw c.into.ensures (no_totals _ c.read.ensures _ c.in-None.is)
 
-pub returns : goal.returns
-returns c =
-    totals-read _ c.read-held.ensures _ (not-false _ c.if-not-held.false)
+pub returns-in-Some : goal.returns-in-Some
+returns-in-Some c = totals-read _ c.read.ensures _ c.in-Some.is

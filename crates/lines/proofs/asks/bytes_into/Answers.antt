@@ -1,5 +1,4 @@
 -- `lines::asks::bytes_into` meets its contract.
-use borrow.Enum.Refused.{opened}
 use Rattle.lines.proofs.Laws.{hex_fits, hex_bytes, no_bytes, put_fits, put_front}
 use native.Mathlib.Omega.{arith}
 use Rattle.lines.proofs.asks.bytes_into.Goals as goal
@@ -7,10 +6,10 @@ use Rattle.lines.proofs.asks.bytes_into.Goals as goal
 pub returns-in-Call : goal.returns-in-Call
 returns-in-Call c =
     rw c.in-Call.is (
-      hex_fits c.word.result.now c.args.out.now c.hex_into.ensures.0 c.hex_into.ensures.1 c.hex_length.ensures,
+      hex_fits c.word.result.now c.args.out.now c.hex_into.ensures.0 c.hex_into.ensures.1 c.unwrap_or.ensures,
       λ room. rw c.word.ensures at
           (hex_bytes c.word.result.now c.args.out.now c.hex_into.ensures.0 c.hex_into.ensures.1
-          c.hex_length.ensures room),
+          c.unwrap_or.ensures room),
     )
 
 pub returns-in-Reply : goal.returns-in-Reply
@@ -31,4 +30,4 @@ returns-in-Reconcile c =
 
 pub returns-in_default : goal.returns-in_default
 returns-in_default c =
-    (omega arith, λ room. no_bytes c.args.command c.args.s.now c.args.sent c.args.date c.args.batch (opened c.in_default.in_default-own.keys4))
+    (omega arith, λ room. no_bytes _ _ _ _ _ c.in_default.not-Call c.in_default.not-Reply c.in_default.not-Reconcile)

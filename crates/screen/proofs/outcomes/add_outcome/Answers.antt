@@ -15,4 +15,4 @@ returns-in-Quiet c =
 pub returns-in-Refused : goal.returns-in-Refused
 unfolding reason
 returns-in-Refused c =
-    rw c.in-Refused.is (adds-is (refused-filled _ _) (rw c.row.ensures at c.add_filled-in-Refused.ensures))
+    rw c.in-Refused.is (adds-is (refused-filled _ _) (rw (c.from.ensures, c.row.ensures, c.from-in-Refused.ensures) at c.add_filled-in-Refused.ensures))

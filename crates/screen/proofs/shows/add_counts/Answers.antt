@@ -6,5 +6,12 @@ use Rattle.screen.proofs.shows.add_counts.Goals as goal
 
 pub returns : goal.returns
 returns c =
-    adds-is (counts-filled c.args.c (waiting c.args.phase)) (rw c.waiting_in.ensures.0 at
-    c.add_filled.ensures)
+    adds-is (counts-filled c.args.c (waiting c.args.phase)) (rw (
+      c.from.ensures,
+      c.from-2.ensures,
+      c.from-3.ensures,
+      c.from-4.ensures,
+      c.from-5.ensures,
+      c.from-6.ensures,
+      c.waiting_in.ensures.0,
+    ) at c.add_filled.ensures)

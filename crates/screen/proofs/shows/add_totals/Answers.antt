@@ -4,5 +4,4 @@ use Rattle.screen.proofs.Lines.{totals-filled}
 use Rattle.screen.proofs.shows.add_totals.Goals as goal
 
 pub returns : goal.returns
-returns c =
-    adds-is (totals-filled c.args.t) c.add_filled.ensures
+returns c = adds-is (totals-filled c.args.t) (rw (c.from.ensures, c.from-2.ensures) at c.add_filled.ensures)

@@ -1,18 +1,13 @@
 -- `words::scan::find` meets its contract.
-use Rattle.std.proofs.Common.{◌≡◌, sym, length, arith, below_more}
-use Rattle.words.proofs.Places.{without_none, index_of-here, index_of-none}
+use Rattle.std.proofs.Common.{eqb, rules}
+use Rattle.std.proofs.lemmas.Iterator.{YieldsList-from_slice}
+use Rattle.std.proofs.lemmas.Iterator.Search.{position_from_yields_List}
+use borrow.Author.Tests.{tests}
+use Rattle.words.proofs.Places.{index_of-found}
 use Rattle.words.proofs.scan.find.Goals as goal
-
-pub loop-i-init : goal.loop-i-init
-loop-i-init c = (omega arith, without_none _ _)
-
-pub loop-i-preserved : goal.loop-i-preserved
-loop-i-preserved c = (omega arith, record { passed = below_more _ _ c.loop-i.invariant.1.passed c.if-s-i.false })
-
-pub returns-then-s-i : goal.returns-then-s-i
-returns-then-s-i c = (sym (index_of-here _ _ _ c.loop-i-test.true c.if-s-i.true c.loop-i.invariant.1), omega arith)
 
 pub returns : goal.returns
 returns c =
-    let e : c.loop-i.i ≡ length c.args.s.now = omega arith in
-    (sym (index_of-none _ _ (rw e at c.loop-i.invariant.1)), omega arith)
+    rw c.unwrap_or.ensures
+    (index_of-found c.args.b c.args.s.now c.position.result
+    (position_from_yields_List (λ x. eqb x c.args.b) _ _ _ c.position.ensures.ran (YieldsList-from_slice c.args.s.now cc) (λ x b q k. search (rules, tests))))

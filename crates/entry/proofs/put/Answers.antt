@@ -1,9 +1,0 @@
--- `put` meets its contract.
-use Rattle.digits.proofs.Copies.{copied_whole}
-use borrow.Author.Rules.{rules}
-use Rattle.entry.proofs.Bytes.{put_is}
-use Rattle.entry.proofs.put.Goals as goal
-
-pub returns : goal.returns
-returns c =
-    put_is c.args.at c.args.s.now c.args.b (search rules) (copied_whole _ _ c.copy.ensures (search rules))

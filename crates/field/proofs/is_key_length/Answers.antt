@@ -1,6 +1,0 @@
--- `field::is_key_length` meets its contract.
-use mathlib.Core.Bool.{or-false}
-use Rattle.field.proofs.is_key_length.Goals as goal
-
-pub returns : goal.returns
-returns c = rw or-false

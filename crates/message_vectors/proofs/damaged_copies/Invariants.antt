@@ -1,9 +1,0 @@
--- `message_vectors::damaged_copies` meets its contract.
-use Rattle.std.proofs.Common.{◌-◌, ◌≤◌, length}
-use Rattle.message_vectors.proofs.damaged_copies.Given as goal
-
-abbrev pub invariant-loop-i : goal.invariant-loop-i
-invariant-loop-i l = l.i ≤ length l.s
-
-abbrev pub decreases-loop-i : goal.decreases-loop-i
-decreases-loop-i l = length l.s - l.i

@@ -1,4 +1,0 @@
-use Rattle.numbers.proofs.Trace.following.Goals as goal
-
-pub returns : goal.returns
-returns c = rw c.after.ensures
