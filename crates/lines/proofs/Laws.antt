@@ -1,5 +1,5 @@
 -- Laws of a line that makes no call, and of the bytes of a call.
-use Rattle.std.specs.Prelude.{Ok, Err, Result, Some, None, Option, is_some}
+use Rattle.std.specs.Prelude.{Ok, Err, Result}
 use Rattle.std.specs.Result.{result_unwrap_or}
 use mathlib.Core.Path.{◌≡◌, refl, sym, ap, subst, ◌∙◌}
 use mathlib.Core.List.{List, [], ◌++◌, append_assoc}
@@ -9,6 +9,7 @@ use native.Mathlib.Omega.{arith}
 use lib.Dec.{leb, ltb, eqb}
 use lib.ListN.{length, take, drop, replicate, length-append}
 use lib.Seq.{take_at}
+use borrow.Author.Tests.{eq-eqb, ne_eqb}
 use Rattle.checks.specs.declared.Refusal.{Refusal}
 use Rattle.reading.specs.Reading.{read_message, reading_of}
 use Rattle.message.specs.Message.{largest, empty}
@@ -38,7 +39,7 @@ use Rattle.stage.specs.declared.Rehearsal.{Rehearsal}
 use Rattle.calls.specs.declared.Call.{Call}
 use Rattle.lines.specs.declared.asks.Unobeyed.{Unobeyed}
 use Rattle.lines.specs.declared.asks.Unobeyed.TheVariants.{NoTerminal, NothingLeft, SettlementLeft, NoSettlement, NoCardRequest}
-use Rattle.lines.specs.Asked.{number_of, number_in}
+use Rattle.lines.specs.Asked.{number_of}
 use Rattle.lines.specs.Asked as asked
 use Rattle.lines.specs.Asks.{error_after, call_or, changed_after, bytes_of, bytes_in, changed_by, call_bytes}
 use Rattle.lines.specs.Shows.{message_in, fields_text, fault_text, errors, said_by, said}
@@ -112,22 +113,14 @@ there true n z q = q
 there false n z q = omega (arith, z)
 
 -- a line that is obeyed, and one that is not, change a rehearsal
-module _ (u : Option Unobeyed) (k : Command) (x : Settings) (r : Rehearsal) where
-  pub stays : is_some u ≡ true → r ≡ changed_after (number_in u) k x r
+module _ (error : ℕ) (k : Command) (x : Settings) (r : Rehearsal) where
+  pub stays : (error ≡ 0 → ⊥) → r ≡ changed_after error k x r
   unfolding changed_after
-  stays h = go u h
-    where
-      go : (u : Option Unobeyed) → is_some u ≡ true → r ≡ changed_after (number_in u) k x r
-      go (Some e) h = rw (apart e) refl
-      go None h = absurd (true≢false (sym h))
+  stays z = rw (ne_eqb error 0 z) refl
 
-  pub changes : {y : Command} {q : Rehearsal} → is_some u ≡ false → k ≡ y → q ≡ changed_by y x r → q ≡ changed_after (number_in u) k x r
+  pub changes : {y : Command} {q : Rehearsal} → error ≡ 0 → k ≡ y → q ≡ changed_by y x r → q ≡ changed_after error k x r
   unfolding changed_after
-  changes {y} {q} h e p = go u h
-    where
-      go : (u : Option Unobeyed) → is_some u ≡ false → q ≡ changed_after (number_in u) k x r
-      go (Some e) h = absurd (true≢false h)
-      go None h = p ∙ ap (λ (z : Command). changed_by z x r) (sym e)
+  changes z e p = rw (eq-eqb error 0 z) (p ∙ ap (λ (y : Command). changed_by y x r) (sym e))
 
 -- what a command is where no pattern has matched it
 pub changes_nothing : (k : Command) (x : Settings) (r : Rehearsal) → (k ≡ Terminal → ⊥) → ((d : ℕ) → k ≡ Date d → ⊥)
@@ -168,21 +161,20 @@ says_nothing (Shows y) number r lent a b = absurd (a y refl)
 says_nothing (Wrong f) number r lent a b = absurd (b f refl)
 
 -- what is said of an error, of a command y, and of one that says nothing
-module _ {u : Option Unobeyed} (number : ℕ) (k : Command) (r : Rehearsal) (lent : Lent) {n : ℕ} {o : List ℕ} where
-  pub says_error : (e : Unobeyed) → u ≡ Some e → Text (error_line number (row (number_of e) errors)) n o
-      → Text (said (number_in u) number k r lent) n o
+module _ (error number : ℕ) (k : Command) (r : Rehearsal) (lent : Lent) {n : ℕ} {o : List ℕ} where
+  pub says_error : (error ≡ 0 → ⊥) → Text (error_line number (row error errors)) n o → Text (said error number k r lent) n o
   unfolding said
-  says_error e q t = rw (q, apart e) t
+  says_error z t = rw (ne_eqb error 0 z) t
 
-  pub says : {y : Command} → u ≡ None → k ≡ y → Text (said_by y number r lent) n o → Text (said (number_in u) number k r lent) n o
+  pub says : {y : Command} → error ≡ 0 → k ≡ y → Text (said_by y number r lent) n o → Text (said error number k r lent) n o
   unfolding said
-  says q e t = rw q (subst (λ (x : Command). Text (said_by x number r lent) n o) (sym e) t)
+  says z e t = rw (eq-eqb error 0 z) (subst (λ (x : Command). Text (said_by x number r lent) n o) (sym e) t)
 
-pub keeps_silent : {u : Option Unobeyed} (number : ℕ) (k : Command) (r : Rehearsal) (lent : Lent) (o : List ℕ) → u ≡ None
-    → ((x : Show) → k ≡ Shows x → ⊥) → ((f : Fault) → k ≡ Wrong f → ⊥) → Text (said (number_in u) number k r lent) 0 o
+pub keeps_silent : (error number : ℕ) (k : Command) (r : Rehearsal) (lent : Lent) (o : List ℕ) → error ≡ 0
+    → ((x : Show) → k ≡ Shows x → ⊥) → ((f : Fault) → k ≡ Wrong f → ⊥) → Text (said error number k r lent) 0 o
 unfolding said
-keeps_silent number k r lent o q a b =
-    rw q (subst (λ (w : List ℕ). Text w 0 o) (sym (says_nothing k number r lent a b)) (start o))
+keeps_silent error number k r lent o z a b =
+    rw (eq-eqb error 0 z) (subst (λ (w : List ℕ). Text w 0 o) (sym (says_nothing k number r lent a b)) (start o))
 
 -- word k is wrong, in three pieces after `error line` and the number
 pub word_line : (p d : List ℕ)

@@ -47,16 +47,25 @@ pub fn asked_by(command: Command, begun: bool, left: Left) -> Result<Option<Call
     }
 }
 
-// The rehearsal after a line that makes no call; a line that is not obeyed changes nothing.
-pub fn changed(
-    unobeyed: Option<Unobeyed>,
-    command: Command,
-    settings: Settings,
-    r: Rehearsal,
-) -> Rehearsal
-    ensures { result ≡ changed_after (number_in unobeyed) command settings r }
+// The number of why a line is not obeyed, 0 where it is.
+pub fn error_of(unobeyed: Option<Unobeyed>) -> usize
+    ensures { result ≡ number_in unobeyed }
 {
-    if unobeyed.is_some() {
+    match unobeyed {
+        None => 0,
+        Some(Unobeyed::NoTerminal) => 1,
+        Some(Unobeyed::NothingLeft) => 2,
+        Some(Unobeyed::SettlementLeft) => 3,
+        Some(Unobeyed::NoSettlement) => 4,
+        Some(Unobeyed::NoCardRequest) => 5,
+    }
+}
+
+// The rehearsal after a line that makes no call; an error changes nothing. A number, as in `say`, since each has a meaning in the definitions.
+pub fn changed(error: usize, command: Command, settings: Settings, r: Rehearsal) -> Rehearsal
+    ensures { result ≡ changed_after error command settings r }
+{
+    if error != 0 {
         return r;
     }
     match command {

@@ -4,5 +4,5 @@
 mod asks;
 mod shows;
 
-pub use asks::{Unobeyed, asked_by, bytes_into, changed};
+pub use asks::{Unobeyed, asked_by, bytes_into, changed, error_of};
 pub use shows::{last_message, say};

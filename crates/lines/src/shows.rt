@@ -4,15 +4,21 @@ ghost use Rattle.state.specs.Calls.{lend};
 ghost use Rattle.texts.specs.Text.{Text};
 ghost use Rattle.grammar.specs.declared.Fault.TheVariants.{Word};
 ghost use Rattle.screen.specs.Outcomes.{error_line};
-ghost use Rattle.words.specs.Rows.{row};
-ghost use Rattle.lines.specs.Asked.{number_of, number_in};
-ghost use Rattle.lines.specs.Shows.{last, message_in, fields_text, shown, fault_text, errors, said};
+ghost use Rattle.lines.specs.Shows.{last, message_in, fields_text, shown, fault_text, said};
 
-use super::asks::Unobeyed;
 use grammar::Fault;
 use message::Message;
 use script::{Command, Show};
 use stage::Rehearsal;
+
+// Why a line that is understood is not obeyed: row k is error k, and 0 is none.
+const ERRORS: [u8; 126] = *b"
+no terminal
+nothing to answer
+a settlement left last: reconcile answers it
+no settlement left last
+no card request left last
+";
 
 // The last message that left.
 #[tactic(auto, using(crate::proofs::Laws::message_read))]
@@ -24,7 +30,7 @@ pub fn last_message(r: Rehearsal, message: &[u8]) -> Message
 
 // Writes why a line is not obeyed, what it shows or what is wrong with it.
 pub fn say(
-    unobeyed: Option<Unobeyed>,
+    error: usize,
     number: u64,
     command: Command,
     r: Rehearsal,
@@ -32,28 +38,15 @@ pub fn say(
     message: &[u8],
     out: &mut [u8],
 ) -> usize
-    ensures { Text (said (number_in unobeyed) number command r (lend journal.now message.now)) result out.new }
+    ensures { Text (said error number command r (lend journal.now message.now)) result out.new }
 {
-    if let Some(e) = unobeyed {
-        return screen::add_error(number, reason(e), 0, out);
+    if error != 0 {
+        return screen::add_error(number, words::row(&ERRORS, error), 0, out);
     }
     match command {
         Command::Show(x) => show(x, r, journal, message, out),
         Command::Wrong(f) => add_fault(number, f, out),
         _ => 0,
-    }
-}
-
-// Why a line is not obeyed.
-fn reason(e: Unobeyed) -> &'static [u8]
-    ensures { result.now ≡ row (number_of e) errors }
-{
-    match e {
-        Unobeyed::NoTerminal => b"no terminal",
-        Unobeyed::NothingLeft => b"nothing to answer",
-        Unobeyed::SettlementLeft => b"a settlement left last: reconcile answers it",
-        Unobeyed::NoSettlement => b"no settlement left last",
-        Unobeyed::NoCardRequest => b"no card request left last",
     }
 }
 

@@ -22,7 +22,7 @@ use Rattle.stage.specs.Stage.{after_call}
 use Rattle.lines.specs.Asks.{reply_error, reconcile_error, error_after, call_or, asked_by, changed_after, call_bytes}
 use Rattle.lines.specs.Shows.{last, message_in, errors, said}
 use Rattle.lines.specs.declared.asks.Unobeyed.{Unobeyed}
-use Rattle.lines.specs.Asked.{Asked, number_in, asked_as}
+use Rattle.lines.specs.Asked.{Asked, asked_as}
 use Rattle.lines.specs.Asked as asked
 use Rattle.rehearse.specs.declared.commands.Acted.{Acted}
 use Rattle.rehearse.specs.Rehearsal.{Done, Did, writes, resulted, called}
@@ -107,8 +107,7 @@ module _ (number : ℕ) (s : List ℕ) (r : Rehearsal) (lent : Lent) where
           ∙ sym (is-done ∙ ap (λ (z : Attempt (Option Call) Unobeyed). done_as (asked_as z) line.command line) g))
           u
 
-      pub no_call-done : (u : Option Unobeyed) → asked_as a ≡ asked.Error (number_in u)
-          → d.rehearsal ≡ changed_after (number_in u) line.command line.settings r
-          → Text (said (number_in u) number line.command r lent) d.written o → Did (done number s r lent) d lent o
+      pub no_call-done : (n : ℕ) → asked_as a ≡ asked.Error n → d.rehearsal ≡ changed_after n line.command line.settings r
+          → Text (said n number line.command r lent) d.written o → Did (done number s r lent) d lent o
       no_call-done x g u v =
           subst (λ (z : Done). Did z d lent o) (sym (is-done ∙ ap (λ (z : Asked). done_as z line.command line) g)) (wrote lent u v)

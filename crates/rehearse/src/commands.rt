@@ -42,10 +42,10 @@ pub fn act(
             told(step, r, message, out)
         }
         Ok(None) | Err(_) => {
-            let unobeyed = asked.err();
+            let error = lines::error_of(asked.err());
             Acted {
-                rehearsal: lines::changed(unobeyed, command, line.settings, r),
-                written: lines::say(unobeyed, number, command, r, journal, message, out),
+                rehearsal: lines::changed(error, command, line.settings, r),
+                written: lines::say(error, number, command, r, journal, message, out),
             }
         }
     }

@@ -20,4 +20,4 @@ pub returns-in-Ok-None : goal.returns-in-Ok-None
 returns-in-Ok-None c =
     no_call-done c.args.number c.args.s.now c.args.r (lend c.args.journal.now c.args.message.now) _
     c.parse-line.ensures c.last_message-sent.ensures c.left_as.ensures c.asked_by-asked.ensures _
-    (rw c.err-unobeyed.ensures.value (search rules)) c.changed.ensures c.say.ensures
+    (rw (c.error_of-error.ensures, c.err.ensures.value) (search rules)) c.changed.ensures c.say.ensures
