@@ -15,7 +15,7 @@ use Rattle.numbers.specs.Numbers.{within}
 use Rattle.digits.specs.Digits.{half, bytes_for, unpack, packed_byte, pack, half_allowed, is_packed, all_digits, packable}
 use Rattle.digits.specs.Numbers.{value, digits_of, number_of}
 use Rattle.digits.proofs.Lists.{get_d_past, all_true}
-use Rattle.digits.proofs.Packing.{length-pack, length-unpack, get_d_pack, digit_at, digits-all, packed-pack, packed-length}
+use Rattle.digits.proofs.Packing.{length-pack, length-unpack, get_d_pack, get_d_unpack, digit_at, digits-all, half-pack, packed-pack, packed-length}
 use Rattle.digits.proofs.Numbers.{value-below, length_digits_of, digits_of_digits}
 use Rattle.digits.specs.Packed.{numeral}
 use Rattle.field.specs.Bitmap.{names}
@@ -161,6 +161,16 @@ module _ (c : Card) where
   card_byte j h =
       get_d_pack (filled_digits c) j (rw length-filled (omega arith))
       ∙ rw (filled_at c (2 * j) (omega arith), filled_at c (2 * j + 1) (omega arith))
+
+  -- the digits of a card
+  pub card-digits : c.length ≤ 20 → unpack c.length (zero_filled c) ≡ digits_of c.length c.number
+  unfolding zero_filled
+  card-digits h =
+      ext_get_or 0 _ _ (length-unpack c.length (zero_filled c) ∙ sym (length_digits_of c.length c.number))
+      (λ i k. let b : i < c.length = omega (arith, length-unpack c.length (zero_filled c)) in
+      get_d_unpack c.length (zero_filled c) i b
+      ∙ half-pack (filled_digits c) (filled_digits_lem c) i (omega (arith, length-filled c))
+      ∙ filled_at c i (omega arith))
 
   -- its first bytes are its digits, packed, and the others are zeros
   pub card-front : c.length ≤ 20 → take (bytes_for c.length) (zero_filled c) ≡ pack (digits_of c.length c.number)
